@@ -1,0 +1,28 @@
+-- The search for the first place, one step on. Assumes nothing.
+use mathlib.Core.Path.{_≡_, refl, sym, ap, _∙_}
+use mathlib.Core.Bool.{Bool, true, false, cond}
+use mathlib.Core.List.{List, [], _∷_}
+use Prim.Native.Nat.{ℕ, zero, suc, _<_, _≤_, _+_}
+use native.Mathlib.Numerals.{add-one}
+use lib.IntN.{ℤ, pos}
+use lib.ListN.{length, drop, drop-of-length-le}
+use lib.Seq.{drop-cons}
+use Rattle.algebra.specs.Lists.{at}
+use Rattle.algebra.specs.First.{firstAt}
+
+module _ (p : ℕ → ℤ → Bool) (l : List ℤ) (k : ℕ) (h : k < length l) where
+  unfolded : firstAt p k (drop k l) ≡ cond (p k (at l k)) k (firstAt p (suc k) (drop (suc k) l))
+  unfolding firstAt
+  unfolded = rw (drop-cons l k (pos 0))
+
+  -- a place that fails the test is left behind
+  pub first-on : p k (at l k) ≡ false → firstAt p k (drop k l) ≡ firstAt p (k + 1) (drop (k + 1) l)
+  first-on e = rw (add-one, unfolded, e)
+
+  -- the first that passes it is the answer
+  pub first-here : p k (at l k) ≡ true → firstAt p k (drop k l) ≡ k
+  first-here e = rw (unfolded, e)
+
+pub first-none : (p : ℕ → ℤ → Bool) (l : List ℤ) (k : ℕ) → length l ≤ k → firstAt p k (drop k l) ≡ k
+unfolding firstAt
+first-none p l k h = rw (drop-of-length-le l h)

@@ -1,0 +1,12 @@
+pub mod Ring
+pub mod Normal
+pub mod Order
+pub mod Word
+pub mod Machine
+pub mod Sum
+pub mod Shift
+pub mod Clip
+pub mod Table
+pub mod Lists
+pub mod First
+pub mod Unique

@@ -1,0 +1,94 @@
+-- The shift that rounds down, rounding to nearest by it, and clipping. Assumes nothing.
+use mathlib.Core.Path.{_≡_, refl, sym, ap, _∙_, subst}
+use mathlib.Core.List.{List, [], _∷_}
+use Prim.Native.Nat.{ℕ, zero, suc, _+_, _-_, _*_, _/_, _%_, _^_, _≤_, _<_, min}
+use native.Mathlib.Omega.{arith}
+use native.Mathlib.Nat.{div-add-mod, mod-lt, pow-suc, mul-comm, pow-succ', div-le-of-le-mul, div-lt-iff-lt-mul, lt-of-mul-lt-mul-left, mul-suc}
+use lib.Pow.{pow-pos}
+use lib.IntN.{ℤ, pos, negsuc, negℤ, natAbs, _+ℤ_, _-ℤ_, _*ℤ_}
+use lib.Signed.{mag, shrZ, _≤ℤ_, _<ℤ_, ≤ℤ-refl}
+use mir.Syntax.{w16}
+use mir.Val.{SFits}
+use Rattle.algebra.specs.Shift.{_>>_}
+use Rattle.algebra.proofs.Normal.{Expr, ν, κ, _⊕_, _⊖_, _⊗_, ⊝, ring}
+use Rattle.algebra.proofs.Order.{up, dn, up-neg, dn-neg, parts-add, parts-mul, parts-zero, parts-eq, eq-parts, le-parts, parts-le, lt-parts, parts-abs, abs-parts, abs-mul, linAbs, fact≡, factAbs}
+
+-- what the shift drops
+abbrev pub shrRem : ℤ → ℕ → ℕ
+shrRem (pos a) m = a % m
+shrRem (negsuc a) m = m - suc (a % m)
+
+pub shrRem-lt : (z : ℤ) (m : ℕ) → 0 < m → shrRem z m < m
+shrRem-lt (pos a) m h = mod-lt a h
+shrRem-lt (negsuc a) m h = omega arith
+
+pub shr-eq : (z : ℤ) (m : ℕ) → 0 < m → z ≡ pos m *ℤ shrZ z m +ℤ pos (shrRem z m)
+shr-eq (pos a) m h = ap pos (sym (div-add-mod a m))
+shr-eq (negsuc a) m h =
+    parts-eq (negsuc a) (pos m *ℤ negsuc (a / m) +ℤ pos (m - suc (a % m)))
+    (omega (arith, parts-add (pos m *ℤ negsuc (a / m)) (pos (m - suc (a % m))), up-neg (pos (m * suc (a / m))), dn-neg (pos (m * suc (a / m))), div-add-mod a m, mod-lt a h))
+
+-- |2 h ⌊(z + h) / 2 h⌋ - z| ≤ h
+pub round-near : (z : ℤ) (h : ℕ) → 0 < h → natAbs (pos (2 * h) *ℤ shrZ (z +ℤ pos h) (2 * h) -ℤ z) ≤ h
+round-near z h q =
+    let s = shrZ (z +ℤ pos h) (2 * h) in
+    let r = shrRem (z +ℤ pos h) (2 * h) in
+    let ρ = z ∷ pos h ∷ (pos (2 * h) *ℤ s) ∷ pos r ∷ [] in
+    let e = fact≡ ρ (ν 0 ⊕ ν 1) (ν 2 ⊕ ν 3) (shr-eq (z +ℤ pos h) (2 * h) (omega arith)) in
+    let l = shrRem-lt (z +ℤ pos h) (2 * h) (omega arith) in
+    linAbs ρ (ν 2 ⊖ ν 0) h (omega (arith, e, l)) (omega (arith, e, l))
+
+pub shr-near : (z : ℤ) (k : ℕ) → natAbs (pos (2 ^ suc k) *ℤ shrZ (z +ℤ pos (2 ^ k)) (2 ^ suc k) -ℤ z) ≤ 2 ^ k
+shr-near z k = rw (pow-succ' 2 k) (round-near z (2 ^ k) (pow-pos k))
+
+-- the shift makes smaller: |z| ≤ m B gives |⌊z / m⌋| ≤ B
+pub shr-abs : (z : ℤ) (m B : ℕ) → 0 < m → natAbs z ≤ m * B → natAbs (shrZ z m) ≤ B
+shr-abs (pos a) m B h p = div-le-of-le-mul m p
+shr-abs (negsuc a) m B h p = div-lt-iff-lt-mul h .1 (omega arith)
+
+-- m a + r ≤ m b + s and s < m give a ≤ b
+near-le : (a b : ℤ) (m r s : ℕ) → 0 < m → s < m → (pos m *ℤ a +ℤ pos r) ≤ℤ (pos m *ℤ b +ℤ pos s) → a ≤ℤ b
+near-le a b m r s p q h =
+    parts-le a b (le-of-lt-suc (lt-of-mul-lt-mul-left m
+    (omega (arith, le-parts h, parts-add (pos m *ℤ a) (pos r), parts-add (pos m *ℤ b) (pos s), parts-mul (pos m) a, parts-mul (pos m) b))))
+  where
+    le-of-lt-suc : {x y : ℕ} → x < suc y → x ≤ y
+    le-of-lt-suc h = omega arith
+
+pub shr-mono : (a b : ℤ) (m : ℕ) → 0 < m → a ≤ℤ b → shrZ a m ≤ℤ shrZ b m
+shr-mono a b m p h =
+    near-le (shrZ a m) (shrZ b m) m (shrRem a m) (shrRem b m) p (shrRem-lt b m p)
+    (subst (λ (x : ℤ). x ≤ℤ (pos m *ℤ shrZ b m +ℤ pos (shrRem b m))) (shr-eq a m p) (subst (λ (x : ℤ). a ≤ℤ x) (shr-eq b m p) h))
+
+-- the quotient is the only one
+pub shr-unique : (z q : ℤ) (m r : ℕ) → 0 < m → r < m → z ≡ pos m *ℤ q +ℤ pos r → shrZ z m ≡ q
+shr-unique z q m r p l e =
+    let d = sym (shr-eq z m p) ∙ e in
+    let f = le-parts (near-le (shrZ z m) q m (shrRem z m) r p l (rw d (≤ℤ-refl (pos m *ℤ q +ℤ pos r)))) in
+    let g = le-parts (near-le q (shrZ z m) m r (shrRem z m) p (shrRem-lt z m p) (rw d (≤ℤ-refl (pos m *ℤ q +ℤ pos r)))) in
+    parts-eq (shrZ z m) q (omega arith)
+
+-- ---- the same for `>>`
+-- 2^n (a >> n) ≤ a < 2^n (a >> n) + 2^n: it is the floor
+pub shift-floor : (a : ℤ) (n : ℕ) → a ≡ pos (2 ^ n) *ℤ (a >> n) +ℤ pos (shrRem a (2 ^ n)) × shrRem a (2 ^ n) < 2 ^ n
+shift-floor a n = (shr-eq a (2 ^ n) (pow-pos n), shrRem-lt a (2 ^ n) (pow-pos n))
+
+-- rounding to the nearest: |2^(k+1) ((z + 2^k) >> (k + 1)) - z| ≤ 2^k
+pub shift-near : (z : ℤ) (k : ℕ) → natAbs (pos (2 ^ suc k) *ℤ ((z +ℤ pos (2 ^ k)) >> suc k) -ℤ z) ≤ 2 ^ k
+shift-near z k = shr-near z k
+
+-- |2 h s - z| ≤ h and |z| ≤ 2 h B give |s| ≤ B
+near-in : (s z : ℤ) (h B : ℕ) → 0 < h → natAbs (pos (2 * h) *ℤ s -ℤ z) ≤ h → natAbs z ≤ 2 * h * B → natAbs s ≤ B
+near-in s z h B q p l =
+    let m = 2 * h in
+    let e = factAbs ((pos m *ℤ s) ∷ z ∷ []) (ν 0 ⊖ ν 1) p in
+    lt-suc (lt-of-mul-lt-mul-left m (omega (arith, e, abs-parts z, abs-parts (pos m *ℤ s), parts-zero (pos m *ℤ s), abs-mul (pos m) s, mul-suc m B)))
+  where
+    lt-suc : {x y : ℕ} → x < suc y → x ≤ y
+    lt-suc h = omega arith
+
+-- rounding makes no number larger than its size over 2^(k+1), rounded up
+pub shift-in : (z : ℤ) (k B : ℕ) → natAbs z ≤ 2 ^ suc k * B → natAbs ((z +ℤ pos (2 ^ k)) >> suc k) ≤ B
+shift-in z k B h =
+    let h′ = rw (pow-succ' 2 k) at h in
+    rw (pow-succ' 2 k) (near-in (shrZ (z +ℤ pos (2 ^ k)) (2 * 2 ^ k)) z (2 ^ k) B (pow-pos k) (round-near z (2 ^ k) (pow-pos k)) h′)

@@ -1,0 +1,133 @@
+-- Laws of finite sums: congruence, addition, scaling, splitting, exchange, reversal, sizes. Assumes nothing.
+use mathlib.Core.Path.{_≡_, refl, sym, ap, _∙_, subst}
+use mathlib.Core.List.{List, [], _∷_}
+use Prim.Native.Nat.{ℕ, zero, suc, _+_, _-_, _*_, _≤_, _<_}
+use native.Mathlib.Omega.{arith}
+use native.Mathlib.Nat.{mul-le-mul, le-trans, le-refl, mul-le-mul-left, mul-le-mul-right, add-mul, zero-mul, add-zero, add-suc, add-le-add}
+use lib.IntN.{ℤ, pos, negsuc, negℤ, natAbs, _+ℤ_, _-ℤ_, _*ℤ_, +ℤ-idl, +ℤ-idr, +ℤ-assoc, +ℤ-comm, *ℤ-zero, negℤ-+ℤ}
+use Rattle.algebra.specs.Sum.{sum, sumℕ}
+use Rattle.algebra.proofs.Ring.{+ℤ-left-comm, *ℤ-add}
+use Rattle.algebra.proofs.Normal.{Expr, ν, κ, _⊕_, _⊖_, _⊗_, ⊝, ring}
+use Rattle.algebra.proofs.Order.{Within, abs-add, abs-mul}
+
+pub sum-suc : (n : ℕ) (f : ℕ → ℤ) → sum (suc n) f ≡ sum n f +ℤ f n
+unfolding sum
+sum-suc n f = refl
+
+pub sum-cong : (n : ℕ) (f g : ℕ → ℤ) → ((i : ℕ) → i < n → f i ≡ g i) → sum n f ≡ sum n g
+unfolding sum
+sum-cong zero f g h = refl
+sum-cong (suc n) f g h = λ t. sum-cong n f g (λ i p. h i (omega arith)) t +ℤ h n (omega arith) t
+
+pub sum-add : (n : ℕ) (f g : ℕ → ℤ) → sum n (λ i. f i +ℤ g i) ≡ sum n f +ℤ sum n g
+unfolding sum
+sum-add zero f g = refl
+sum-add (suc n) f g =
+    ap (λ (x : ℤ). x +ℤ (f n +ℤ g n)) (sum-add n f g)
+    ∙ ring (sum n f ∷ sum n g ∷ f n ∷ g n ∷ []) (ν 0 ⊕ ν 1 ⊕ (ν 2 ⊕ ν 3)) (ν 0 ⊕ ν 2 ⊕ (ν 1 ⊕ ν 3)) refl
+
+pub sum-scale : (n : ℕ) (c : ℤ) (f : ℕ → ℤ) → sum n (λ i. c *ℤ f i) ≡ c *ℤ sum n f
+unfolding sum
+sum-scale zero c f = sym (*ℤ-zero c)
+sum-scale (suc n) c f = ap (λ (x : ℤ). x +ℤ c *ℤ f n) (sum-scale n c f) ∙ sym (*ℤ-add c (sum n f) (f n))
+
+pub sum-neg : (n : ℕ) (f : ℕ → ℤ) → sum n (λ i. negℤ (f i)) ≡ negℤ (sum n f)
+unfolding sum
+sum-neg zero f = refl
+sum-neg (suc n) f = ap (λ (x : ℤ). x +ℤ negℤ (f n)) (sum-neg n f) ∙ sym (negℤ-+ℤ (sum n f) (f n))
+
+pub sum-none : (n : ℕ) → sum n (λ i. pos zero) ≡ pos zero
+unfolding sum
+sum-none zero = refl
+sum-none (suc n) = ap (λ (x : ℤ). x +ℤ pos zero) (sum-none n)
+
+pub sum-split : (m n : ℕ) (f : ℕ → ℤ) → sum (m + n) f ≡ sum m f +ℤ sum n (λ i. f (m + i))
+unfolding sum
+sum-split m zero f = ap (λ (x : ℕ). sum x f) (add-zero m) ∙ sym (+ℤ-idr (sum m f))
+sum-split m (suc n) f =
+    ap (λ (x : ℕ). sum x f) (add-suc m n) ∙ ap (λ (x : ℤ). x +ℤ f (m + n)) (sum-split m n f) ∙ +ℤ-assoc (sum m f) (sum n (λ i. f (m + i))) (f (m + n))
+
+pub sum-swap : (m n : ℕ) (f : ℕ → ℕ → ℤ) → sum m (λ i. sum n (f i)) ≡ sum n (λ j. sum m (λ i. f i j))
+unfolding sum
+sum-swap zero n f = sym (sum-none n)
+sum-swap (suc m) n f = ap (λ (x : ℤ). x +ℤ sum n (f m)) (sum-swap m n f) ∙ sym (sum-add n (λ j. sum m (λ i. f i j)) (f m))
+
+-- ---- size
+pub sumℕ-mono : (n : ℕ) (f g : ℕ → ℕ) → ((i : ℕ) → i < n → f i ≤ g i) → sumℕ n f ≤ sumℕ n g
+unfolding sumℕ
+sumℕ-mono zero f g h = omega arith
+sumℕ-mono (suc n) f g h = add-le-add (sumℕ-mono n f g (λ i p. h i (omega arith))) (h n (omega arith))
+
+pub sumℕ-scale : (n : ℕ) (f : ℕ → ℕ) (M : ℕ) → sumℕ n (λ i. f i * M) ≡ sumℕ n f * M
+unfolding sumℕ
+sumℕ-scale zero f M = sym (zero-mul M)
+sumℕ-scale (suc n) f M = ap (λ (x : ℕ). x + f n * M) (sumℕ-scale n f M) ∙ sym (add-mul (sumℕ n f) (f n) M)
+
+pub abs-sum : (n : ℕ) (f : ℕ → ℤ) → natAbs (sum n f) ≤ sumℕ n (λ i. natAbs (f i))
+unfolding sum sumℕ
+abs-sum zero f = omega arith
+abs-sum (suc n) f = omega (arith, abs-sum n f, abs-add (sum n f) (f n))
+
+-- |Σ w x| ≤ (Σ |w|) M
+pub abs-dot : (n : ℕ) (w x : ℕ → ℤ) (M : ℕ) → ((i : ℕ) → i < n → natAbs (x i) ≤ M) → natAbs (sum n (λ i. w i *ℤ x i)) ≤ sumℕ n (λ i. natAbs (w i)) * M
+abs-dot n w x M h =
+    le-trans (abs-sum n (λ i. w i *ℤ x i))
+    (rw (← sumℕ-scale n (λ i. natAbs (w i)) M)
+    (sumℕ-mono n (λ i. natAbs (w i *ℤ x i)) (λ i. natAbs (w i) * M) (λ i p. rw (abs-mul (w i) (x i)) (mul-le-mul-left (natAbs (w i)) (h i p)))))
+
+pub sumℕ-const : (n M : ℕ) → sumℕ n (λ i. M) ≡ n * M
+unfolding sumℕ
+sumℕ-const zero M = sym (zero-mul M)
+sumℕ-const (suc n) M = ap (λ (x : ℕ). x + M) (sumℕ-const n M) ∙ omega arith
+
+-- |Σ f| ≤ n M
+pub sum-in : (n : ℕ) (f : ℕ → ℤ) (M : ℕ) → ((i : ℕ) → i < n → natAbs (f i) ≤ M) → natAbs (sum n f) ≤ n * M
+sum-in n f M h = le-trans (abs-sum n f) (rw (← sumℕ-const n M) (sumℕ-mono n (λ i. natAbs (f i)) (λ i. M) h))
+
+-- as a loop counts
+pub sum-next : (n : ℕ) (f : ℕ → ℤ) → sum (n + 1) f ≡ sum n f +ℤ f n
+sum-next n f = ap (λ (m : ℕ). sum m f) (omega arith) ∙ sum-suc n f
+
+-- from the front
+pub sum-first : (n : ℕ) (f : ℕ → ℤ) → sum (suc n) f ≡ f 0 +ℤ sum n (λ i. f (suc i))
+unfolding sum
+sum-first zero f = +ℤ-comm (pos zero) (f 0)
+sum-first (suc n) f = ap (λ (x : ℤ). x +ℤ f (suc n)) (sum-first n f) ∙ +ℤ-assoc (f 0) (sum n (λ i. f (suc i))) (f (suc n))
+
+pub sum-rev : (n : ℕ) (f : ℕ → ℤ) → sum n f ≡ sum n (λ i. f (n - suc i))
+unfolding sum
+sum-rev zero f = refl
+sum-rev (suc n) f =
+    ap (λ (x : ℤ). x +ℤ f n) (sum-rev n f) ∙ +ℤ-comm (sum n (λ i. f (n - suc i))) (f n)
+    ∙ (λ t. ap f (top n) t +ℤ sum-cong n (λ i. f (n - suc i)) (λ i. f (suc n - suc (suc i))) (λ i p. ap f (omega arith)) t)
+    ∙ sym (sum-first n (λ i. f (suc n - suc i)))
+  where
+    top : (n : ℕ) → n ≡ suc n - suc 0
+    top n = omega arith
+
+-- ---- for a loop that adds w i * x i
+pub sumℕ-next : (n : ℕ) (f : ℕ → ℕ) → sumℕ (n + 1) f ≡ sumℕ n f + f n
+unfolding sumℕ
+sumℕ-next n f = ap (λ (m : ℕ). sumℕ m f) (one-more n)
+  where
+    one-more : (n : ℕ) → n + 1 ≡ suc n
+    one-more n = omega arith
+
+pub sumℕ-le : (k n : ℕ) (f : ℕ → ℕ) → sumℕ n f ≤ sumℕ (n + k) f
+sumℕ-le zero n f = rw (add-zero n) (le-refl (sumℕ n f))
+sumℕ-le (suc k) n f = rw (add-suc n k) (more (n + k) (sumℕ-le k n f))
+  where
+    one-more : (m : ℕ) → m + 1 ≡ suc m
+    one-more m = omega arith
+    more : (m : ℕ) → sumℕ n f ≤ sumℕ m f → sumℕ n f ≤ sumℕ (suc m) f
+    more m h = omega (arith, sumℕ-next m f, ap (λ (x : ℕ). sumℕ x f) (one-more m))
+
+pub dot-step : (w : ℕ → ℤ) (i M : ℕ) (s x : ℤ) → natAbs s ≤ sumℕ i (λ j. natAbs (w j)) * M → natAbs x ≤ M → natAbs (s +ℤ w i *ℤ x) ≤ sumℕ (i + 1) (λ j. natAbs (w j)) * M
+dot-step w i M s x h g =
+    omega (arith, ap (λ (m : ℕ). m * M) (sumℕ-next i (λ j. natAbs (w j))), abs-add s (w i *ℤ x), abs-mul (w i) x, mul-le-mul-left (natAbs (w i)) g)
+
+-- and never passes the whole
+pub dot-below : (w : ℕ → ℤ) (i n M : ℕ) → i ≤ n → sumℕ i (λ j. natAbs (w j)) * M ≤ sumℕ n (λ j. natAbs (w j)) * M
+dot-below w i n M h =
+    let e : i + (n - i) ≡ n = omega arith in
+    mul-le-mul-right M (subst (λ (m : ℕ). sumℕ i (λ j. natAbs (w j)) ≤ sumℕ m (λ j. natAbs (w j))) e (sumℕ-le (n - i) i (λ j. natAbs (w j))))

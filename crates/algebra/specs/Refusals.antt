@@ -1,0 +1,14 @@
+-- The refusals of a call: tests in a fixed order, each with the number and the place that it hands back.
+use mathlib.Core.Bool.{Bool, cond}
+use mathlib.Core.List.{List, [], _∷_}
+use Prim.Native.Nat.{ℕ}
+
+pub record Refusal : Type 0 where
+  pub applies : Bool
+  pub number : ℕ
+  pub place : ℕ
+
+-- the first refusal that applies, as `refused` makes it; where none applies, what is done
+abbrev pub firstOf : {A : Type 0} → List Refusal → (ℕ → ℕ → A) → A → A
+firstOf [] refused done = done
+firstOf (t ∷ ts) refused done = cond (t .applies) (refused (t .number) (t .place)) (firstOf ts refused done)
