@@ -175,7 +175,7 @@ module _ (ρ : List ℤ) where
       pickP-is (cmpM m n) (term c m (f (term d n q))) (cons (c +ℤ d) n (f q)) (term d n (addT c m f q)) _
       (ap (λ (x : ℤ). c *ℤ evalM ρ m +ℤ x) (h (term d n q)) ∙ sym (+ℤ-assoc (c *ℤ evalM ρ m) P (evalP ρ (term d n q))))
       (λ e. cons-is (c +ℤ d) n (f q) ∙ (λ t. add-*ℤ c d (evalM ρ n) t +ℤ h q t) ∙ exch (c *ℤ evalM ρ n) (d *ℤ evalM ρ n) P (evalP ρ q)
-          ∙ ap (λ (x : Mono). c *ℤ evalM ρ x +ℤ P +ℤ (d *ℤ evalM ρ n +ℤ evalP ρ q)) (sym (cmpM-same m n e)))
+      ∙ ap (λ (x : Mono). c *ℤ evalM ρ x +ℤ P +ℤ (d *ℤ evalM ρ n +ℤ evalP ρ q)) (sym (cmpM-same m n e)))
       (ap (λ (x : ℤ). d *ℤ evalM ρ n +ℤ x) (addT-is c m f P h q) ∙ +ℤ-left-comm (d *ℤ evalM ρ n) (c *ℤ evalM ρ m +ℤ P) (evalP ρ q))
     where
       exch : (a b x y : ℤ) → (a +ℤ b) +ℤ (x +ℤ y) ≡ a +ℤ x +ℤ (b +ℤ y)

@@ -119,6 +119,7 @@ sumℕ-le (suc k) n f = rw (add-suc n k) (more (n + k) (sumℕ-le k n f))
   where
     one-more : (m : ℕ) → m + 1 ≡ suc m
     one-more m = omega arith
+
     more : (m : ℕ) → sumℕ n f ≤ sumℕ m f → sumℕ n f ≤ sumℕ (suc m) f
     more m h = omega (arith, sumℕ-next m f, ap (λ (x : ℕ). sumℕ x f) (one-more m))
 

@@ -10,6 +10,7 @@ use lib.Arith.{digits-lt, digits-div, digits-mod}
 use lib.Dec.{T, eqb, eqb→eq}
 use lib.IntN.{ℤ, pos, negsuc}
 use lib.ListN.{length}
+use Rattle.algebra.specs.Equal.{eqZ}
 use Rattle.algebra.specs.Lists.{at}
 
 pub and-left : (a b : Bool) → T (a && b) → T a
@@ -19,12 +20,6 @@ and-left false b t = t
 pub and-right : (a b : Bool) → T (a && b) → T b
 and-right true b t = t
 and-right false b t = absurd t
-
-abbrev pub eqZ : ℤ → ℤ → Bool
-eqZ (pos a) (pos b) = eqb a b
-eqZ (pos a) (negsuc b) = false
-eqZ (negsuc a) (pos b) = false
-eqZ (negsuc a) (negsuc b) = eqb a b
 
 pub eqZ→eq : (a b : ℤ) → T (eqZ a b) → a ≡ b
 eqZ→eq (pos a) (pos b) t = ap pos (eqb→eq a b t)

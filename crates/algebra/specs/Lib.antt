@@ -1,3 +1,4 @@
+pub mod Equal
 pub mod Sum
 pub mod Shift
 pub mod Clip

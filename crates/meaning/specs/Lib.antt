@@ -1,0 +1,7 @@
+pub mod Weights
+pub mod Line
+pub mod Shape
+pub mod Answer
+pub mod Inverse
+pub mod Forward
+pub mod Exact

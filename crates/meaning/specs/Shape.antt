@@ -1,0 +1,34 @@
+-- "What the library holds", and what a block's shape decides: its kept part, the range between the stages, the last shift.
+use mathlib.Core.Bool.{Bool, _&&_, _||_}
+use Prim.Native.Nat.{ℕ, _-_, min}
+use lib.Dec.{eqb, leb}
+use lib.IntN.{pos, negsuc}
+use Rattle.algebra.specs.Clip.{Range}
+use Rattle.meaning.specs.declared.Shape.{Shape}
+
+-- "lines of 4, 8, 16 and 32 points"
+unfoldable pub isSize : ℕ → Bool
+isSize n = eqb n 4 || (eqb n 8 || (eqb n 16 || eqb n 32))
+
+-- "kind is not 1 (DST-VII) or 2 (DCT-VIII)"
+unfoldable pub isKind : ℕ → Bool
+isKind kind = eqb kind 1 || eqb kind 2
+
+-- "Bit depths d = 8 to 12"
+unfoldable pub isDepth : ℕ → Bool
+isDepth d = leb 8 d && leb d 12
+
+-- "Kept columns are the first min(w,16), kept rows the first min(h,16)"
+unfoldable pub keptColumns : Shape → ℕ
+keptColumns sh = min (sh .width) 16
+
+unfoldable pub keptRows : Shape → ℕ
+keptRows sh = min (sh .height) 16
+
+-- "clipped to -32768..32767"
+unfoldable pub range : Shape → Range
+range sh = record { low = negsuc 32767; high = pos 32767 }
+
+-- ">> (20-d)"
+unfoldable pub lastShift : Shape → ℕ
+lastShift sh = 20 - sh .depth

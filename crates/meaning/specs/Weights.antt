@@ -1,0 +1,37 @@
+-- "The weights": the first rows, the fold rule, and the two kinds.
+use mathlib.Core.Bool.{Bool, true, false, cond}
+use mathlib.Core.List.{List, [], _∷_}
+use Prim.Native.Nat.{ℕ, _+_, _*_, _-_, _%_, min}
+use lib.Dec.{ltb, eqb}
+use lib.IntN.{ℤ, pos, negℤ}
+use lib.ListN.{getD}
+
+-- "First rows s1..sN of DST-VII": s n stands at place n, and 0 at place 0
+unfoldable pub first : ℕ → List ℕ
+first n =
+    cond (eqb n 4) (0 ∷ 29 ∷ 55 ∷ 74 ∷ 84 ∷ [])
+    (cond (eqb n 8) (0 ∷ 17 ∷ 32 ∷ 46 ∷ 60 ∷ 71 ∷ 78 ∷ 85 ∷ 86 ∷ [])
+    (cond (eqb n 16) (0 ∷ 8 ∷ 17 ∷ 25 ∷ 33 ∷ 40 ∷ 48 ∷ 55 ∷ 62 ∷ 68 ∷ 73 ∷ 77 ∷ 81 ∷ 85 ∷ 87 ∷ 88 ∷ 88 ∷ [])
+    (cond (eqb n 32)
+    (0 ∷ 4 ∷ 9 ∷ 13 ∷ 17 ∷ 21 ∷ 26 ∷ 30 ∷ 34 ∷ 38 ∷ 42 ∷ 45 ∷ 50 ∷ 53 ∷ 56 ∷ 60 ∷ 63 ∷ 66 ∷ 68 ∷ 72 ∷ 74 ∷ 77 ∷ 78 ∷ 80 ∷ 82 ∷ 84 ∷ 85 ∷ 86 ∷ 88 ∷ 88 ∷ 89 ∷ 90 ∷ 90 ∷ [])
+    [])))
+
+abbrev pub signed : Bool → ℤ → ℤ
+signed true z = negℤ z
+signed false z = z
+
+-- "Fold rule": minus where m > L; m modulo L; the smaller of m and L-m; the signed s of that index
+unfoldable pub fold : ℕ → List ℕ → ℕ → ℤ
+fold l s m = signed (ltb l m) (pos (getD s (min (m % l) (l - m % l)) 0))
+
+-- "Let L = 2N+1 and m = (2i+1)*(j+1) modulo 2L, with i and j from 0"
+unfoldable pub S : ℕ → ℕ → ℕ → ℤ
+S n i j = let l = 2 * n + 1 in fold l (first n) (((2 * i + 1) * (j + 1)) % (2 * l))
+
+-- "DCT-VIII: C[i][j] = (-1)^i * S[i][N-1-j]"
+unfoldable pub C : ℕ → ℕ → ℕ → ℤ
+C n i j = signed (eqb (i % 2) 1) (S n i (n - 1 - j))
+
+-- "1 (DST-VII) or 2 (DCT-VIII)"
+unfoldable pub weight : ℕ → ℕ → ℕ → ℕ → ℤ
+weight kind n i j = cond (eqb kind 1) (S n i j) (cond (eqb kind 2) (C n i j) (pos 0))
