@@ -2,12 +2,12 @@
 --   inverse-accepted: a call that hands back number 0 passed every test
 --   inverse-done:     a call that passed every test hands back number 0, place 0, the rail count, and leaves the block
 use mathlib.Core.Path.{_≡_, refl, sym, ap, _∙_, subst}
-use mathlib.Core.Bool.{Bool, true, false, not, cond, _&&_}
+use mathlib.Core.Bool.{Bool, true, false, not, cond, _&&_, false≢true}
 use mathlib.Core.List.{List, [], _∷_}
 use Prim.Native.Nat.{ℕ, zero, suc, _*_, _≤_, _<_}
 use native.Mathlib.Omega.{arith}
-use borrow.Author.Tests.{ltb-false, eqb-true, not-false, le-ltb, eq-eqb}
-use lib.Dec.{T, ltb, eqb, ltb→lt}
+use borrow.Author.Tests.{ltb-false, leb-true, eqb-true, not-false, le-ltb, eq-eqb}
+use lib.Dec.{T, ltb, leb, eqb, ltb→lt}
 use lib.IntN.{ℤ}
 use lib.ListN.{length}
 use Rattle.algebra.specs.Refusals.{Refusal, firstOf}
@@ -71,3 +71,14 @@ module _ (sh : Shape) (c out : List ℤ) where
       let s = a .shape in
       let n = sh .width * sh .height in
       rw (s .width, s .height, s .horizontal, s .vertical, s .depth, eq-eqb (length c) n (a .input), eq-eqb (length out) n (a .output), le-ltb (firstOutside sh c) (length c) (a .kept))
+
+-- ---- "Bit depths d = 8 to 12"
+pub depth-range : (d : ℕ) → isDepth d ≡ true → (8 ≤ d) × (d ≤ 12)
+unfolding isDepth
+depth-range d e =
+    let p = and-true (leb 8 d) (leb d 12) e in
+    (leb-true 8 d (p .0), leb-true d 12 (p .1))
+  where
+    and-true : (a b : Bool) → a && b ≡ true → (a ≡ true) × (b ≡ true)
+    and-true true b e = (refl, e)
+    and-true false b e = absurd (false≢true e)
