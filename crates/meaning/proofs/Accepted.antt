@@ -1,19 +1,18 @@
 -- What an accepted inverse call says of its arguments, and what it hands back. Assumes nothing.
 --   inverse-accepted: a call that hands back number 0 passed every test
 --   inverse-done:     a call that passed every test hands back number 0, place 0, the rail count, and leaves the block
-use mathlib.Core.Path.{_≡_, refl, sym, ap, _∙_, subst}
-use mathlib.Core.Bool.{Bool, true, false, not, cond, _&&_, false≢true}
+use mathlib.Core.Path.{_≡_, refl}
+use mathlib.Core.Bool.{Bool, true, false, cond, _&&_, false≢true}
 use mathlib.Core.List.{List, [], _∷_}
-use Prim.Native.Nat.{ℕ, zero, suc, _*_, _≤_, _<_}
+use Prim.Native.Nat.{ℕ, _*_, _≤_, _<_}
 use native.Mathlib.Omega.{arith}
 use borrow.Author.Tests.{ltb-false, leb-true, eqb-true, not-false, le-ltb, eq-eqb}
 use lib.Dec.{T, ltb, leb, eqb, ltb→lt}
 use lib.IntN.{ℤ}
 use lib.ListN.{length}
-use Rattle.algebra.specs.Refusals.{Refusal, firstOf}
+use Rattle.algebra.specs.Refusals.{Refusal}
 use Rattle.algebra.proofs.Table.{and-left, and-right}
 use Rattle.meaning.specs.declared.Shape.{Shape}
-use Rattle.meaning.specs.declared.Answer.{Answer}
 use Rattle.meaning.specs.Shape.{isSize, isKind, isDepth}
 use Rattle.meaning.specs.Answer.{Outcome, outcome, accepted, refused}
 use Rattle.meaning.specs.Inverse.{rails, inverseBlock, firstOutside, inverseTests, inverseOutcome}

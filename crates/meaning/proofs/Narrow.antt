@@ -1,14 +1,14 @@
 -- At widths 4, 8 and 16, for both kinds, the sizes of a column's weights add up to at most 935: by one test of all columns. Assumes nothing.
 --   narrow-sizes: weightSizes sh x ≤ 935, of a shape that is taken, where w ≤ 16 and x < w
-use mathlib.Core.Path.{_≡_, refl, sym, ap, _∙_, subst}
-use mathlib.Core.Bool.{Bool, true, false, _||_, _&&_}
-use Prim.Native.Nat.{ℕ, zero, suc, _≤_, _<_, min}
+use mathlib.Core.Path.{_≡_, refl, sym, subst}
+use mathlib.Core.Bool.{Bool, true, false, _||_}
+use Prim.Native.Nat.{ℕ, _≤_, _<_, min}
 use native.Mathlib.Omega.{arith}
 use borrow.Author.Tests.{eqb-true}
 use lib.Dec.{T, eqb, leb, leb→le}
 use lib.IntN.{natAbs}
 use Rattle.algebra.specs.Sum.{sumℕ}
-use Rattle.algebra.proofs.Table.{allTo, allTo-at, and-left, and-right}
+use Rattle.algebra.proofs.Table.{allTo, allTo-at}
 use Rattle.meaning.specs.declared.Shape.{Shape}
 use Rattle.meaning.specs.Weights.{first, fold, S, C, weight}
 use Rattle.meaning.specs.Shape.{isSize, isKind, keptColumns}

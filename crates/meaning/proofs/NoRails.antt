@@ -1,19 +1,19 @@
--- A rail count of 0 says that no middle value of the kept columns stands at either end of the range. Assumes nothing.
---   no-rails: rails sh c ≡ 0 gives Inner sh c
---   rails-no: Inner sh c gives rails sh c ≡ 0
---   inner-same: of Inner sh c, the clip altered no middle value of the kept columns
-use mathlib.Core.Path.{_≡_, refl, sym, ap, _∙_, subst}
-use mathlib.Core.Bool.{Bool, true, false, cond, _||_}
-use mathlib.Core.List.{List, [], _∷_}
-use Prim.Native.Nat.{ℕ, zero, suc, _+_, _*_, _≤_, _<_}
+-- A rail count of 0 says that no middle value of the kept columns, over all h rows, stands at either end of the range. Assumes nothing.
+--   no-rails:        rails sh c ≡ 0 gives Inner sh c
+--   rails-no:        Inner sh c gives rails sh c ≡ 0
+--   inner-unaltered: Inner sh c gives Unaltered sh c
+use mathlib.Core.Path.{_≡_, refl, _∙_, subst}
+use mathlib.Core.Bool.{Bool, true, false, _||_}
+use mathlib.Core.List.{List}
+use Prim.Native.Nat.{ℕ, zero, suc, _<_}
 use native.Mathlib.Nat.{not-suc-le-zero}
 use native.Mathlib.Omega.{arith}
 use borrow.Author.Tests.{lt-ltb}
-use lib.Dec.{T, ltb, eqb-refl}
+use lib.Dec.{T, eqb-refl}
 use lib.IntN.{ℤ, pos, negsuc}
 use Rattle.algebra.specs.Sum.{sumℕ}
 use Rattle.algebra.specs.Equal.{eqZ}
-use Rattle.algebra.specs.Clip.{Range, clip}
+use Rattle.algebra.specs.Clip.{Range}
 use Rattle.algebra.proofs.Table.{eqZ→eq, last}
 use Rattle.algebra.proofs.Clip.{clip-inner}
 use Rattle.meaning.specs.declared.Shape.{Shape}
@@ -24,6 +24,10 @@ use Rattle.meaning.specs.Inverse.{columnSum, rounded, middle, middleAt, 
 abbrev pub Inner : Shape → List ℤ → Type 0
 Inner sh c =
     (x y : ℕ) → x < keptColumns sh → y < sh .height → (middleAt sh c x y ≡ range sh .low → ⊥) × (middleAt sh c x y ≡ range sh .high → ⊥)
+
+-- the clip altered none of them
+abbrev pub Unaltered : Shape → List ℤ → Type 0
+Unaltered sh c = (x y : ℕ) → x < keptColumns sh → y < sh .height → middleAt sh c x y ≡ rounded (columnSum sh c x y)
 
 -- ---- a sum is 0 where each of its numbers is
 sum-zero : (n : ℕ) (f : ℕ → ℕ) → sumℕ n f ≡ 0 → (i : ℕ) → i < n → f i ≡ 0
@@ -96,7 +100,7 @@ module _ (sh : Shape) (c : List ℤ) where
   unfolding middleAt
   middle-kept x y h = rw (lt-ltb x (keptColumns sh) h)
 
-  pub inner-same : Inner sh c → (x y : ℕ) → x < keptColumns sh → y < sh .height → middleAt sh c x y ≡ rounded (columnSum sh c x y)
-  inner-same n x y hx hy =
+  pub inner-unaltered : Inner sh c → Unaltered sh c
+  inner-unaltered n x y hx hy =
       let m = middle-kept x y hx in
       m ∙ clip-inner (range sh) (rounded (columnSum sh c x y)) (λ e. n x y hx hy .0 (m ∙ e)) (λ e. n x y hx hy .1 (m ∙ e))

@@ -3,18 +3,18 @@
 --   middles-near:   |middle roundings| ≤ 64 · A
 --   last-near:      |last rounding| ≤ 64 · 2^s, where 1 ≤ s
 --   clippings-none: clippings = 0, where the clip altered no middle value of the row's kept columns
-use mathlib.Core.Path.{_≡_, refl, sym, ap, _∙_, subst}
+use mathlib.Core.Path.{_≡_, refl, sym, ap, _∙_}
 use mathlib.Core.List.{List, [], _∷_}
 use Prim.Native.Nat.{ℕ, zero, suc, _+_, _*_, _-_, _^_, _≤_, _<_}
 use native.Mathlib.Omega.{arith}
 use native.Mathlib.Nat.{mul-comm, pow-succ'}
 use lib.Pow.{pow-add}
-use lib.IntN.{ℤ, pos, natAbs, _+ℤ_, _-ℤ_, _*ℤ_, *ℤ-zero}
-use Rattle.algebra.specs.Sum.{sum, sumℕ}
-use Rattle.algebra.specs.Shift.{_>>_, nearest}
-use Rattle.algebra.proofs.Normal.{Expr, ν, κ, _⊕_, _⊖_, _⊗_, ⊝, ring! }
+use lib.IntN.{ℤ, pos, natAbs, _+ℤ_, _-ℤ_, _*ℤ_}
+use Rattle.algebra.specs.Sum.{sumℕ}
+use Rattle.algebra.specs.Shift.{nearest}
+use Rattle.algebra.proofs.Normal.{ν, κ, _⊕_, _⊖_, _⊗_, ring! }
 use Rattle.algebra.proofs.Order.{abs-mul}
-use Rattle.algebra.proofs.Sum.{sum-cong, sum-add, sum-scale, sum-none, abs-dot}
+use Rattle.algebra.proofs.Sum.{sum-cong, sum-add, sum-scale, abs-dot}
 use Rattle.algebra.proofs.Shift.{shift-near}
 use Rattle.meaning.specs.declared.Shape.{Shape}
 use Rattle.meaning.specs.Weights.{weight}
