@@ -47,5 +47,7 @@ pub narrow-sizes : (sh : Shape) (x : ℕ) → Taken sh → sh .width ≤ 16 → 
 unfolding weightSizes keptColumns sizes
 narrow-sizes sh x taken narrow hx =
     let e : min (sh .width) 16 ≡ sh .width = omega arith in
-    let s = leb→le (sizes (sh .horizontal) (sh .width) x) 935 (allTo-at (sh .width) (λ x. leb (sizes (sh .horizontal) (sh .width) x) 935) (small (sh .horizontal) (taken .horizontal) (sh .width) (taken .width) narrow) x hx) in
-    rw e s
+    let kind = sh .horizontal in
+    let w = sh .width in
+    let all = small kind (taken .horizontal) w (taken .width) narrow in
+    rw e (leb→le (sizes kind w x) 935 (allTo-at w (λ x. leb (sizes kind w x) 935) all x hx))

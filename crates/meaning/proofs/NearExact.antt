@@ -1,17 +1,18 @@
 -- Demand 3: how far a residual can be from the exact double sum. Assumes nothing.
 --   near-exact:          |2^(7+s) · residual − exact| ≤ 64 · (A + 2^s), where the clip altered nothing in the kept columns of
 --                        the row; over any range and any last shift s ≥ 1
+--   near-taken:          the same of a shape that tests 1 to 5 let pass, in the words of the scope: s = 20 − d
 --   demand3:             of an accepted call with rail count 0, for every residual of the block that it hands back:
 --                        |2^(27−d) · residual − exact| ≤ 64 · (A + 2^(20−d))
 --   demand3-inner:       the same of an accepted call in which no middle value stands at either end of the range
+--   demand3-call:        the same of the rail count and the output in the outcome of the call itself
 --   less-than-one-level: at d = 10 and w ≤ 16 that difference is below 2^17
 use mathlib.Core.Path.{_≡_, sym, ap, _∙_, subst}
-use mathlib.Core.List.{List, [], _∷_}
+use mathlib.Core.List.{List}
 use Prim.Native.Nat.{ℕ, _+_, _*_, _-_, _^_, _≤_, _<_}
 use native.Mathlib.Omega.{arith}
-use lib.IntN.{ℤ, pos, natAbs, _+ℤ_, _-ℤ_, _*ℤ_}
+use lib.IntN.{ℤ, pos, natAbs, _-ℤ_, _*ℤ_}
 use Rattle.algebra.specs.Lists.{at}
-use Rattle.algebra.proofs.Normal.{ν, κ, _⊕_, _⊖_, ring! }
 use Rattle.algebra.proofs.Order.{abs-add}
 use Rattle.algebra.proofs.Lists.{block-at}
 use Rattle.meaning.specs.declared.Shape.{Shape}
@@ -21,7 +22,7 @@ use Rattle.meaning.specs.Inverse.{columnSum, rounded, middleAt, residual
 use Rattle.meaning.specs.Exact.{exact, weightSizes, middleRoundings, lastRounding}
 use Rattle.meaning.proofs.Taken.{Taken}
 use Rattle.meaning.proofs.Accepted.{inverse-accepted, inverse-done, depth-range}
-use Rattle.meaning.proofs.Parts.{four-parts, middles-near, last-near, clippings-none}
+use Rattle.meaning.proofs.Parts.{middles-near, last-near, two-parts}
 use Rattle.meaning.proofs.NoRails.{Unaltered, Inner, no-rails, inner-unaltered}
 use Rattle.meaning.proofs.Narrow.{narrow-sizes}
 
@@ -29,16 +30,11 @@ pub near-exact : (sh : Shape) (c : List ℤ) (x y : ℕ) → 1 ≤ lastShift sh
     → ((i : ℕ) → i < keptColumns sh → middleAt sh c i y ≡ rounded (columnSum sh c i y))
     → natAbs (pos (2 ^ (7 + lastShift sh)) *ℤ residual sh c x y -ℤ exact sh c x y) ≤ 64 * (weightSizes sh x + 2 ^ lastShift sh)
 near-exact sh c x y shifts same =
-    let e = exact sh c x y in
     let m = middleRoundings sh c x y in
     let l = lastRounding sh c x y in
-    let whole : pos (2 ^ (7 + lastShift sh)) *ℤ residual sh c x y -ℤ e ≡ m +ℤ l =
-    ap (λ (z : ℤ). z -ℤ e) (four-parts sh c x y ∙ ap (λ (z : ℤ). e +ℤ m +ℤ z +ℤ l) (clippings-none sh c x y same))
-    ∙ ring! (e ∷ m ∷ l ∷ []) (ν 0 ⊕ ν 1 ⊕ κ (pos 0) ⊕ ν 2 ⊖ ν 0) (ν 1 ⊕ ν 2) tt in
-    rw whole (omega (arith, abs-add m l, middles-near sh c x y, last-near sh c x y shifts))
+    rw (two-parts sh c x y same) (omega (arith, abs-add m l, middles-near sh c x y, last-near sh c x y shifts))
 
--- the same in the words of the scope, where s = 20 − d
-near-taken : (sh : Shape) (c : List ℤ) → Taken sh → Unaltered sh c → (x y : ℕ) → y < sh .height
+pub near-taken : (sh : Shape) (c : List ℤ) → Taken sh → Unaltered sh c → (x y : ℕ) → y < sh .height
     → natAbs (pos (2 ^ (27 - sh .depth)) *ℤ residual sh c x y -ℤ exact sh c x y) ≤ 64 * (weightSizes sh x + 2 ^ (20 - sh .depth))
 unfolding lastShift
 near-taken sh c taken same x y hy =

@@ -2,7 +2,9 @@
 --   four-parts:     2^(7+s) · residual = exact + middle roundings + clippings + last rounding, for the last shift s
 --   middles-near:   |middle roundings| ≤ 64 · A
 --   last-near:      |last rounding| ≤ 64 · 2^s, where 1 ≤ s
---   clippings-none: clippings = 0, where the clip altered no middle value of the row's kept columns
+-- and where the clip altered no middle value of the row's kept columns:
+--   clippings-none: clippings = 0
+--   two-parts:      2^(7+s) · residual − exact = middle roundings + last rounding
 use mathlib.Core.Path.{_≡_, refl, sym, ap, _∙_}
 use mathlib.Core.List.{List, [], _∷_}
 use Prim.Native.Nat.{ℕ, zero, suc, _+_, _*_, _-_, _^_, _≤_, _<_}
@@ -105,3 +107,12 @@ module _ (sh : Shape) (c : List ℤ) (x y : ℕ) where
       carried-cong sh x (λ i. pos 128 *ℤ (middleAt sh c i y -ℤ rounded (columnSum sh c i y))) (λ i. pos 0 *ℤ pos 0)
       (λ i h. ap (λ (z : ℤ). pos 128 *ℤ (z -ℤ rounded (columnSum sh c i y))) (same i h) ∙ ring! (rounded (columnSum sh c i y) ∷ []) (κ (pos 128) ⊗ (ν 0 ⊖ ν 0)) (κ (pos 0)) tt)
       ∙ carried-scale sh x (pos 0) (λ i. pos 0) ∙ ring! (carried sh x (λ i. pos 0) ∷ []) (κ (pos 0) ⊗ ν 0) (κ (pos 0)) tt
+
+  pub two-parts : ((i : ℕ) → i < keptColumns sh → middleAt sh c i y ≡ rounded (columnSum sh c i y))
+      → pos (2 ^ (7 + lastShift sh)) *ℤ residual sh c x y -ℤ exact sh c x y ≡ middleRoundings sh c x y +ℤ lastRounding sh c x y
+  two-parts same =
+      let e = exact sh c x y in
+      let m = middleRoundings sh c x y in
+      let l = lastRounding sh c x y in
+      ap (λ (z : ℤ). z -ℤ e) (four-parts ∙ ap (λ (z : ℤ). e +ℤ m +ℤ z +ℤ l) (clippings-none same))
+      ∙ ring! (e ∷ m ∷ l ∷ []) (ν 0 ⊕ ν 1 ⊕ κ (pos 0) ⊕ ν 2 ⊖ ν 0) (ν 1 ⊕ ν 2) tt
