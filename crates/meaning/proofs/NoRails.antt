@@ -1,0 +1,106 @@
+-- A rail count of 0 says that no middle value of the kept columns, over all h rows, stands at either end of the range. Assumes nothing.
+--   no-rails:        rails sh c ≡ 0 gives Inner sh c
+--   rails-no:        Inner sh c gives rails sh c ≡ 0
+--   inner-unaltered: Inner sh c gives Unaltered sh c
+use mathlib.Core.Path.{_≡_, refl, _∙_, subst}
+use mathlib.Core.Bool.{Bool, true, false, _||_}
+use mathlib.Core.List.{List}
+use Prim.Native.Nat.{ℕ, zero, suc, _<_}
+use native.Mathlib.Nat.{not-suc-le-zero}
+use native.Mathlib.Omega.{arith}
+use borrow.Author.Tests.{lt-ltb}
+use lib.Dec.{T, eqb-refl}
+use lib.IntN.{ℤ, pos, negsuc}
+use Rattle.algebra.specs.Sum.{sumℕ}
+use Rattle.algebra.specs.Equal.{eqZ}
+use Rattle.algebra.specs.Clip.{Range}
+use Rattle.algebra.proofs.Table.{eqZ→eq, last}
+use Rattle.algebra.proofs.Clip.{clip-inner}
+use Rattle.meaning.specs.declared.Shape.{Shape}
+use Rattle.meaning.specs.Shape.{keptColumns, range}
+use Rattle.meaning.specs.Inverse.{columnSum, rounded, middle, middleAt, railed, count, rails}
+
+-- no middle value of the kept columns, over all h rows, at either end
+abbrev pub Inner : Shape → List ℤ → Type 0
+Inner sh c =
+    (x y : ℕ) → x < keptColumns sh → y < sh .height → (middleAt sh c x y ≡ range sh .low → ⊥) × (middleAt sh c x y ≡ range sh .high → ⊥)
+
+-- the clip altered none of them
+abbrev pub Unaltered : Shape → List ℤ → Type 0
+Unaltered sh c = (x y : ℕ) → x < keptColumns sh → y < sh .height → middleAt sh c x y ≡ rounded (columnSum sh c x y)
+
+-- ---- a sum is 0 where each of its numbers is
+sum-zero : (n : ℕ) (f : ℕ → ℕ) → sumℕ n f ≡ 0 → (i : ℕ) → i < n → f i ≡ 0
+unfolding sumℕ
+sum-zero zero f e i h = absurd (not-suc-le-zero h)
+sum-zero (suc n) f e i h = last (λ (m : ℕ). f m ≡ 0) n i h (omega arith) (λ l. sum-zero n f (omega arith) i l)
+
+zero-sum : (n : ℕ) (f : ℕ → ℕ) → ((i : ℕ) → i < n → f i ≡ 0) → sumℕ n f ≡ 0
+unfolding sumℕ
+zero-sum zero f e = refl
+zero-sum (suc n) f e = omega (arith, zero-sum n f (λ i h. e i (omega arith)), e n (omega arith))
+
+count-zero : (b : Bool) → count b ≡ 0 → T b → ⊥
+count-zero true e t = omega arith
+count-zero false e t = t
+
+zero-count : (b : Bool) → (T b → ⊥) → count b ≡ 0
+zero-count true n = absurd (n tt)
+zero-count false n = refl
+
+-- ---- what counts
+equal : (a b : ℤ) → a ≡ b → T (eqZ a b)
+equal a b e = subst (λ (z : ℤ). T (eqZ a z)) e (same a)
+  where
+    same : (a : ℤ) → T (eqZ a a)
+    same (pos n) = eqb-refl n
+    same (negsuc n) = eqb-refl n
+
+or-left : (a b : Bool) → T a → T (a || b)
+or-left true b t = tt
+or-left false b t = absurd t
+
+or-right : (a b : Bool) → T b → T (a || b)
+or-right true b t = tt
+or-right false b t = t
+
+or-none : (a b : Bool) → (T a → ⊥) → (T b → ⊥) → T (a || b) → ⊥
+or-none true b f g t = f tt
+or-none false b f g t = g t
+
+not-railed : (r : Range) (before after : ℤ) → (T (railed r before after) → ⊥) → (after ≡ r .low → ⊥) × (after ≡ r .high → ⊥)
+not-railed r b a n =
+    let l = eqZ a (r .low) in
+    let h = eqZ a (r .high) in
+    (λ e. n (or-left l h (equal a (r .low) e)), λ e. n (or-right l h (equal a (r .high) e)))
+
+railed-not : (r : Range) (before after : ℤ) → (after ≡ r .low → ⊥) × (after ≡ r .high → ⊥) → T (railed r before after) → ⊥
+railed-not r b a n = or-none (eqZ a (r .low)) (eqZ a (r .high)) (λ t. n .0 (eqZ→eq a (r .low) t)) (λ t. n .1 (eqZ→eq a (r .high) t))
+
+module _ (sh : Shape) (c : List ℤ) where
+  abbrev counts : ℕ → ℕ → Bool
+  counts x y = railed (range sh) (rounded (columnSum sh c x y)) (middleAt sh c x y)
+
+  pub no-rails : rails sh c ≡ 0 → Inner sh c
+  unfolding rails
+  no-rails e x y hx hy =
+      let column = sum-zero (keptColumns sh) (λ x. sumℕ (sh .height) (λ y. count (counts x y))) e x hx in
+      let one = sum-zero (sh .height) (λ y. count (counts x y)) column y hy in
+      not-railed (range sh) (rounded (columnSum sh c x y)) (middleAt sh c x y) (count-zero (counts x y) one)
+
+  pub rails-no : Inner sh c → rails sh c ≡ 0
+  unfolding rails
+  rails-no n =
+      zero-sum (keptColumns sh) (λ x. sumℕ (sh .height) (λ y. count (counts x y)))
+      (λ x hx. zero-sum (sh .height) (λ y. count (counts x y))
+      (λ y hy. zero-count (counts x y) (railed-not (range sh) (rounded (columnSum sh c x y)) (middleAt sh c x y) (n x y hx hy))))
+
+  -- a kept column's middle value
+  middle-kept : (x y : ℕ) → x < keptColumns sh → middleAt sh c x y ≡ middle (range sh) (columnSum sh c x y)
+  unfolding middleAt
+  middle-kept x y h = rw (lt-ltb x (keptColumns sh) h)
+
+  pub inner-unaltered : Inner sh c → Unaltered sh c
+  inner-unaltered n x y hx hy =
+      let m = middle-kept x y hx in
+      m ∙ clip-inner (range sh) (rounded (columnSum sh c x y)) (λ e. n x y hx hy .0 (m ∙ e)) (λ e. n x y hx hy .1 (m ∙ e))
