@@ -1,3 +1,4 @@
 pub mod Stored
 pub mod Bound
 pub mod Either
+pub mod Sums

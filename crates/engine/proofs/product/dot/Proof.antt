@@ -13,8 +13,7 @@ use Rattle.algebra.proofs.Sum.{sum-next}
 use Rattle.algebra.proofs.Word.{small}
 use Rattle.engine.specs.Lines.{input}
 use Rattle.engine.specs.Product.{term, lineSum}
-use Rattle.engine.proofs.Sums.{grown, none-yet}
-use Rattle.engine.proofs.Bound.{abs-term}
+use Rattle.engine.proofs.Sums.{grown, none-yet, one-more, reads, abs-term}
 use Rattle.engine.proofs.product.dot.Statement.{statement}
 use Rattle.engine.proofs.product.dot.Tie as tie
 use Rattle.engine.proofs.product.dot.Reads as reads
@@ -23,11 +22,6 @@ use Rattle.engine.proofs.arith.mac.Reads as mac-reads
 use Rattle.engine.proofs.arith.wide.Reads as wide-reads
 use Rattle.engine.proofs.product.factor.Reads as factor-reads
 
--- the products that are added
-abbrev f : tie.Start → ℕ → ℤ
-f s i = term (s .args .forward) (s .args .kind) (s .args .n) (s .args .k) i *ℤ input (s .args .s .now) (s .args .from) (s .args .step) i
-
-
 abbrev Inv-loop : tie.InvT-loop
 Inv-loop t n kind forward s from step count k sum₀ i₀ sum i =
     (i ≤ count) × ((sum ≡ ofZ w32 (lineSum forward kind n i (input s from step) k)) × (natAbs (lineSum forward kind n i (input s from step) k) ≤ i * 2949120))
@@ -35,29 +29,41 @@ Inv-loop t n kind forward s from step count k sum₀ i₀ sum i =
 abbrev μ-loop : tie.MeasureT-loop
 μ-loop t n kind forward s from step count k sum₀ i₀ sum i = count - i
 
+place : (c : tie.In-loop Inv-loop μ-loop) → c .before .before .args .from + c .before .loop .i * c .before .before .args .step < length (c .before .before .args .s .now)
+place c = c .before .before .pre .1 .1 .1 .1 .0 (c .before .loop .i) (c .loop-test .taken)
+
+sofar : (c : tie.In-loop Inv-loop μ-loop) → let s = c .before .before .args in
+    toZ w32 (c .before .loop .sum) ≡ lineSum (s .forward) (s .kind) (s .n) (c .before .loop .i) (input (s .s .now) (s .from) (s .step)) (s .k)
+sofar c = reads (c .before .loop .inv .1 .0) (c .before .loop .inv .1 .1) (omega arith)
+
 -- src/product.rt:45:5
 loop-holds : tie.Need-loop-holds Inv-loop μ-loop
-loop-holds c = search needs
+loop-holds c = 
+    let s = c .args in
+    let e = none-yet (s .forward) (s .kind) (s .n) (input (s .s .now) (s .from) (s .step)) (s .k) in
+    (omega arith, (rw e, rw e (omega arith)))
 
 -- src/product.rt:46:24
 factor-requires : tie.Need-factor-requires Inv-loop μ-loop
-factor-requires c κs = search needs
+factor-requires c κs = 
+    let s = c .before .before in
+    (s .pre .0, record { row = s .pre .1 .0; column = omega arith; table = s .pre .1 .1 .1 .1 .1 })
 
 -- src/product.rt:46:73
 mul-wide : tie.Need-mul-wide Inv-loop μ-loop
-mul-wide c = search needs
+mul-wide c = omega (arith, place (c .before))
 
 -- src/product.rt:46:66
 add-wide : tie.Need-add-wide Inv-loop μ-loop
-add-wide c = search needs
+add-wide c = omega (arith, place (c .before))
 
 -- src/product.rt:46:64
 mul-wide-2 : tie.Need-mul-wide-2 Inv-loop μ-loop
-mul-wide-2 c = search needs
+mul-wide-2 c = omega (arith, place (c .before))
 
 -- src/product.rt:46:64
 shared-slice-copy-out-wide : tie.Need-shared-slice-copy-out-wide Inv-loop μ-loop
-shared-slice-copy-out-wide c = search needs
+shared-slice-copy-out-wide c = place (c .before)
 
 -- src/product.rt:46:59
 wide-requires : tie.Need-wide-requires Inv-loop μ-loop
@@ -65,7 +71,12 @@ wide-requires c κs = search needs
 
 -- src/product.rt:46:9
 mac-requires : tie.Need-mac-requires Inv-loop μ-loop
-mac-requires c κs = search needs
+mac-requires c κs = 
+    let L = c .before .before .before in
+    let s = L .before .before .args in
+    (subst (λ (z : ℤ). natAbs z ≤ 1000000000) (sym (sofar L)) (omega (arith, L .before .loop .inv .1 .1)),
+    (subst (λ (z : ℤ). natAbs z ≤ 90) (sym (toZ-ofZ w32 (c .before .before .factor .result) (search needs) ∙ c .before .before .factor .ensures)) (abs-term (s .forward) (s .kind) (s .n) (s .k) (L .before .loop .i)),
+    subst (λ (z : ℤ). natAbs z ≤ 32768) (sym (toZ-ofZ w32 (c .wide .result) (search needs))) (c .wide .ensures .1)))
 
 -- src/product.rt:47:9
 add-i : tie.Need-add-i Inv-loop μ-loop
