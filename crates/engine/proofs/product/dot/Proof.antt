@@ -82,17 +82,42 @@ mac-requires c κs =
 add-i : tie.Need-add-i Inv-loop μ-loop
 add-i c = search needs
 
+-- the input's size, and one product more
+wideness : (c : tie.After-wide Inv-loop μ-loop) → let L = c .before .before .before .before in let s = L .before .args in
+    toZ w32 (ofZ w32 (c .wide .result)) ≡ input (s .s .now) (s .from) (s .step) (L .loop .i)
+wideness c = toZ-ofZ w32 (c .wide .result) (search needs) ∙ c .wide .ensures .0 ∙ toZ-ofZ w16 _ (record { sfits = c .before .wide-arg .given })
+
+next : (c : tie.After-mac Inv-loop μ-loop) → let L = c .before .before .before .before .before in let s = L .before .args in
+    c .mac .result ≡ lineSum (s .forward) (s .kind) (s .n) (L .loop .i + 1) (input (s .s .now) (s .from) (s .step)) (s .k)
+next c =
+    let L = c .before .before .before .before .before in
+    let s = L .before .args in
+    c .mac .ensures
+    ∙ (λ t. sofar (c .before .before .before .before) t +ℤ (toZ-ofZ w32 (c .before .before .before .factor .result) (search needs) ∙ c .before .before .before .factor .ensures) t *ℤ wideness (c .before) t)
+    ∙ sym (one-more (s .forward) (s .kind) (s .n) (input (s .s .now) (s .from) (s .step)) (s .k) (L .loop .i))
+
 -- src/product.rt:45:5
 loop-less : tie.Need-loop-less Inv-loop μ-loop
 loop-less c = search needs
 
 -- src/product.rt:45:5
 loop-again : tie.Need-loop-again Inv-loop μ-loop
-loop-again c = search needs
+loop-again c = 
+    let L = c .before .before .before .before .before in
+    let s = L .before .args in
+    let x = input (s .s .now) (s .from) (s .step) in
+    let w : natAbs (x (L .loop .i)) ≤ 32768 = subst (λ (z : ℤ). natAbs z ≤ 32768) (sym (toZ-ofZ w32 (c .before .wide .result) (search needs)) ∙ wideness (c .before)) (c .before .wide .ensures .1) in
+    (omega arith, (ap (ofZ w32) (next c),
+    subst (λ (z : ℤ). natAbs z ≤ (L .loop .i + 1) * 2949120) (sym (one-more (s .forward) (s .kind) (s .n) x (s .k) (L .loop .i)))
+    (grown (lineSum (s .forward) (s .kind) (s .n) (L .loop .i) x (s .k)) (term (s .forward) (s .kind) (s .n) (s .k) (L .loop .i)) (x (L .loop .i)) (L .loop .i) (L .loop .inv .1 .1) (abs-term (s .forward) (s .kind) (s .n) (s .k) (L .loop .i)) w)))
 
 -- src/product.rt:39:1
 returns : tie.Need-returns Inv-loop μ-loop
-returns c = search needs
+returns c = 
+    let s = c .before .before .args in
+    let e : c .before .loop .i ≡ s .count = omega arith in
+    reads (c .before .loop .inv .1 .0) (c .before .loop .inv .1 .1) (omega arith)
+    ∙ ap (λ (m : ℕ). lineSum (s .forward) (s .kind) (s .n) m (input (s .s .now) (s .from) (s .step)) (s .k)) e
 
 pub dot-spec : {M : Type 1} → statement M
 dot-spec =
