@@ -19,7 +19,7 @@ use Rattle.algebra.proofs.Table.{allTo, allTo-at, and-left, and-right}
 use Rattle.meaning.specs.Weights.{first, signed, fold, S, C, weight}
 use Rattle.meaning.specs.Line.{forwardSum, inverseSum}
 use Rattle.meaning.specs.Shape.{isSize, isKind}
-use Rattle.meaning.proofs.Cases.{size-cases, line-cases, size-in}
+use Rattle.meaning.proofs.Cases.{size-cases, line-cases, size-in, pick}
 
 -- the sizes of row i, and of the first `count` weights of column j
 abbrev pub rowSize : ℕ → ℕ → ℕ → ℕ
@@ -118,11 +118,6 @@ none-above : (b : ℕ) (ss : List ℕ) → T (noneAbove b ss) → (k : ℕ) → 
 none-above b [] t k = zero-le
 none-above b (s ∷ ss) t zero = leb→le s b (and-left (leb s b) (noneAbove b ss) t)
 none-above b (s ∷ ss) t (suc k) = none-above b ss (and-right (leb s b) (noneAbove b ss) t) k
-
--- either branch of a test
-pick : {A : Type 0} (P : A → Type 0) (b : Bool) {x y : A} → P x → P y → P (cond b x y)
-pick P true p q = p
-pick P false p q = q
 
 first-tested : (n : ℕ) → T (noneAbove 90 (first n))
 unfolding first
