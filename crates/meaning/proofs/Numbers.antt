@@ -1,5 +1,5 @@
 -- "Numbers on both sides", those of lines and blocks: one table, `numbers`, and one theorem, `numbers-hold`. What each entry
--- says is `Says`. Items 5, 9 and 10, which are not marked P, stand in it too, and calls that tell the order of the tests.
+-- says is `Says`. Items 5, 9 and 10, which are not marked P, stand in it too, with calls that tell the low end and the order of the lengths.
 use mathlib.Core.Path.{_≡_, refl}
 use mathlib.Core.List.{List, [], _∷_}
 use Prim.Native.Nat.{ℕ, zero, suc, _*_}
@@ -104,7 +104,10 @@ numbers =
     ∷ inverseRefused (sized 32 4 10) (alone 128 16 (pos 1)) 128 8 16
     -- 10
     ∷ inverseRefused (record { width = 5; height = 4; horizontal = 0; vertical = 0; depth = 7 }) (all 16 (pos 0)) 16 1 0
-    -- both lengths wrong
+    -- the low end counts as well as the high one of 7
+    ∷ counts (sized 4 4 10) (column (pos 0) (negsuc 32766) (negsuc 21064) (pos 0)) 0
+    ∷ counts (sized 4 4 10) (column (pos 0) (negsuc 32766) (negsuc 21065) (pos 0)) 1
+    -- both lengths wrong: the input's is told
     ∷ inverseRefused (sized 4 4 10) (all 15 (pos 0)) 15 6 0
     ∷ []
 
@@ -118,4 +121,4 @@ pub numbers-hold : Hold numbers
 unfolding sum sumℕ tabulate block firstAt first fold S C weight forwardSum inverseSum forwardLine inverseLine isSize isKind isDepth keptColumns keptRows range lastShift columnSum middleAt rails rowSum residual inverseBlock rowValue columnValue coefficient forwardBlock
 numbers-hold =
     refl and refl and refl and refl and refl and refl and refl and refl and refl and refl and refl and refl and refl
-    and refl and refl and refl and refl and refl and refl and none
+    and refl and refl and refl and refl and refl and refl and refl and refl and none

@@ -133,7 +133,7 @@ fold-size : (l : ℕ) (ss : List ℕ) (m : ℕ) → T (noneAbove 90 ss) → natA
 unfolding fold
 fold-size l ss m t =
     let k = min (m % l) (l - m % l) in
-    rw (abs-signed (ltb l m) (pos (getD ss k 0))) (none-above 90 ss t k)
+    rw abs-signed (none-above 90 ss t k)
 
 S-size : (n i j : ℕ) → natAbs (S n i j) ≤ 90
 unfolding S
@@ -143,7 +143,7 @@ S-size n i j =
 
 C-size : (n i j : ℕ) → natAbs (C n i j) ≤ 90
 unfolding C
-C-size n i j = rw (abs-signed (eqb (i % 2) 1) (S n i (n - 1 - j))) (S-size n i (n - 1 - j))
+C-size n i j = rw abs-signed (S-size n i (n - 1 - j))
 
 pub weightSize : (kind n i j : ℕ) → natAbs (weight kind n i j) ≤ 90
 unfolding weight

@@ -72,13 +72,16 @@ module _ (sh : Shape) (t : Taken sh) (c : List ℤ) where
   pub rowSum-fits : (x y : ℕ) → x < sh .width → SFits w32 (rowSum sh c x y)
   rowSum-fits x y h = fits-in tt (within (rowSum sh c x y) (rowSum-in x y h))
 
-  -- the last shift is 8 at least
+  some-last : 8 ≤ lastShift sh
+  unfolding lastShift
+  some-last = let d = depth-cases (sh .depth) (t .depth) in omega arith
+
+  -- 2^26 over 2^8
   pub residual-in : (x y : ℕ) → x < sh .width → natAbs (residual sh c x y) ≤ 262144
-  unfolding residual lastShift
+  unfolding residual
   residual-in x y h =
-      let d = depth-cases (sh .depth) (t .depth) in
-      let p : 256 ≤ 2 ^ (20 - sh .depth) = pow-mono {i = 8} (omega arith) in
-      nearest-in (20 - sh .depth) (rowSum sh c x y) 262144 (omega arith) (omega (arith, rowSum-in x y h))
+      let p : 256 ≤ 2 ^ lastShift sh = pow-mono {i = 8} some-last in
+      nearest-in (lastShift sh) (rowSum sh c x y) 262144 (omega (arith, some-last)) (omega (arith, rowSum-in x y h))
 
   pub residual-fits : (x y : ℕ) → x < sh .width → SFits w32 (residual sh c x y)
   residual-fits x y h = fits-in tt (within (residual sh c x y) (residual-in x y h))
