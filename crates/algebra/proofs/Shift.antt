@@ -9,7 +9,7 @@ use lib.IntN.{ℤ, pos, negsuc, negℤ, natAbs, _+ℤ_, _-ℤ_, _*ℤ_}
 use lib.Signed.{mag, shrZ, _≤ℤ_, _<ℤ_, ≤ℤ-refl}
 use mir.Syntax.{w16}
 use mir.Val.{SFits}
-use Rattle.algebra.specs.Shift.{_>>_}
+use Rattle.algebra.specs.Shift.{_>>_, nearest}
 use Rattle.algebra.proofs.Normal.{Expr, ν, κ, _⊕_, _⊖_, _⊗_, ⊝, ring}
 use Rattle.algebra.proofs.Order.{up, dn, up-neg, dn-neg, parts-add, parts-mul, parts-zero, parts-eq, eq-parts, le-parts, parts-le, lt-parts, parts-abs, abs-parts, abs-mul, linAbs, fact≡, factAbs}
 
@@ -92,3 +92,9 @@ pub shift-in : (z : ℤ) (k B : ℕ) → natAbs z ≤ 2 ^ suc k * B → natAbs (
 shift-in z k B h =
     let h′ = rw (pow-succ' 2 k) at h in
     rw (pow-succ' 2 k) (near-in (shrZ (z +ℤ pos (2 ^ k)) (2 * 2 ^ k)) z (2 ^ k) B (pow-pos k) (round-near z (2 ^ k) (pow-pos k)) h′)
+
+pub nearest-in : (n : ℕ) (z : ℤ) (B : ℕ) → 0 < n → natAbs z ≤ 2 ^ n * B → natAbs (nearest n z) ≤ B
+nearest-in zero z B p h = absurd (omega arith)
+nearest-in (suc k) z B p h =
+    let e : suc k - 1 ≡ k = omega arith in
+    rw e (shift-in z k B h)

@@ -1,0 +1,56 @@
+-- What the tests of a size, of a kind and of a depth leave: each of the accepted numbers, one by one.
+use mathlib.Core.Path.{_≡_, refl, sym, subst}
+use mathlib.Core.Bool.{Bool, true, false, cond, _&&_, _||_}
+use Prim.Native.Nat.{ℕ, _≤_}
+use native.Mathlib.Omega.{arith}
+use borrow.Author.Tests.{eqb-true, leb-true}
+use lib.Dec.{eqb, leb}
+use Rattle.meaning.specs.Shape.{isSize, isKind, isDepth}
+
+-- either branch of a test
+pub pick : {A : Type 0} (P : A → Type 0) (b : Bool) {x y : A} → P x → P y → P (cond b x y)
+pick P true p q = p
+pick P false p q = q
+
+or-cases : (a b : Bool) {P : Type 0} → a || b ≡ true → (a ≡ true → P) → (b ≡ true → P) → P
+or-cases true b h f g = f h
+or-cases false b h f g = g h
+
+and-cases : (a b : Bool) → a && b ≡ true → (a ≡ true) × (b ≡ true)
+and-cases true b h = (refl, h)
+and-cases false b h = absurd (never h)
+  where
+    never : false ≡ true → ⊥
+    never h = let z : _≡_ {A = ℕ} 0 1 = cc in omega arith
+
+module _ (P : ℕ → Type 0) where
+  -- what holds of m holds of a number that passed the test of being m
+  at-number : (n m : ℕ) → P m → eqb n m ≡ true → P n
+  at-number n m p h = subst P (sym (eqb-true n m h)) p
+
+  pub size-cases : P 4 → P 8 → P 16 → P 32 → (n : ℕ) → isSize n ≡ true → P n
+  unfolding isSize
+  size-cases p4 p8 p16 p32 n h =
+      or-cases (eqb n 4) (eqb n 8 || (eqb n 16 || eqb n 32)) h (at-number n 4 p4)
+      (λ h. or-cases (eqb n 8) (eqb n 16 || eqb n 32) h (at-number n 8 p8)
+      (λ h. or-cases (eqb n 16) (eqb n 32) h (at-number n 16 p16) (at-number n 32 p32)))
+
+  pub kind-cases : P 1 → P 2 → (kind : ℕ) → isKind kind ≡ true → P kind
+  unfolding isKind
+  kind-cases p1 p2 kind h = or-cases (eqb kind 1) (eqb kind 2) h (at-number kind 1 p1) (at-number kind 2 p2)
+
+pub depth-cases : (d : ℕ) → isDepth d ≡ true → (8 ≤ d) × (d ≤ 12)
+unfolding isDepth
+depth-cases d h =
+    let both = and-cases (leb 8 d) (leb d 12) h in
+    (leb-true 8 d (both .0), leb-true d 12 (both .1))
+
+-- both kinds at all four sizes
+pub line-cases : (P : ℕ → ℕ → Type 0) → P 1 4 → P 1 8 → P 1 16 → P 1 32 → P 2 4 → P 2 8 → P 2 16 → P 2 32
+    → (kind n : ℕ) → isKind kind ≡ true → isSize n ≡ true → P kind n
+line-cases P s4 s8 s16 s32 c4 c8 c16 c32 kind n k s =
+    kind-cases (λ m. P m n) (size-cases (P 1) s4 s8 s16 s32 n s) (size-cases (P 2) c4 c8 c16 c32 n s) kind k
+
+-- no size is above 32
+pub size-in : (n : ℕ) → isSize n ≡ true → n ≤ 32
+size-in = size-cases (λ n. n ≤ 32) (omega arith) (omega arith) (omega arith) (omega arith)

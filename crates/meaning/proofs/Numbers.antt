@@ -1,0 +1,124 @@
+-- "Numbers on both sides", those of lines and blocks: one table, `numbers`, and one theorem, `numbers-hold`. What each entry
+-- says is `Says`. Items 5, 9 and 10, which are not marked P, stand in it too, with calls that tell the low end and the order of the lengths.
+use mathlib.Core.Path.{_≡_, refl}
+use mathlib.Core.List.{List, [], _∷_}
+use Prim.Native.Nat.{ℕ, zero, suc, _*_}
+use lib.IntN.{ℤ, pos, negsuc}
+use lib.ListN.{length, replicate, set}
+use Rattle.algebra.specs.Sum.{sum, sumℕ}
+use Rattle.algebra.specs.Lists.{at, tabulate, block}
+use Rattle.algebra.specs.First.{firstAt}
+use Rattle.meaning.specs.declared.Shape.{Shape}
+use Rattle.meaning.specs.declared.Answer.{Answer}
+use Rattle.meaning.specs.Weights.{first, fold, S, C, weight}
+use Rattle.meaning.specs.Line.{forwardSum, inverseSum, forwardLine, inverseLine}
+use Rattle.meaning.specs.Shape.{isSize, isKind, isDepth, keptColumns, keptRows, range, lastShift}
+use Rattle.meaning.specs.Answer.{Outcome, refused, accepted, forwardLineOutcome, inverseLineOutcome}
+use Rattle.meaning.specs.Inverse.{columnSum, rounded, middleAt, rails, rowSum, residual, inverseBlock, inverseOutcome}
+use Rattle.meaning.specs.Forward.{rowValue, columnValue, coefficient, forwardBlock, forwardOutcome}
+use Rattle.meaning.proofs.Sharing.{published4}
+
+pub data Item : Type 0 where
+  -- a line of x gives y
+  line : ℕ → List ℤ → List ℤ → Item
+  -- the weights of a kind at n points, row by row
+  weights : ℕ → ℕ → List ℤ → Item
+  -- the middle rounding of e
+  rounding : ℤ → ℤ → Item
+  -- a forward block's first coefficient
+  starts : Shape → List ℤ → ℤ → Item
+  -- an inverse block's rail count, and with it the residuals
+  counts : Shape → List ℤ → ℕ → Item
+  gives : Shape → List ℤ → ℕ → List ℤ → Item
+  -- an inverse block that is taken
+  takes : Shape → List ℤ → Item
+  -- calls that are turned down: number and place, for an output of so many numbers
+  inverseRefused : Shape → List ℤ → ℕ → ℕ → ℕ → Item
+  forwardRefused : Shape → List ℤ → ℕ → ℕ → ℕ → Item
+
+-- what an output of n numbers held before
+abbrev held : ℕ → List ℤ
+held n = replicate n (pos 7)
+
+abbrev area : Shape → ℕ
+area sh = sh .width * sh .height
+
+-- an answer with the first number of the output
+abbrev front : Outcome → Answer × ℤ
+front o = (o .0, at (o .1) 0)
+
+abbrev pub Says : Item → Type 0
+Says (line kind x y) = forwardLineOutcome (length x) kind x (held (length x)) ≡ (accepted 0, y)
+Says (weights kind n t) = block n n (λ j i. weight kind n i j) ≡ t
+Says (rounding e m) = rounded e ≡ m
+Says (starts sh r z) = front (forwardOutcome sh r (held (area sh))) ≡ (accepted 0, z)
+Says (counts sh c n) = inverseOutcome sh c (held (area sh)) .0 ≡ accepted n
+Says (gives sh c n r) = inverseOutcome sh c (held (area sh)) ≡ (accepted n, r)
+Says (takes sh c) = inverseOutcome sh c (held (area sh)) .0 .number ≡ 0
+Says (inverseRefused sh c out number place) = inverseOutcome sh c (held out) ≡ (refused number place, held out)
+Says (forwardRefused sh r out number place) = forwardOutcome sh r (held out) ≡ (refused number place, held out)
+
+-- ---- the calls
+-- kind 1 twice
+abbrev pub sized : ℕ → ℕ → ℕ → Shape
+sized width height depth = record { width = width; height = height; horizontal = 1; vertical = 1; depth = depth }
+
+abbrev pub all : ℕ → ℤ → List ℤ
+all n z = replicate n z
+
+-- n numbers, all 0 but the one at place k
+abbrev pub alone : ℕ → ℕ → ℤ → List ℤ
+alone n k z = set (all n (pos 0)) k z
+
+-- a first column of four, and 0 elsewhere
+abbrev pub column : ℤ → ℤ → ℤ → ℤ → List ℤ
+column a b c d = set (set (set (alone 16 0 a) 4 b) 8 c) 12 d
+
+abbrev pub numbers : List Item
+numbers =
+    -- 1, 2
+    line 1 (all 4 (pos 1)) (pos 242 ∷ pos 74 ∷ pos 36 ∷ pos 16 ∷ [])
+    ∷ line 2 (all 4 (pos 1)) (pos 242 ∷ negsuc 73 ∷ pos 36 ∷ negsuc 15 ∷ [])
+    -- 3
+    ∷ weights 2 4 published4
+    -- 4
+    ∷ starts (sized 4 4 8) (all 16 (pos 255)) (pos 29168)
+    ∷ starts (sized 4 4 8) (all 16 (negsuc 254)) (negsuc 29167)
+    -- 5
+    ∷ forwardRefused (sized 4 4 8) (all 16 (pos 256)) 16 9 0
+    -- 6
+    ∷ rounding (pos 63) (pos 0)
+    ∷ rounding (pos 64) (pos 1)
+    ∷ rounding (negsuc 63) (pos 0)
+    ∷ rounding (negsuc 64) (negsuc 0)
+    -- 7
+    ∷ counts (sized 4 4 10) (column (pos 0) (pos 32767) (pos 21063) (pos 0)) 0
+    ∷ counts (sized 4 4 10) (column (pos 0) (pos 32767) (pos 21064) (pos 0)) 1
+    ∷ counts (sized 4 4 10) (column (pos 0) (pos 32767) (pos 21066) (pos 0)) 1
+    -- 8, as a call
+    ∷ gives (sized 4 4 10) (alone 16 0 (pos 64)) 0
+    (pos 0 ∷ pos 1 ∷ pos 1 ∷ pos 1 ∷ pos 1 ∷ pos 2 ∷ pos 2 ∷ pos 2 ∷ pos 1 ∷ pos 2 ∷ pos 3 ∷ pos 3 ∷ pos 1 ∷ pos 2 ∷ pos 3 ∷ pos 3 ∷ [])
+    ∷ counts (sized 4 4 10) (all 16 (pos 32767)) 4
+    -- 9
+    ∷ takes (sized 32 4 10) (alone 128 15 (pos 1))
+    ∷ inverseRefused (sized 32 4 10) (alone 128 16 (pos 1)) 128 8 16
+    -- 10
+    ∷ inverseRefused (record { width = 5; height = 4; horizontal = 0; vertical = 0; depth = 7 }) (all 16 (pos 0)) 16 1 0
+    -- the low end counts as well as the high one of 7
+    ∷ counts (sized 4 4 10) (column (pos 0) (negsuc 32766) (negsuc 21064) (pos 0)) 0
+    ∷ counts (sized 4 4 10) (column (pos 0) (negsuc 32766) (negsuc 21065) (pos 0)) 1
+    -- both lengths wrong: the input's is told
+    ∷ inverseRefused (sized 4 4 10) (all 15 (pos 0)) 15 6 0
+    ∷ []
+
+-- what a list of items says, all of it
+infixr 5 _and_
+pub data Hold : List Item → Type 0 where
+  none : Hold []
+  _and_ : {i : Item} {is : List Item} → Says i → Hold is → Hold (i ∷ is)
+
+pub numbers-hold : Hold numbers
+unfolding sum sumℕ tabulate block firstAt first fold S C weight forwardSum inverseSum forwardLine inverseLine isSize isKind isDepth keptColumns keptRows range lastShift columnSum middleAt rails rowSum residual inverseBlock rowValue columnValue coefficient forwardBlock
+numbers-hold =
+    refl and refl and refl and refl and refl and refl and refl and refl and refl and refl and refl and refl and refl
+    and refl and refl and refl and refl and refl and refl and refl and refl and none

@@ -1,0 +1,152 @@
+-- Sizes of weights and of a line's sums. No row and no column of weights is above 64 n in size (`rowSizes`, `columnSizes`),
+-- so no sum of a line over inputs of size M is above 64 n M (`forwardSum-in`, `inverseSum-in`), and over 16-bit inputs each
+-- fits 32 bits (`forwardSum-fits`, `inverseSum-fits`). "Biggest row sums of sizes: 242, 475, 935, 1858" is `rowLargest`.
+use mathlib.Core.Path.{_≡_, refl, sym, ap, _∙_, subst}
+use mathlib.Core.Bool.{Bool, true, false, cond, _&&_}
+use mathlib.Core.List.{List, [], _∷_}
+use Prim.Native.Nat.{ℕ, zero, suc, _+_, _*_, _-_, _%_, _≤_, _<_, min, zero-le}
+use native.Mathlib.Nat.{le-trans, mul-le-mul-right}
+use native.Mathlib.Omega.{arith}
+use lib.Dec.{T, eqb, leb, ltb, leb→le}
+use lib.IntN.{ℤ, pos, negℤ, natAbs, _*ℤ_}
+use lib.ListN.{getD}
+use mir.Syntax.{w32}
+use mir.Val.{SFits}
+use Rattle.algebra.specs.Sum.{sum, sumℕ}
+use Rattle.algebra.proofs.Order.{abs-neg, Within, within, fits-in}
+use Rattle.algebra.proofs.Sum.{sumℕ-le, abs-dot}
+use Rattle.algebra.proofs.Table.{allTo, allTo-at, and-left, and-right}
+use Rattle.meaning.specs.Weights.{first, signed, fold, S, C, weight}
+use Rattle.meaning.specs.Line.{forwardSum, inverseSum}
+use Rattle.meaning.specs.Shape.{isSize, isKind}
+use Rattle.meaning.proofs.Cases.{size-cases, line-cases, size-in, pick}
+
+-- the sizes of row i, and of the first `count` weights of column j
+abbrev pub rowSize : ℕ → ℕ → ℕ → ℕ
+rowSize kind n i = sumℕ n (λ j. natAbs (weight kind n i j))
+
+abbrev pub columnSize : ℕ → ℕ → ℕ → ℕ → ℕ
+columnSize kind n count j = sumℕ count (λ i. natAbs (weight kind n i j))
+
+-- "Biggest row sums of sizes: 242, 475, 935, 1858"
+abbrev pub largest : ℕ → ℕ
+largest n = cond (eqb n 4) 242 (cond (eqb n 8) 475 (cond (eqb n 16) 935 1858))
+
+-- ---- one test of a kind and a size, carried to each row and column
+abbrev sizesTo : ℕ → ℕ → ℕ → Bool
+sizesTo bound kind n = allTo n (λ i. leb (rowSize kind n i) bound && leb (columnSize kind n n i) bound)
+
+record Sizes (bound kind n i : ℕ) : Type 0 where
+  row : rowSize kind n i ≤ bound
+  column : columnSize kind n n i ≤ bound
+
+sizes-at : (bound kind n : ℕ) → T (sizesTo bound kind n) → (i : ℕ) → i < n → Sizes bound kind n i
+sizes-at bound kind n t i h =
+    let row = leb (rowSize kind n i) bound in
+    let column = leb (columnSize kind n n i) bound in
+    let both = allTo-at n (λ i. leb (rowSize kind n i) bound && leb (columnSize kind n n i) bound) t i h in
+    record {
+      row = leb→le (rowSize kind n i) bound (and-left row column both);
+      column = leb→le (columnSize kind n n i) bound (and-right row column both);
+    }
+
+module _ (kind n : ℕ) (k : isKind kind ≡ true) (s : isSize n ≡ true) where
+  tested : T (sizesTo (64 * n) kind n)
+  unfolding sumℕ weight S C fold first
+  tested = line-cases (λ kind n. T (sizesTo (64 * n) kind n)) tt tt tt tt tt tt tt tt kind n k s
+
+  largest-tested : T (sizesTo (largest n) kind n)
+  unfolding sumℕ weight S C fold first
+  largest-tested = line-cases (λ kind n. T (sizesTo (largest n) kind n)) tt tt tt tt tt tt tt tt kind n k s
+
+  -- ---- of weights
+  pub rowSizes : (i : ℕ) → i < n → rowSize kind n i ≤ 64 * n
+  rowSizes i h = sizes-at (64 * n) kind n tested i h .row
+
+  pub columnSizes : (j : ℕ) → j < n → columnSize kind n n j ≤ 64 * n
+  columnSizes j h = sizes-at (64 * n) kind n tested j h .column
+
+  pub columnSizesKept : (count j : ℕ) → count ≤ n → j < n → columnSize kind n count j ≤ 64 * n
+  columnSizesKept count j c h =
+      let rest : count + (n - count) ≡ n = omega arith in
+      le-trans (subst (λ m. columnSize kind n count j ≤ columnSize kind n m j) rest (sumℕ-le (n - count) count (λ i. natAbs (weight kind n i j)))) (columnSizes j h)
+
+  -- no row and no column is larger, and the first row is as large
+  pub rowLargest : (i : ℕ) → i < n → rowSize kind n i ≤ largest n
+  rowLargest i h = sizes-at (largest n) kind n largest-tested i h .row
+
+  pub columnLargest : (j : ℕ) → j < n → columnSize kind n n j ≤ largest n
+  columnLargest j h = sizes-at (largest n) kind n largest-tested j h .column
+
+  pub largestReached : rowSize kind n 0 ≡ largest n
+  unfolding sumℕ weight S C fold first
+  largestReached = line-cases (λ kind n. rowSize kind n 0 ≡ largest n) refl refl refl refl refl refl refl refl kind n k s
+
+  -- ---- of sums: what inputs of size M give
+  module _ (x : ℕ → ℤ) (M : ℕ) where
+    pub forwardSum-in : ((j : ℕ) → j < n → natAbs (x j) ≤ M) → (i : ℕ) → i < n → natAbs (forwardSum kind n x i) ≤ 64 * n * M
+    unfolding forwardSum
+    forwardSum-in small i h = le-trans (abs-dot n (λ j. weight kind n i j) x M small) (mul-le-mul-right M (rowSizes i h))
+
+    pub inverseSum-in : (count : ℕ) → count ≤ n → ((i : ℕ) → i < count → natAbs (x i) ≤ M) → (j : ℕ) → j < n → natAbs (inverseSum kind n count x j) ≤ 64 * n * M
+    unfolding inverseSum
+    inverseSum-in count c small j h = le-trans (abs-dot count (λ i. weight kind n i j) x M small) (mul-le-mul-right M (columnSizesKept count j c h))
+
+  -- 16-bit inputs
+  short : {z : ℕ} → z ≤ 64 * n * 32768 → z ≤ 67108864
+  short h = omega (arith, size-in n s)
+
+  module _ (x : ℕ → ℤ) where
+    pub forwardSum-short : ((j : ℕ) → j < n → natAbs (x j) ≤ 32768) → (i : ℕ) → i < n → natAbs (forwardSum kind n x i) ≤ 67108864
+    forwardSum-short small i h = short (forwardSum-in x 32768 small i h)
+
+    pub inverseSum-short : (count : ℕ) → count ≤ n → ((i : ℕ) → i < count → natAbs (x i) ≤ 32768) → (j : ℕ) → j < n → natAbs (inverseSum kind n count x j) ≤ 67108864
+    inverseSum-short count c small j h = short (inverseSum-in x 32768 count c small j h)
+
+    pub forwardSum-fits : ((j : ℕ) → j < n → natAbs (x j) ≤ 32768) → (i : ℕ) → i < n → SFits w32 (forwardSum kind n x i)
+    forwardSum-fits small i h = fits-in tt (within (forwardSum kind n x i) (forwardSum-short small i h))
+
+    pub inverseSum-fits : (count : ℕ) → count ≤ n → ((i : ℕ) → i < count → natAbs (x i) ≤ 32768) → (j : ℕ) → j < n → SFits w32 (inverseSum kind n count x j)
+    inverseSum-fits count c small j h = fits-in tt (within (inverseSum kind n count x j) (inverseSum-short count c small j h))
+
+-- ---- no weight is above 90, of any kind and any size
+abbrev noneAbove : ℕ → List ℕ → Bool
+noneAbove b [] = true
+noneAbove b (s ∷ ss) = leb s b && noneAbove b ss
+
+none-above : (b : ℕ) (ss : List ℕ) → T (noneAbove b ss) → (k : ℕ) → getD ss k 0 ≤ b
+none-above b [] t k = zero-le
+none-above b (s ∷ ss) t zero = leb→le s b (and-left (leb s b) (noneAbove b ss) t)
+none-above b (s ∷ ss) t (suc k) = none-above b ss (and-right (leb s b) (noneAbove b ss) t) k
+
+first-tested : (n : ℕ) → T (noneAbove 90 (first n))
+unfolding first
+first-tested n =
+    let Passed : List ℕ → Type 0 = λ ss. T (noneAbove 90 ss) in
+    pick Passed (eqb n 4) tt (pick Passed (eqb n 8) tt (pick Passed (eqb n 16) tt (pick Passed (eqb n 32) tt tt)))
+
+abs-signed : (b : Bool) (z : ℤ) → natAbs (signed b z) ≡ natAbs z
+abs-signed true z = abs-neg z
+abs-signed false z = refl
+
+fold-size : (l : ℕ) (ss : List ℕ) (m : ℕ) → T (noneAbove 90 ss) → natAbs (fold l ss m) ≤ 90
+unfolding fold
+fold-size l ss m t =
+    let k = min (m % l) (l - m % l) in
+    rw abs-signed (none-above 90 ss t k)
+
+S-size : (n i j : ℕ) → natAbs (S n i j) ≤ 90
+unfolding S
+S-size n i j =
+    let l = 2 * n + 1 in
+    fold-size l (first n) (((2 * i + 1) * (j + 1)) % (2 * l)) (first-tested n)
+
+C-size : (n i j : ℕ) → natAbs (C n i j) ≤ 90
+unfolding C
+C-size n i j = rw abs-signed (S-size n i (n - 1 - j))
+
+pub weightSize : (kind n i j : ℕ) → natAbs (weight kind n i j) ≤ 90
+unfolding weight
+weightSize kind n i j =
+    let Low : ℤ → Type 0 = λ z. natAbs z ≤ 90 in
+    pick Low (eqb kind 1) (S-size n i j) (pick Low (eqb kind 2) (C-size n i j) zero-le)
