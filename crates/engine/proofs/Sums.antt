@@ -47,6 +47,3 @@ pub line-sums : (forward : Bool) (kind n count : ℕ) (x : ℕ → ℤ) → (for
 unfolding lineSum forwardLine inverseLine forwardSum inverseSum
 line-sums true kind n count x e = ap (λ (m : ℕ). tabulate n (λ k. sum m (λ i. weight kind n k i *ℤ x i))) (e refl)
 line-sums false kind n count x e = refl
-
-pub most : {n : ℕ} → isSize n ≡ true → n ≤ 32
-most {n} h = size-cases (λ (n : ℕ). n ≤ 32) (omega arith) (omega arith) (omega arith) (omega arith) n h

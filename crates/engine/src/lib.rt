@@ -1,7 +1,7 @@
 // Internal: lines on lent tables, for `transform` alone. Its functions ask that sizes, lengths and tables were tested or
 // made before, so they have a `requires`; every function that a user calls stands in `transform` and has none.
 // Read tables (the stored weights), arith (sums in 32 bits), product (the full matrix product), fast (the folded line).
-pub mod tables;
 pub mod arith;
-pub mod product;
 pub mod fast;
+pub mod product;
+pub mod tables;

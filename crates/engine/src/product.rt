@@ -1,5 +1,7 @@
 // The full matrix product: each output is the sum of all its products, in the order of the inputs.
-use crate::arith::{mac, negated, wide};
+use crate::arith::mac;
+use crate::arith::negated;
+use crate::arith::wide;
 ghost use mathlib.Core.Path.{_≡_};
 ghost use mathlib.Core.Bool.{true};
 ghost use Prim.Native.Nat.{_≤_, _<_};
@@ -32,24 +34,52 @@ fn factor(t: &[i16], n: usize, kind: u32, forward: bool, k: usize, i: usize) -> 
     requires { ⌜ (isKind kind ≡ true) × Spot n k i (now t) ⌝ }
     ensures { λ r. ⌜ r ≡ term forward kind n k i ⌝ }
 {
-    if forward { entry(t, n, kind, k, i) } else { entry(t, n, kind, i, k) }
+    if forward {
+        entry(t, n, kind, k, i)
+    } else {
+        entry(t, n, kind, i, k)
+    }
 }
 
 // Output k of the line.
-fn dot(t: &[i16], n: usize, kind: u32, forward: bool, s: &[i16], from: usize, step: usize, count: usize, k: usize) -> i32
+fn dot(
+    t: &[i16],
+    n: usize,
+    kind: u32,
+    forward: bool,
+    s: &[i16],
+    from: usize,
+    step: usize,
+    count: usize,
+    k: usize,
+) -> i32
     requires { ⌜ (isKind kind ≡ true) × ((k < n) × ((count ≤ n) × ((n ≤ 32) × (Inside count from step (now s) × Table n (now t))))) ⌝ }
     ensures { λ r. ⌜ r ≡ lineSum forward kind n count (input (now (s .entry)) from step) k ⌝ }
 {
     let mut sum: i32 = 0;
     let mut i = 0;
     while i < count {
-        sum = mac(sum, factor(t, n, kind, forward, k, i), wide(s[from + i * step]));
+        sum = mac(
+            sum,
+            factor(t, n, kind, forward, k, i),
+            wide(s[from + i * step]),
+        );
         i += 1;
     }
     sum
 }
 
-pub fn product(t: &[i16], n: usize, kind: u32, forward: bool, s: &[i16], from: usize, step: usize, count: usize, z: &mut [i32])
+pub fn product(
+    t: &[i16],
+    n: usize,
+    kind: u32,
+    forward: bool,
+    s: &[i16],
+    from: usize,
+    step: usize,
+    count: usize,
+    z: &mut [i32],
+)
     requires { ⌜ Given n kind forward count from step (now t) (now s) (now z) ⌝ }
     ensures { λ _. ⌜ now (z .exit) ≡ line forward kind n count (input (now (s .entry)) from step) ⌝ }
 {

@@ -38,14 +38,14 @@ sofar c = reads (c .before .loop .inv .1 .0) (c .before .loop .inv .1 .1) (omega
 
 -- src/product.rt:45:5
 loop-holds : tie.Need-loop-holds Inv-loop μ-loop
-loop-holds c = 
+loop-holds c =
     let s = c .args in
     let e = none-yet (s .forward) (s .kind) (s .n) (input (s .s .now) (s .from) (s .step)) (s .k) in
     (omega arith, (rw e, rw e (omega arith)))
 
 -- src/product.rt:46:24
 factor-requires : tie.Need-factor-requires Inv-loop μ-loop
-factor-requires c κs = 
+factor-requires c κs =
     let s = c .before .before in
     (s .pre .0, record { row = s .pre .1 .0; column = omega arith; table = s .pre .1 .1 .1 .1 .1 })
 
@@ -71,12 +71,15 @@ wide-requires c κs = search needs
 
 -- src/product.rt:46:9
 mac-requires : tie.Need-mac-requires Inv-loop μ-loop
-mac-requires c κs = 
+mac-requires c κs =
     let L = c .before .before .before in
-    let s = L .before .before .args in
-    (subst (λ (z : ℤ). natAbs z ≤ 1000000000) (sym (sofar L)) (omega (arith, L .before .loop .inv .1 .1)),
-    (subst (λ (z : ℤ). natAbs z ≤ 90) (sym (toZ-ofZ w32 (c .before .before .factor .result) (search needs) ∙ c .before .before .factor .ensures)) (abs-term (s .forward) (s .kind) (s .n) (s .k) (L .before .loop .i)),
-    subst (λ (z : ℤ). natAbs z ≤ 32768) (sym (toZ-ofZ w32 (c .wide .result) (search needs))) (c .wide .ensures .1)))
+    let s = L .before .before .args in (
+      subst (λ (z : ℤ). natAbs z ≤ 1000000000) (sym (sofar L)) (omega (arith, L .before .loop .inv .1 .1)),
+      (
+        subst (λ (z : ℤ). natAbs z ≤ 90) (sym (toZ-ofZ w32 (c .before .before .factor .result) (search needs) ∙ c .before .before .factor .ensures)) (abs-term (s .forward) (s .kind) (s .n) (s .k) (L .before .loop .i)),
+        subst (λ (z : ℤ). natAbs z ≤ 32768) (sym (toZ-ofZ w32 (c .wide .result) (search needs))) (c .wide .ensures .1),
+      ),
+    )
 
 -- src/product.rt:47:9
 add-i : tie.Need-add-i Inv-loop μ-loop
@@ -102,18 +105,22 @@ loop-less c = search needs
 
 -- src/product.rt:45:5
 loop-again : tie.Need-loop-again Inv-loop μ-loop
-loop-again c = 
+loop-again c =
     let L = c .before .before .before .before .before in
     let s = L .before .args in
     let x = input (s .s .now) (s .from) (s .step) in
-    let w : natAbs (x (L .loop .i)) ≤ 32768 = subst (λ (z : ℤ). natAbs z ≤ 32768) (sym (toZ-ofZ w32 (c .before .wide .result) (search needs)) ∙ wideness (c .before)) (c .before .wide .ensures .1) in
-    (omega arith, (ap (ofZ w32) (next c),
-    subst (λ (z : ℤ). natAbs z ≤ (L .loop .i + 1) * 2949120) (sym (one-more (s .forward) (s .kind) (s .n) x (s .k) (L .loop .i)))
-    (grown (lineSum (s .forward) (s .kind) (s .n) (L .loop .i) x (s .k)) (term (s .forward) (s .kind) (s .n) (s .k) (L .loop .i)) (x (L .loop .i)) (L .loop .i) (L .loop .inv .1 .1) (abs-term (s .forward) (s .kind) (s .n) (s .k) (L .loop .i)) w)))
+    let w : natAbs (x (L .loop .i)) ≤ 32768 = subst (λ (z : ℤ). natAbs z ≤ 32768) (sym (toZ-ofZ w32 (c .before .wide .result) (search needs)) ∙ wideness (c .before)) (c .before .wide .ensures .1) in (
+      omega arith,
+      (
+        ap (ofZ w32) (next c),
+        subst (λ (z : ℤ). natAbs z ≤ (L .loop .i + 1) * 2949120) (sym (one-more (s .forward) (s .kind) (s .n) x (s .k) (L .loop .i)))
+            (grown (lineSum (s .forward) (s .kind) (s .n) (L .loop .i) x (s .k)) (term (s .forward) (s .kind) (s .n) (s .k) (L .loop .i)) (x (L .loop .i)) (L .loop .i) (L .loop .inv .1 .1) (abs-term (s .forward) (s .kind) (s .n) (s .k) (L .loop .i)) w),
+      ),
+    )
 
 -- src/product.rt:39:1
 returns : tie.Need-returns Inv-loop μ-loop
-returns c = 
+returns c =
     let s = c .before .before .args in
     let e : c .before .loop .i ≡ s .count = omega arith in
     reads (c .before .loop .inv .1 .0) (c .before .loop .inv .1 .1) (omega arith)

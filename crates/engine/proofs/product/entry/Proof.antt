@@ -44,14 +44,14 @@ negated-requires c κs = subst (λ (z : ℤ). natAbs z ≤ 1000000000) (sym (toZ
 
 -- src/product.rt:19:1
 returns-2 : tie.Need-returns-2
-returns-2 c = 
+returns-2 c =
     let s = c .before .before .before .before in
     toZ-ofZ w32 _ (search needs) ∙ c .negated .ensures ∙ ap negℤ (toZ-ofZ w32 _ (search needs) ∙ c .before .before .stored2 .ensures)
     ∙ sym (dct-odd (s .args .kind) (c .before .before .before .if1 .left) (s .pre .0) _ _ _ (c .before .if2 .taken))
 
 -- src/product.rt:19:1
 returns-3 : tie.Need-returns-3
-returns-3 c = 
+returns-3 c =
     let s = c .before .before .before in
     toZ-ofZ w32 _ (search needs) ∙ c .before .stored2 .ensures
     ∙ sym (dct-even (s .args .kind) (c .before .before .if1 .left) (s .pre .0) _ _ _ (c .if2 .left))

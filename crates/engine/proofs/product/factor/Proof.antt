@@ -21,14 +21,14 @@ entry-requires-2 c κs = (c .before .pre .0, record { row = c .before .pre .1 .c
 
 -- src/product.rt:31:1
 returns : tie.Need-returns
-returns c = 
+returns c =
     let s = c .before .before .args in
     toZ-ofZ w32 _ (search needs) ∙ c .entry .ensures
     ∙ ap (λ (b : Bool). cond b (weight (s .kind) (s .n) (s .k) (s .i)) (weight (s .kind) (s .n) (s .i) (s .k))) (sym (c .before .if1 .taken))
 
 -- src/product.rt:31:1
 returns-2 : tie.Need-returns-2
-returns-2 c = 
+returns-2 c =
     let s = c .before .before .args in
     toZ-ofZ w32 _ (search needs) ∙ c .entry2 .ensures
     ∙ ap (λ (b : Bool). cond b (weight (s .kind) (s .n) (s .k) (s .i)) (weight (s .kind) (s .n) (s .i) (s .k))) (sym (c .before .if1 .left))

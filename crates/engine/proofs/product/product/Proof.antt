@@ -8,7 +8,8 @@ use mir.ValLaws.{toZ-ofZ}
 use Rattle.algebra.proofs.Lists.{Filled, fill-none, fill-first, filled}
 use Rattle.engine.specs.Lines.{input}
 use Rattle.engine.specs.Product.{lineSum}
-use Rattle.engine.proofs.Sums.{line-sums, most}
+use Rattle.meaning.proofs.Cases.{size-in}
+use Rattle.engine.proofs.Sums.{line-sums}
 use Rattle.engine.proofs.product.product.Statement.{statement}
 use Rattle.engine.proofs.product.product.Tie as tie
 use Rattle.engine.proofs.product.product.Reads as reads
@@ -28,9 +29,9 @@ loop-holds c = (omega arith, fill-none 0 _ _)
 
 -- src/product.rt:58:16
 dot-requires : tie.Need-dot-requires Inv-loop μ-loop
-dot-requires c κs = 
+dot-requires c κs =
     let p = c .before .before .pre in
-    (p .known, (c .loop-test .taken, (p .some, (most (p .size), (p .inside, p .table)))))
+    (p .known, (c .loop-test .taken, (p .some, (size-in _ (p .size), (p .inside, p .table)))))
 
 -- src/product.rt:58:9
 mul-t13 : tie.Need-mul-t13 Inv-loop μ-loop
@@ -38,7 +39,9 @@ mul-t13 c = search needs
 
 -- src/product.rt:58:9
 slice-set-from-z : tie.Need-slice-set-from-z Inv-loop μ-loop
-slice-set-from-z c = search needs
+slice-set-from-z c =
+    let L = c .before .before in
+    omega (arith, L .loop .inv .1 .long, L .before .pre .long)
 
 -- src/product.rt:59:9
 add-k : tie.Need-add-k Inv-loop μ-loop
@@ -50,15 +53,24 @@ loop-less c = search needs
 
 -- src/product.rt:57:5
 loop-again : tie.Need-loop-again Inv-loop μ-loop
-loop-again c = search needs
+loop-again c =
+    let L = c .before .before in
+    let s = L .before in
+    (omega arith, fill-first _ (omega (arith, s .pre .long)) (L .loop .inv .1) (toZ-ofZ w32 (c .dot .result) (search needs) ∙ c .dot .ensures))
 
 -- src/product.rt:52:1
 same-length : tie.Need-same-length Inv-loop μ-loop
-same-length c = search needs
+same-length c = c .before .loop .inv .1 .long
 
 -- src/product.rt:52:1
 returns : tie.Need-returns Inv-loop μ-loop
-returns c = search needs
+returns c =
+    let s = c .before .before in
+    let a = s .args in
+    let e : c .before .loop .k ≡ a .n = omega arith in
+    let x = input (a .s .now) (a .from) (a .step) in
+    filled (s .pre .long) (subst (λ (k : ℕ). Filled 0 k (c .before .loop .z) (a .z .now) (lineSum (a .forward) (a .kind) (a .n) (a .count) x)) e (c .before .loop .inv .1))
+    ∙ line-sums (a .forward) (a .kind) (a .n) (a .count) x (s .pre .all)
 
 pub product-spec : {M : Type 1} → statement M
 product-spec =

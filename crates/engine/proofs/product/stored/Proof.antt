@@ -37,7 +37,7 @@ wide-requires c κs = search needs
 
 -- src/product.rt:11:1
 returns : tie.Need-returns
-returns c = 
+returns c =
     let s = c .before .before in
     toZ-ofZ w32 _ (search needs) ∙ c .wide .ensures .0 ∙ toZ-ofZ w16 _ (record { sfits = c .before .wide-arg .given })
     ∙ s .pre .table .right (s .args .i) (s .args .j) (s .pre .row) (s .pre .column)
