@@ -10,3 +10,4 @@ pub mod Table
 pub mod Lists
 pub mod First
 pub mod Unique
+pub mod Refusals

@@ -12,3 +12,7 @@ pub record Refusal : Type 0 where
 abbrev pub firstOf : {A : Type 0} → List Refusal → (ℕ → ℕ → A) → A → A
 firstOf [] refused done = done
 firstOf (t ∷ ts) refused done = cond (t .applies) (refused (t .number) (t .place)) (firstOf ts refused done)
+
+-- its number alone, and 0 where none applies
+abbrev pub numberOf : List Refusal → ℕ
+numberOf tests = firstOf tests (λ number place. number) 0

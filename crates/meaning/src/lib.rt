@@ -1,6 +1,9 @@
 // What every call means: the structs that calls share, the definitions that their contracts cite (specs/, in the order of
 // the scope: Weights, Line, Shape, Answer, Inverse, Forward, Exact), and the theorems that follow from these alone (proofs/).
 ghost use mathlib.Core.Path.{_≡_};
+ghost use Rattle.algebra.specs.Refusals.{numberOf};
+ghost use Rattle.meaning.specs.Shape.{isSize, isKind, isDepth};
+ghost use Rattle.meaning.specs.Answer.{shapeTests};
 
 /// What a block is: its sides, a kind for each direction, and its bit depth. Any numbers.
 #[repr(C)]
@@ -24,6 +27,28 @@ impl Shape {
             depth,
         }
     }
+
+    /// The number of the first of the refusals 1 to 5 that applies, or 0.
+    pub fn refusal(self) -> u32
+        ensures { λ r. ⌜ r ≡ numberOf (shapeTests self) ⌝ }
+    {
+        if !is_size(self.width) {
+            return 1;
+        }
+        if !is_size(self.height) {
+            return 2;
+        }
+        if !is_kind(self.horizontal) {
+            return 3;
+        }
+        if !is_kind(self.vertical) {
+            return 4;
+        }
+        if !is_depth(self.depth) {
+            return 5;
+        }
+        0
+    }
 }
 
 /// What a call hands back beside its output: the number of the refusal or 0, its place, and the rail count.
@@ -32,4 +57,22 @@ pub struct Answer {
     pub number: u32,
     pub place: u32,
     pub rails: u32,
+}
+
+pub fn is_size(n: u32) -> bool
+    ensures { λ r. ⌜ r ≡ isSize n ⌝ }
+{
+    n == 4 || n == 8 || n == 16 || n == 32
+}
+
+pub fn is_kind(kind: u32) -> bool
+    ensures { λ r. ⌜ r ≡ isKind kind ⌝ }
+{
+    kind == 1 || kind == 2
+}
+
+pub fn is_depth(d: u32) -> bool
+    ensures { λ r. ⌜ r ≡ isDepth d ⌝ }
+{
+    8 <= d && d <= 12
 }
