@@ -1,0 +1,76 @@
+-- What a block's call that hands back number 0 has passed: every test of its list (`inverse-accepted`, `forward-accepted`).
+use mathlib.Core.Path.{_≡_, refl}
+use mathlib.Core.Bool.{Bool, true, false, not, cond, _&&_}
+use mathlib.Core.List.{List, [], _∷_, _++_}
+use Prim.Native.Nat.{ℕ, zero, suc, _*_, _-_, _^_}
+use native.Mathlib.Omega.{arith}
+use borrow.Author.Tests.{eqb-true, not-false}
+use lib.Dec.{T, eqb, ltb}
+use lib.IntN.{ℤ}
+use lib.ListN.{length}
+use Rattle.algebra.specs.Refusals.{Refusal}
+use Rattle.algebra.proofs.Table.{and-left, and-right}
+use Rattle.meaning.specs.declared.Shape.{Shape}
+use Rattle.meaning.specs.Shape.{isSize, isKind, isDepth}
+use Rattle.meaning.specs.Answer.{Outcome, outcome, accepted, refused, test, shapeTests, lengthTests}
+use Rattle.meaning.specs.Inverse.{rails, inverseBlock, firstOutside, inverseTests, inverseOutcome}
+use Rattle.meaning.specs.Forward.{firstTooLarge, forwardBlock, forwardTests, forwardOutcome}
+use Rattle.meaning.proofs.Taken.{Taken}
+use Rattle.meaning.proofs.Small.{NoneAbove, none-too-large}
+
+-- no test of the list applies
+abbrev Clear : List Refusal → Type 0
+Clear [] = Unit {0}
+Clear (t ∷ ts) = (t .applies ≡ false) × Clear ts
+
+-- no number of the list is 0
+abbrev numbered : List Refusal → Bool
+numbered [] = true
+numbered (t ∷ ts) = not (eqb (t .number) 0) && numbered ts
+
+clear : (ts : List Refusal) (out : List ℤ) (done : Outcome) → T (numbered ts) → outcome ts out done .0 .number ≡ 0 → Clear ts
+clear [] out done n e = tt
+clear (t ∷ ts) out done n e =
+    first (t .applies) (t .number) (and-left (not (eqb (t .number) 0)) (numbered ts) n) (λ e. clear ts out done (and-right (not (eqb (t .number) 0)) (numbered ts) n) e) e
+  where
+    first : (b : Bool) (number : ℕ) → T (not (eqb number 0)) → (outcome ts out done .0 .number ≡ 0 → Clear ts)
+        → cond b (refused number (t .place), out) (outcome ts out done) .0 .number ≡ 0 → (b ≡ false) × Clear ts
+    first true zero n next e = absurd n
+    first true (suc k) n next e = absurd (omega arith)
+    first false number n next e = (refl, next e)
+
+-- the tests that both directions share
+pub record Whole (sh : Shape) (input output : List ℤ) : Type 0 where
+  pub taken : Taken sh
+  pub long : length input ≡ sh .width * sh .height
+  pub room : length output ≡ sh .width * sh .height
+
+module _ (sh : Shape) (input output : List ℤ) where
+  -- 1 to 7, and then one more
+  whole : (last : Bool) → Clear (shapeTests sh ++ lengthTests (sh .width * sh .height) (length input) (length output) ++ (test last 0 ∷ []))
+      → Whole sh input output × (last ≡ false)
+  whole last (w, (h, (k, (v, (d, (i, (o, (l, _)))))))) =
+      let area = sh .width * sh .height in (
+        record {
+          taken = record {
+            width = not-false (isSize (sh .width)) w;
+            height = not-false (isSize (sh .height)) h;
+            horizontal = not-false (isKind (sh .horizontal)) k;
+            vertical = not-false (isKind (sh .vertical)) v;
+            depth = not-false (isDepth (sh .depth)) d;
+          };
+          long = eqb-true (length input) area (not-false (eqb (length input) area) i);
+          room = eqb-true (length output) area (not-false (eqb (length output) area) o);
+        },
+        l,
+      )
+
+  -- .. and no coefficient stands outside the kept part
+  pub inverse-accepted : inverseOutcome sh input output .0 .number ≡ 0 → Whole sh input output × (ltb (firstOutside sh input) (length input) ≡ false)
+  inverse-accepted e = whole (ltb (firstOutside sh input) (length input)) (clear (inverseTests sh input output) output (accepted (rails sh input), inverseBlock sh input) tt e)
+
+  -- .. and no residual is too large
+  pub forward-accepted : forwardOutcome sh input output .0 .number ≡ 0 → Whole sh input output × NoneAbove (2 ^ sh .depth - 1) input
+  forward-accepted e =
+      let p = whole (ltb (firstTooLarge sh input) (length input)) (clear (forwardTests sh input output) output (accepted 0, forwardBlock sh input) tt e) in
+      (p .0, none-too-large sh input (p .1))
