@@ -18,22 +18,27 @@ not-zero : (n : ℕ) → T (not (eqb n 0)) → n ≡ 0 → ⊥
 not-zero n t e = subst (λ (m : ℕ). T (not (eqb m 0))) e t
 
 module _ {A : Type 0} (us : List Refusal) (f : ℕ → ℕ → A) (d : A) where
+  -- one test, whether it applies or not, before tests of which the law holds
+  refused-here : (b : Bool) (number place : ℕ) (ts : List Refusal) → T (eqb place 0) → ((numberOf ts ≡ 0 → ⊥) → firstOf (ts ++ us) f d ≡ f (numberOf ts) 0)
+      → (cond b number (numberOf ts) ≡ 0 → ⊥) → cond b (f number place) (firstOf (ts ++ us) f d) ≡ f (cond b number (numberOf ts)) 0
+  refused-here true number place ts z next n = ap (f number) (eqb→eq place 0 z)
+  refused-here false number place ts z next n = next n
+
+  passed-here : (b : Bool) (number place : ℕ) (ts : List Refusal) → T (not (eqb number 0)) → (numberOf ts ≡ 0 → firstOf (ts ++ us) f d ≡ firstOf us f d)
+      → cond b number (numberOf ts) ≡ 0 → cond b (f number place) (firstOf (ts ++ us) f d) ≡ firstOf us f d
+  passed-here true number place ts z next e = absurd (not-zero number z e)
+  passed-here false number place ts z next e = next e
+
   pub refused-first : (ts : List Refusal) → T (plain ts) → (numberOf ts ≡ 0 → ⊥) → firstOf (ts ++ us) f d ≡ f (numberOf ts) 0
   refused-first [] p n = absurd (n refl)
-  refused-first (t ∷ ts) p n = go (t .applies) n
-    where
-      here = and-left (not (eqb (t .number) 0) && eqb (t .place) 0) (plain ts) p
-      rest = and-right (not (eqb (t .number) 0) && eqb (t .place) 0) (plain ts) p
-      go : (b : Bool) → (cond b (t .number) (numberOf ts) ≡ 0 → ⊥) → cond b (f (t .number) (t .place)) (firstOf (ts ++ us) f d) ≡ f (cond b (t .number) (numberOf ts)) 0
-      go true n = ap (f (t .number)) (eqb→eq (t .place) 0 (and-right (not (eqb (t .number) 0)) (eqb (t .place) 0) here))
-      go false n = refused-first ts rest n
+  refused-first (t ∷ ts) p n =
+      let here = and-left (not (eqb (t .number) 0) && eqb (t .place) 0) (plain ts) p in
+      refused-here (t .applies) (t .number) (t .place) ts (and-right (not (eqb (t .number) 0)) (eqb (t .place) 0) here)
+      (λ m. refused-first ts (and-right (not (eqb (t .number) 0) && eqb (t .place) 0) (plain ts) p) m) n
 
   pub passed-first : (ts : List Refusal) → T (plain ts) → numberOf ts ≡ 0 → firstOf (ts ++ us) f d ≡ firstOf us f d
   passed-first [] p e = refl
-  passed-first (t ∷ ts) p e = go (t .applies) e
-    where
-      here = and-left (not (eqb (t .number) 0) && eqb (t .place) 0) (plain ts) p
-      rest = and-right (not (eqb (t .number) 0) && eqb (t .place) 0) (plain ts) p
-      go : (b : Bool) → cond b (t .number) (numberOf ts) ≡ 0 → cond b (f (t .number) (t .place)) (firstOf (ts ++ us) f d) ≡ firstOf us f d
-      go true e = absurd (not-zero (t .number) (and-left (not (eqb (t .number) 0)) (eqb (t .place) 0) here) e)
-      go false e = passed-first ts rest e
+  passed-first (t ∷ ts) p e =
+      let here = and-left (not (eqb (t .number) 0) && eqb (t .place) 0) (plain ts) p in
+      passed-here (t .applies) (t .number) (t .place) ts (and-left (not (eqb (t .number) 0)) (eqb (t .place) 0) here)
+      (λ m. passed-first ts (and-right (not (eqb (t .number) 0) && eqb (t .place) 0) (plain ts) p) m) e

@@ -1,83 +1,84 @@
--- What an accepted inverse call says of its arguments, and what it hands back. Assumes nothing.
---   inverse-accepted: a call that hands back number 0 passed every test
---   inverse-done:     a call that passed every test hands back number 0, place 0, the rail count, and leaves the block
+-- What a block's call that hands back number 0 has passed: every test of its list (`inverse-accepted`, `forward-accepted`);
+-- and what an inverse call that has passed them hands back (`inverse-done`).
 use mathlib.Core.Path.{_≡_, refl}
-use mathlib.Core.Bool.{Bool, true, false, cond, _&&_, false≢true}
-use mathlib.Core.List.{List, [], _∷_}
-use Prim.Native.Nat.{ℕ, _*_, _≤_, _<_}
+use mathlib.Core.Bool.{Bool, true, false, not, cond, _&&_}
+use mathlib.Core.List.{List, [], _∷_, _++_}
+use Prim.Native.Nat.{ℕ, zero, suc, _*_, _-_, _^_}
 use native.Mathlib.Omega.{arith}
-use borrow.Author.Tests.{ltb-false, leb-true, eqb-true, not-false, le-ltb, eq-eqb}
-use lib.Dec.{T, ltb, leb, eqb, ltb→lt}
+use borrow.Author.Tests.{eqb-true, not-false, eq-eqb}
+use lib.Dec.{T, eqb, ltb}
 use lib.IntN.{ℤ}
 use lib.ListN.{length}
 use Rattle.algebra.specs.Refusals.{Refusal}
 use Rattle.algebra.proofs.Table.{and-left, and-right}
 use Rattle.meaning.specs.declared.Shape.{Shape}
 use Rattle.meaning.specs.Shape.{isSize, isKind, isDepth}
-use Rattle.meaning.specs.Answer.{Outcome, outcome, accepted, refused}
+use Rattle.meaning.specs.Answer.{Outcome, outcome, accepted, refused, test, shapeTests, lengthTests}
 use Rattle.meaning.specs.Inverse.{rails, inverseBlock, firstOutside, inverseTests, inverseOutcome}
+use Rattle.meaning.specs.Forward.{firstTooLarge, forwardBlock, forwardTests, forwardOutcome}
 use Rattle.meaning.proofs.Taken.{Taken}
+use Rattle.meaning.proofs.Small.{NoneAbove, none-too-large}
 
-pub record Accepted (sh : Shape) (c out : List ℤ) : Type 0 where
-  pub shape : Taken sh
-  pub input : length c ≡ sh .width * sh .height
-  pub output : length out ≡ sh .width * sh .height
-  pub kept : length c ≤ firstOutside sh c
+-- no test of the list applies
+abbrev Clear : List Refusal → Type 0
+Clear [] = Unit {0}
+Clear (t ∷ ts) = (t .applies ≡ false) × Clear ts
 
--- ---- over any list of tests, whose numbers are above 0
+-- no number of the list is 0
 abbrev numbered : List Refusal → Bool
 numbered [] = true
-numbered (t ∷ ts) = ltb 0 (t .number) && numbered ts
+numbered (t ∷ ts) = not (eqb (t .number) 0) && numbered ts
 
--- none applies
-abbrev pub Passed : List Refusal → Type 0
-Passed [] = Unit {0}
-Passed (t ∷ ts) = (t .applies ≡ false) × Passed ts
-
-step : (b : Bool) (n place : ℕ) (out : List ℤ) (o : Outcome) → 0 < n → cond b (refused n place, out) o .0 .number ≡ 0 → (b ≡ false) × (o .0 .number ≡ 0)
-step true n place out o h e = absurd (omega arith)
-step false n place out o h e = (refl, e)
-
-pub passed : (ts : List Refusal) (out : List ℤ) (o : Outcome) → T (numbered ts) → outcome ts out o .0 .number ≡ 0 → Passed ts
-passed [] out o t e = tt
-passed (r ∷ rs) out o t e =
-    let s = step (r .applies) (r .number) (r .place) out (outcome rs out o) (ltb→lt 0 (r .number) (and-left (ltb 0 (r .number)) (numbered rs) t)) e in
-    (s .0, passed rs out o (and-right (ltb 0 (r .number)) (numbered rs) t) (s .1))
-
--- ---- the inverse
-module _ (sh : Shape) (c out : List ℤ) where
-  pub inverse-accepted : inverseOutcome sh c out .0 .number ≡ 0 → Accepted sh c out
-  inverse-accepted e =
-      let p = passed (inverseTests sh c out) out (accepted (rails sh c), inverseBlock sh c) tt e in
-      let q = p .1 .1 .1 .1 .1 in
-      let n = sh .width * sh .height in
-      record {
-        shape =
-            record {
-              width = not-false (isSize (sh .width)) (p .0);
-              height = not-false (isSize (sh .height)) (p .1 .0);
-              horizontal = not-false (isKind (sh .horizontal)) (p .1 .1 .0);
-              vertical = not-false (isKind (sh .vertical)) (p .1 .1 .1 .0);
-              depth = not-false (isDepth (sh .depth)) (p .1 .1 .1 .1 .0);
-            };
-        input = eqb-true (length c) n (not-false (eqb (length c) n) (q .0));
-        output = eqb-true (length out) n (not-false (eqb (length out) n) (q .1 .0));
-        kept = ltb-false (firstOutside sh c) (length c) (q .1 .1 .0);
-      }
-
-  pub inverse-done : Accepted sh c out → inverseOutcome sh c out ≡ (accepted (rails sh c), inverseBlock sh c)
-  inverse-done a =
-      let s = a .shape in
-      let n = sh .width * sh .height in
-      rw (s .width, s .height, s .horizontal, s .vertical, s .depth, eq-eqb (length c) n (a .input), eq-eqb (length out) n (a .output), le-ltb (firstOutside sh c) (length c) (a .kept))
-
--- ---- "Bit depths d = 8 to 12"
-pub depth-range : (d : ℕ) → isDepth d ≡ true → (8 ≤ d) × (d ≤ 12)
-unfolding isDepth
-depth-range d e =
-    let p = and-true (leb 8 d) (leb d 12) e in
-    (leb-true 8 d (p .0), leb-true d 12 (p .1))
+clear : (ts : List Refusal) (out : List ℤ) (done : Outcome) → T (numbered ts) → outcome ts out done .0 .number ≡ 0 → Clear ts
+clear [] out done n e = tt
+clear (t ∷ ts) out done n e =
+    first (t .applies) (t .number) (and-left (not (eqb (t .number) 0)) (numbered ts) n) (λ e. clear ts out done (and-right (not (eqb (t .number) 0)) (numbered ts) n) e) e
   where
-    and-true : (a b : Bool) → a && b ≡ true → (a ≡ true) × (b ≡ true)
-    and-true true b e = (refl, e)
-    and-true false b e = absurd (false≢true e)
+    first : (b : Bool) (number : ℕ) → T (not (eqb number 0)) → (outcome ts out done .0 .number ≡ 0 → Clear ts)
+        → cond b (refused number (t .place), out) (outcome ts out done) .0 .number ≡ 0 → (b ≡ false) × Clear ts
+    first true zero n next e = absurd n
+    first true (suc k) n next e = absurd (omega arith)
+    first false number n next e = (refl, next e)
+
+-- the tests that both directions share
+pub record Whole (sh : Shape) (input output : List ℤ) : Type 0 where
+  pub taken : Taken sh
+  pub long : length input ≡ sh .width * sh .height
+  pub room : length output ≡ sh .width * sh .height
+
+module _ (sh : Shape) (input output : List ℤ) where
+  -- 1 to 7, and then one more
+  whole : (last : Bool) → Clear (shapeTests sh ++ lengthTests (sh .width * sh .height) (length input) (length output) ++ (test last 0 ∷ []))
+      → Whole sh input output × (last ≡ false)
+  whole last (w, (h, (k, (v, (d, (i, (o, (l, _)))))))) =
+      let area = sh .width * sh .height in (
+        record {
+          taken = record {
+            width = not-false (isSize (sh .width)) w;
+            height = not-false (isSize (sh .height)) h;
+            horizontal = not-false (isKind (sh .horizontal)) k;
+            vertical = not-false (isKind (sh .vertical)) v;
+            depth = not-false (isDepth (sh .depth)) d;
+          };
+          long = eqb-true (length input) area (not-false (eqb (length input) area) i);
+          room = eqb-true (length output) area (not-false (eqb (length output) area) o);
+        },
+        l,
+      )
+
+  -- .. and no coefficient stands outside the kept part
+  pub inverse-accepted : inverseOutcome sh input output .0 .number ≡ 0 → Whole sh input output × (ltb (firstOutside sh input) (length input) ≡ false)
+  inverse-accepted e = whole (ltb (firstOutside sh input) (length input)) (clear (inverseTests sh input output) output (accepted (rails sh input), inverseBlock sh input) tt e)
+
+  -- .. and no residual is too large
+  pub forward-accepted : forwardOutcome sh input output .0 .number ≡ 0 → Whole sh input output × NoneAbove (2 ^ sh .depth - 1) input
+  forward-accepted e =
+      let p = whole (ltb (firstTooLarge sh input) (length input)) (clear (forwardTests sh input output) output (accepted 0, forwardBlock sh input) tt e) in
+      (p .0, none-too-large sh input (p .1))
+
+  -- number 0, place 0, the rail count, and the block
+  pub inverse-done : Whole sh input output × (ltb (firstOutside sh input) (length input) ≡ false) → inverseOutcome sh input output ≡ (accepted (rails sh input), inverseBlock sh input)
+  inverse-done (a, e) =
+      let s = a .taken in
+      let n = sh .width * sh .height in
+      rw (s .width, s .height, s .horizontal, s .vertical, s .depth, eq-eqb (length input) n (a .long), eq-eqb (length output) n (a .room), e)

@@ -21,7 +21,8 @@ use Rattle.meaning.specs.Answer.{Outcome}
 use Rattle.meaning.specs.Inverse.{columnSum, rounded, middleAt, residual, rails, inverseBlock, inverseOutcome}
 use Rattle.meaning.specs.Exact.{exact, weightSizes, middleRoundings, lastRounding}
 use Rattle.meaning.proofs.Taken.{Taken}
-use Rattle.meaning.proofs.Accepted.{inverse-accepted, inverse-done, depth-range}
+use Rattle.meaning.proofs.Accepted.{inverse-accepted, inverse-done}
+use Rattle.meaning.proofs.Cases.{depth-cases}
 use Rattle.meaning.proofs.Parts.{middles-near, last-near, two-parts}
 use Rattle.meaning.proofs.NoRails.{Unaltered, Inner, no-rails, inner-unaltered}
 use Rattle.meaning.proofs.Narrow.{narrow-sizes}
@@ -38,14 +39,14 @@ pub near-taken : (sh : Shape) (c : List ℤ) → Taken sh → Unaltered sh c →
     → natAbs (pos (2 ^ (27 - sh .depth)) *ℤ residual sh c x y -ℤ exact sh c x y) ≤ 64 * (weightSizes sh x + 2 ^ (20 - sh .depth))
 unfolding lastShift
 near-taken sh c taken same x y hy =
-    let d = depth-range (sh .depth) (taken .depth) in
+    let d = depth-cases (sh .depth) (taken .depth) in
     let e : 7 + (20 - sh .depth) ≡ 27 - sh .depth = omega arith in
     rw e at (near-exact sh c x y (omega arith) (λ i hi. same i y hi hy))
 
 -- of an accepted call: column x of row y
 module _ (sh : Shape) (c out : List ℤ) (number : inverseOutcome sh c out .0 .number ≡ 0) (x y : ℕ) (hx : x < sh .width) (hy : y < sh .height) where
   taken : Taken sh
-  taken = inverse-accepted sh c out number .shape
+  taken = inverse-accepted sh c out number .0 .taken
 
   -- the residual in the block that is handed back
   element : at (inverseBlock sh c) (x + y * sh .width) ≡ residual sh c x y

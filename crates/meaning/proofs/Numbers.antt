@@ -2,7 +2,7 @@
 -- says is `Says`. Items 5, 9 and 10, which are not marked P, stand in it too, with calls that tell the low end and the order of the lengths.
 use mathlib.Core.Path.{_≡_, refl}
 use mathlib.Core.List.{List, [], _∷_}
-use Prim.Native.Nat.{ℕ, zero, suc, _*_}
+use Prim.Native.Nat.{ℕ, _*_}
 use lib.IntN.{ℤ, pos, negsuc}
 use lib.ListN.{length, replicate, set}
 use Rattle.algebra.specs.Sum.{sum, sumℕ}
@@ -11,9 +11,9 @@ use Rattle.algebra.specs.First.{firstAt}
 use Rattle.meaning.specs.declared.Shape.{Shape}
 use Rattle.meaning.specs.declared.Answer.{Answer}
 use Rattle.meaning.specs.Weights.{first, fold, S, C, weight}
-use Rattle.meaning.specs.Line.{forwardSum, inverseSum, forwardLine, inverseLine}
+use Rattle.meaning.specs.Line.{forwardSum, inverseSum, forwardLine}
 use Rattle.meaning.specs.Shape.{isSize, isKind, isDepth, keptColumns, keptRows, range, lastShift}
-use Rattle.meaning.specs.Answer.{Outcome, refused, accepted, forwardLineOutcome, inverseLineOutcome}
+use Rattle.meaning.specs.Answer.{Outcome, refused, accepted, forwardLineOutcome}
 use Rattle.meaning.specs.Inverse.{columnSum, rounded, middleAt, rails, rowSum, residual, inverseBlock, inverseOutcome}
 use Rattle.meaning.specs.Forward.{rowValue, columnValue, coefficient, forwardBlock, forwardOutcome}
 use Rattle.meaning.proofs.Sharing.{published4}
@@ -118,7 +118,7 @@ pub data Hold : List Item → Type 0 where
   _and_ : {i : Item} {is : List Item} → Says i → Hold is → Hold (i ∷ is)
 
 pub numbers-hold : Hold numbers
-unfolding sum sumℕ tabulate block firstAt first fold S C weight forwardSum inverseSum forwardLine inverseLine isSize isKind isDepth keptColumns keptRows range lastShift columnSum middleAt rails rowSum residual inverseBlock rowValue columnValue coefficient forwardBlock
+unfolding sum sumℕ tabulate block firstAt first fold S C weight forwardSum inverseSum forwardLine isSize isKind isDepth keptColumns keptRows range lastShift columnSum middleAt rails rowSum residual inverseBlock rowValue columnValue coefficient forwardBlock
 numbers-hold =
     refl and refl and refl and refl and refl and refl and refl and refl and refl and refl and refl and refl and refl
     and refl and refl and refl and refl and refl and refl and refl and refl and none

@@ -1,14 +1,13 @@
 -- "Sharing between weights": one equation at 4 points, five at 16 and six at 32, of the first rows; and the table of
 -- DCT-VIII's weights at 4 points (item 3 of the numbers).
 use mathlib.Core.Path.{_≡_, refl}
-use mathlib.Core.Bool.{Bool, true}
 use mathlib.Core.List.{List, [], _∷_}
-use Prim.Native.Nat.{ℕ, zero, suc, _+_, _*_, _-_, _<_}
+use Prim.Native.Nat.{ℕ, _+_, _*_, _-_, _<_}
 use lib.Dec.{T, eqb, eqb→eq}
 use lib.IntN.{ℤ, pos, negsuc}
 use lib.ListN.{getD}
 use Rattle.algebra.specs.Lists.{at}
-use Rattle.algebra.proofs.Table.{allTo, allTo-at, every, byPlace, table-at}
+use Rattle.algebra.proofs.Table.{allTo, allTo-at, table-at}
 use Rattle.meaning.specs.Weights.{first, fold, S, C}
 
 -- s k of the first row at n points

@@ -1,25 +1,25 @@
 -- Sizes of weights and of a line's sums. No row and no column of weights is above 64 n in size (`rowSizes`, `columnSizes`),
 -- so no sum of a line over inputs of size M is above 64 n M (`forwardSum-in`, `inverseSum-in`), and over 16-bit inputs each
 -- fits 32 bits (`forwardSum-fits`, `inverseSum-fits`). "Biggest row sums of sizes: 242, 475, 935, 1858" is `rowLargest`.
-use mathlib.Core.Path.{_≡_, refl, sym, ap, _∙_, subst}
+use mathlib.Core.Path.{_≡_, refl, subst}
 use mathlib.Core.Bool.{Bool, true, false, cond, _&&_}
 use mathlib.Core.List.{List, [], _∷_}
 use Prim.Native.Nat.{ℕ, zero, suc, _+_, _*_, _-_, _%_, _≤_, _<_, min, zero-le}
 use native.Mathlib.Nat.{le-trans, mul-le-mul-right}
 use native.Mathlib.Omega.{arith}
 use lib.Dec.{T, eqb, leb, ltb, leb→le}
-use lib.IntN.{ℤ, pos, negℤ, natAbs, _*ℤ_}
+use lib.IntN.{ℤ, pos, natAbs}
 use lib.ListN.{getD}
 use mir.Syntax.{w32}
 use mir.Val.{SFits}
-use Rattle.algebra.specs.Sum.{sum, sumℕ}
-use Rattle.algebra.proofs.Order.{abs-neg, Within, within, fits-in}
+use Rattle.algebra.specs.Sum.{sumℕ}
+use Rattle.algebra.proofs.Order.{abs-neg, within, fits-in}
 use Rattle.algebra.proofs.Sum.{sumℕ-le, abs-dot}
 use Rattle.algebra.proofs.Table.{allTo, allTo-at, and-left, and-right}
 use Rattle.meaning.specs.Weights.{first, signed, fold, S, C, weight}
 use Rattle.meaning.specs.Line.{forwardSum, inverseSum}
 use Rattle.meaning.specs.Shape.{isSize, isKind}
-use Rattle.meaning.proofs.Cases.{size-cases, line-cases, size-in, pick}
+use Rattle.meaning.proofs.Cases.{line-cases, size-in, pick}
 
 -- the sizes of row i, and of the first `count` weights of column j
 abbrev pub rowSize : ℕ → ℕ → ℕ → ℕ

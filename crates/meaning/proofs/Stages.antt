@@ -3,33 +3,29 @@
 -- Forward: `rowStage-fits`, `rowValue-fits`, `columnStage-fits`, `coefficient-fits`, of residuals of size at most 2^d-1:
 -- "Nothing is clipped, as nothing leaves 16 bits".
 use mathlib.Core.Path.{_≡_, refl, sym, ap, _∙_, subst}
-use mathlib.Core.Bool.{Bool, true, false, cond, _&&_}
+use mathlib.Core.Bool.{true, _&&_}
 use mathlib.Core.List.{List}
-use Prim.Native.Nat.{ℕ, zero, suc, _+_, _*_, _-_, _^_, _≤_, _<_, min, zero-le}
+use Prim.Native.Nat.{ℕ, _+_, _*_, _-_, _^_, _≤_, _<_, zero-le}
 use native.Mathlib.Nat.{le-trans, mul-assoc, mul-sub}
 use native.Mathlib.Omega.{arith}
-use lib.Dec.{T, ltb}
+use lib.Dec.{ltb}
 use lib.Pow.{pow-pos, pow-mono, pow-add}
-use lib.IntN.{ℤ, pos, negsuc, natAbs}
-use lib.Signed.{_≤ℤ_}
+use lib.IntN.{ℤ, natAbs}
 use mir.Syntax.{w16, w32}
 use mir.Val.{SFits}
 use Rattle.algebra.specs.Lists.{at}
 use Rattle.algebra.proofs.Order.{Within, within, fits-in, in-fits, parts-fit, le-parts}
-use Rattle.algebra.proofs.Shift.{nearest-in}
+use Rattle.algebra.proofs.Shift.{shift-in, nearest-in}
 use Rattle.algebra.proofs.Clip.{clip-cases}
 use Rattle.meaning.specs.declared.Shape.{Shape}
 use Rattle.meaning.specs.Shape.{isSize, keptColumns, keptRows, range, lastShift}
 use Rattle.meaning.specs.Line.{forwardSum}
 use Rattle.meaning.specs.Inverse.{columnSum, rounded, middleAt, rowSum, residual}
 use Rattle.meaning.specs.Forward.{log2, rowShift, columnShift, rowValue, columnValue, coefficient}
-use Rattle.meaning.proofs.Cases.{size-cases, size-in, depth-cases, pick}
+use Rattle.meaning.proofs.Cases.{size-cases, depth-cases, pick}
 use Rattle.meaning.proofs.Taken.{Taken}
+use Rattle.meaning.proofs.Small.{NoneAbove}
 use Rattle.meaning.proofs.Sizes.{forwardSum-in, forwardSum-short, inverseSum-short}
-
--- no number of a list is above M in size
-abbrev pub NoneAbove : ℕ → List ℤ → Type 0
-NoneAbove M l = (k : ℕ) → natAbs (at l k) ≤ M
 
 -- ---- the inverse
 module _ (sh : Shape) where
@@ -63,6 +59,10 @@ module _ (sh : Shape) (t : Taken sh) (c : List ℤ) where
 
   pub columnSum-fits : NoneAbove 32768 c → (x y : ℕ) → y < sh .height → SFits w32 (columnSum sh c x y)
   columnSum-fits small x y h = fits-in tt (within (columnSum sh c x y) (columnSum-in small x y h))
+
+  -- before the clip
+  pub rounded-in : NoneAbove 32768 c → (x y : ℕ) → y < sh .height → natAbs (rounded (columnSum sh c x y)) ≤ 524288
+  rounded-in small x y h = shift-in (columnSum sh c x y) 6 524288 (columnSum-in small x y h)
 
   pub rowSum-in : (x y : ℕ) → x < sh .width → natAbs (rowSum sh c x y) ≤ 67108864
   unfolding rowSum

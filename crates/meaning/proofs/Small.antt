@@ -1,0 +1,38 @@
+-- Sizes of what a call is handed: 16-bit numbers, and residuals among which the hunt for refusal 9 found none too large.
+use mathlib.Core.Path.{_≡_}
+use mathlib.Core.Bool.{false}
+use mathlib.Core.List.{List, [], _∷_}
+use Prim.Native.Nat.{ℕ, zero, suc, _+_, _-_, _^_, _≤_, _<_, zero-le}
+use native.Mathlib.Omega.{arith}
+use borrow.Author.Tests.{ltb-false}
+use lib.Dec.{ltb}
+use lib.IntN.{ℤ, pos, natAbs}
+use lib.ListN.{length}
+use mir.Syntax.{w16}
+use mir.Val.{SFits}
+use Rattle.algebra.specs.Lists.{at}
+use Rattle.algebra.proofs.Order.{Within, in-fits}
+use Rattle.algebra.proofs.First.{first-before}
+use Rattle.meaning.specs.declared.Shape.{Shape}
+use Rattle.meaning.specs.Forward.{tooLarge, firstTooLarge}
+
+-- no number of a list is above M in size
+abbrev pub NoneAbove : ℕ → List ℤ → Type 0
+NoneAbove M l = (k : ℕ) → natAbs (at l k) ≤ M
+
+-- it is enough to look at its places, since past the end `at` gives 0
+pub within-places : (M : ℕ) (l : List ℤ) → ((k : ℕ) → k < length l → natAbs (at l k) ≤ M) → NoneAbove M l
+within-places M [] h k = zero-le
+within-places M (z ∷ l) h zero = h zero (omega arith)
+within-places M (z ∷ l) h (suc k) = within-places M l (λ i p. h (suc i) (omega arith)) k
+
+pub shorts : (l : List ℤ) → ((k : ℕ) → k < length l → SFits w16 (at l k)) → NoneAbove 32768 l
+shorts l f = within-places 32768 l (λ k h. in-fits (f k h) .within)
+
+-- "a residual of size above 2^d-1": none
+pub none-too-large : (sh : Shape) (r : List ℤ) → ltb (firstTooLarge sh r) (length r) ≡ false → NoneAbove (2 ^ sh .depth - 1) r
+none-too-large sh r e =
+    within-places (2 ^ sh .depth - 1) r
+    (λ k h.
+    let b : 0 + k < firstTooLarge sh r = omega (arith, ltb-false (firstTooLarge sh r) (length r) e) in
+    ltb-false (2 ^ sh .depth - 1) (natAbs (at r k)) (first-before (tooLarge sh) r 0 k h b))
