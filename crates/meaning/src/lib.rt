@@ -62,17 +62,32 @@ pub struct Answer {
 pub fn is_size(n: u32) -> bool
     ensures { λ r. ⌜ r ≡ isSize n ⌝ }
 {
-    n == 4 || n == 8 || n == 16 || n == 32
+    if n == 4 {
+        return true;
+    }
+    if n == 8 {
+        return true;
+    }
+    if n == 16 {
+        return true;
+    }
+    n == 32
 }
 
 pub fn is_kind(kind: u32) -> bool
     ensures { λ r. ⌜ r ≡ isKind kind ⌝ }
 {
-    kind == 1 || kind == 2
+    if kind == 1 {
+        return true;
+    }
+    kind == 2
 }
 
 pub fn is_depth(d: u32) -> bool
     ensures { λ r. ⌜ r ≡ isDepth d ⌝ }
 {
-    8 <= d && d <= 12
+    if d < 8 {
+        return false;
+    }
+    d <= 12
 }
