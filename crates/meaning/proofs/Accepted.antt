@@ -9,7 +9,7 @@ use borrow.Author.Tests.{eqb-true, not-false, eq-eqb}
 use lib.Dec.{T, eqb, ltb}
 use lib.IntN.{ℤ}
 use lib.ListN.{length}
-use Rattle.algebra.specs.Refusals.{Refusal}
+use Rattle.algebra.specs.Refusals.{Refusal, numberOf}
 use Rattle.algebra.proofs.Table.{and-left, and-right}
 use Rattle.meaning.specs.declared.Shape.{Shape}
 use Rattle.meaning.specs.Shape.{isSize, isKind, isDepth}
@@ -40,6 +40,31 @@ clear (t ∷ ts) out done n e =
     first true (suc k) n next e = absurd (omega arith)
     first false number n next e = (refl, next e)
 
+-- the same by the number alone
+no-number : (ts : List Refusal) → T (numbered ts) → numberOf ts ≡ 0 → Clear ts
+no-number [] n e = tt
+no-number (t ∷ ts) n e =
+    first (t .applies) (t .number) (and-left (not (eqb (t .number) 0)) (numbered ts) n) (λ e. no-number ts (and-right (not (eqb (t .number) 0)) (numbered ts) n) e) e
+  where
+    first : (b : Bool) (number : ℕ) → T (not (eqb number 0)) → (numberOf ts ≡ 0 → Clear ts) → cond b number (numberOf ts) ≡ 0 → (b ≡ false) × Clear ts
+    first true zero n next e = absurd n
+    first true (suc k) n next e = absurd (omega arith)
+    first false number n next e = (refl, next e)
+
+-- 1 to 5
+pub shape-taken : (sh : Shape) → numberOf (shapeTests sh) ≡ 0 → Taken sh
+shape-taken sh e = taken-of (no-number (shapeTests sh) tt e)
+  where
+    taken-of : Clear (shapeTests sh) → Taken sh
+    taken-of (w, (h, (k, (v, (d, _))))) =
+        record {
+          width = not-false (isSize (sh .width)) w;
+          height = not-false (isSize (sh .height)) h;
+          horizontal = not-false (isKind (sh .horizontal)) k;
+          vertical = not-false (isKind (sh .vertical)) v;
+          depth = not-false (isDepth (sh .depth)) d;
+        }
+
 -- the tests that both directions share
 pub record Whole (sh : Shape) (input output : List ℤ) : Type 0 where
   pub taken : Taken sh
@@ -65,6 +90,12 @@ module _ (sh : Shape) (input output : List ℤ) where
         },
         l,
       )
+
+  pub whole-of : numberOf (shapeTests sh ++ lengthTests (sh .width * sh .height) (length input) (length output)) ≡ 0 → Whole sh input output
+  whole-of e = sevens (no-number (shapeTests sh ++ lengthTests (sh .width * sh .height) (length input) (length output)) tt e)
+    where
+      sevens : Clear (shapeTests sh ++ lengthTests (sh .width * sh .height) (length input) (length output)) → Whole sh input output
+      sevens (w, (h, (k, (v, (d, (i, (o, _))))))) = whole false (w, (h, (k, (v, (d, (i, (o, (refl, tt)))))))) .0
 
   -- .. and no coefficient stands outside the kept part
   pub inverse-accepted : inverseOutcome sh input output .0 .number ≡ 0 → Whole sh input output × (ltb (firstOutside sh input) (length input) ≡ false)
