@@ -143,3 +143,30 @@ pub fn inverse_product(n: u32, kind: u32, x: &[i16], y: &mut [i32]) -> Answer
 {
     total(n, kind, false, false, x, y)
 }
+
+/// What both paths of a direction hand back.
+#[repr(C)]
+pub struct Both {
+    pub fast: Answer,
+    pub full: Answer,
+}
+
+/// The forward line by both paths, each into its own buffer: equal buffers come back equal, with equal answers.
+pub fn forward_both(n: u32, kind: u32, x: &[i16], y: &mut [i32], z: &mut [i32]) -> Both
+    ensures { λ r. ⌜ _≡_ {A = Outcome × Outcome} ((r .fast, now (y .exit)), (r .full, now (z .exit))) (forwardLineOutcome n kind (now (x .entry)) (now (y .entry)), forwardLineOutcome n kind (now (x .entry)) (now (z .entry))) ⌝ }
+    ensures agree { λ r. ⌜ (now (y .entry) ≡ now (z .entry) → _≡_ {A = Outcome} (r .fast, now (y .exit)) (r .full, now (z .exit))) ⌝ }
+{
+    let fast = forward(n, kind, x, y);
+    let full = forward_product(n, kind, x, z);
+    Both { fast, full }
+}
+
+/// The inverse line by both paths, likewise.
+pub fn inverse_both(n: u32, kind: u32, x: &[i16], y: &mut [i32], z: &mut [i32]) -> Both
+    ensures { λ r. ⌜ _≡_ {A = Outcome × Outcome} ((r .fast, now (y .exit)), (r .full, now (z .exit))) (inverseLineOutcome n kind (now (x .entry)) (now (y .entry)), inverseLineOutcome n kind (now (x .entry)) (now (z .entry))) ⌝ }
+    ensures agree { λ r. ⌜ (now (y .entry) ≡ now (z .entry) → _≡_ {A = Outcome} (r .fast, now (y .exit)) (r .full, now (z .exit))) ⌝ }
+{
+    let fast = inverse(n, kind, x, y);
+    let full = inverse_product(n, kind, x, z);
+    Both { fast, full }
+}
