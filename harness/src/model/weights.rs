@@ -33,7 +33,7 @@ pub fn dst_vii(n: usize, i: usize, j: usize) -> i64 {
 
 /// "DCT-VIII: C[i][j] = (-1)^i * S[i][N-1-j]".
 pub fn dct_viii(n: usize, i: usize, j: usize) -> i64 {
-    let sign = if i % 2 == 0 { 1 } else { -1 };
+    let sign = if i % 2 == 1 { -1 } else { 1 };
     sign * dst_vii(n, i, n - 1 - j)
 }
 
