@@ -30,7 +30,8 @@ use Rattle.meaning.specs.Forward.{rowValue, columnValue, coefficient, forwardBl
 /// The definitions that the checker opens only where a proof names them.
 const WEIGHTS: &str = "first fold S C weight tabulate block";
 const MIDDLE: &str = "range";
-const LINE: &str = "first fold S C weight sum tabulate isSize isKind forwardSum inverseSum forwardLine inverseLine";
+const LINE: &str = "first fold S C weight sum tabulate isSize isKind \
+    forwardSum inverseSum forwardLine inverseLine";
 const BLOCK: &str = "first fold S C weight sum sumℕ tabulate block firstAt isSize isKind isDepth keptColumns keptRows \
     range lastShift forwardSum inverseSum columnSum middleAt rails rowSum residual inverseBlock \
     rowValue columnValue coefficient forwardBlock";
@@ -238,7 +239,7 @@ fn accepted_block(t: &mut Theorems, direction: Direction, shape: &Shape) {
 
 // ---- random calls that are refused
 
-/// Numbers that no size, kind or depth is, the last two as a caller's 32 bits can hold them.
+/// Numbers that no size, kind or depth is; a caller can hand over any of 32 bits.
 const NO_SIZE: [i64; 8] = [0, 1, 2, 5, 24, 64, 65_536, 4_294_967_295];
 const NO_KIND: [i64; 4] = [0, 3, 257, 4_294_967_295];
 const NO_DEPTH: [i64; 6] = [0, 7, 13, 255, 65_544, 4_294_967_295];
@@ -302,8 +303,9 @@ fn refused_block(t: &mut Theorems, direction: Direction, number: usize) {
     };
     let input = wrong.length(random, 6, area);
     let output = wrong.length(random, 7, area);
-    // any 16-bit numbers: too large for a forward of d up to 12, and non-zero outside the kept part
-    let x = random.numbers(input, -32768, 32767);
+    // any 16-bit numbers: some are too large for a forward, and some outside the kept part are not 0
+    let [low, high] = SIXTEEN_BITS;
+    let x = random.numbers(input, low, high);
     let held = held(random, output);
     block_case(t, direction, &shape, &x, &held);
 }
