@@ -14,14 +14,14 @@ use Rattle.algebra.specs.Lists.{at, tabulate}
 use Rattle.algebra.proofs.Order.{abs-mul}
 use Rattle.algebra.proofs.Ring.{neg-*ℤ, *ℤ-neg}
 use Rattle.algebra.proofs.Sum.{sum-cong, sum-rev, sum-neg, sum-none, sum-split, sum-in}
-use Rattle.algebra.proofs.Lists.{tab-at, tab-cong, tab-length}
+use Rattle.algebra.proofs.Lists.{tab-at, tab-cong, tab-length, Filled, filled}
 use Rattle.meaning.specs.Weights.{S, signed}
 use Rattle.meaning.specs.Shape.{isSize, isKind}
 use Rattle.meaning.proofs.Cases.{size-in}
 use Rattle.engine.specs.Lines.{line}
 use Rattle.engine.specs.Product.{term, lineSum}
 use Rattle.engine.specs.Dst.{Small, dstSum, dstLine}
-use Rattle.engine.specs.Prepared.{turned, alternated, alternates, mirrors, prepared, finished}
+use Rattle.engine.specs.Prepared.{turned, alternated, alternates, mirrors, prepared, finished, Loaded}
 use Rattle.engine.proofs.Bound.{abs-S}
 use Rattle.engine.proofs.Sums.{line-sums}
 use Rattle.engine.proofs.Mirror.{by-core}
@@ -29,6 +29,16 @@ use Rattle.engine.proofs.Mirror.{by-core}
 pub turned-in : (back : Bool) (n k : ℕ) → k < n → turned back n k < n
 turned-in true n k h = omega arith
 turned-in false n k h = h
+
+-- ---- a prepared number: the input at the turned place i, or none there
+module _ (alternate mirror : Bool) (n count : ℕ) (x : ℕ → ℤ) (k : ℕ) {i : ℕ} (e : i ≡ turned mirror n k) where
+  pub prepared-some : i < count → alternated alternate k (x i) ≡ prepared alternate mirror n count x k
+  unfolding prepared
+  prepared-some h = rw (← e, lt-ltb i count h)
+
+  pub prepared-none : count ≤ i → pos 0 ≡ prepared alternate mirror n count x k
+  unfolding prepared
+  prepared-none h = rw (← e, le-ltb i count h)
 
 -- ---- sums: read backwards, with a common sign, with zeros after them
 sum-turned : (back : Bool) (n : ℕ) (f : ℕ → ℤ) → sum n (λ k. f (turned back n k)) ≡ sum n f
@@ -104,6 +114,18 @@ module _ (forward : Bool) (kind n count : ℕ) (x : ℕ → ℤ) (known : isKind
           (ap (λ (l : List ℤ). at l i) sums ∙ tab-at n (dstSum n (at w)) i (turned-in a n j h)
           ∙ sum-cong n (λ k. S n k i *ℤ at w k) (λ k. S n k i *ℤ prepared a m n count x k)
           (λ k p. ap (λ (v : ℤ). S n k i *ℤ v) (ap (λ (l : List ℤ). at l k) holds ∙ tab-at n (prepared a m n count x) k p)))
+
+-- ---- a work area once it is filled
+pub loaded : {n : ℕ} {a a₀ : List ℤ} {x : ℕ → ℤ} → length a₀ ≡ n → Filled 0 n a a₀ x → ((k : ℕ) → k < n → natAbs (x k) ≤ 32768) → Loaded n x a
+loaded {n} {a} {x = x} l f b =
+    let e = filled l f in
+    record {
+      holds = e;
+      input = record {
+        long = f .long ∙ l;
+        small = λ k h. subst (λ (z : ℤ). natAbs z ≤ 32768) (sym (ap (λ (l : List ℤ). at l k) e ∙ tab-at n x k h)) (b k h);
+      };
+    }
 
 -- ---- sizes: a sign changes none, and the core's sums are far from the ends of 32 bits
 pub core-small : (n : ℕ) → isSize n ≡ true → (w r : List ℤ) → Small n 32768 w → r ≡ dstLine n (at w) → Small n 1000000000 r

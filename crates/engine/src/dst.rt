@@ -6,8 +6,8 @@ ghost use Prim.Native.Nat.{_<_};
 ghost use Rattle.algebra.specs.Lists.{at};
 ghost use Rattle.engine.specs.Dst.{Core, dstLine, dstSum};
 
-fn column(t: &[i16], n: usize, x: &[i32], r: &[i32], j: usize) -> i32
-    requires { ⌜ (j < n) × Core n (now t) (now x) (now r) ⌝ }
+fn column(t: &[i16], n: usize, x: &[i32], j: usize) -> i32
+    requires { ⌜ (j < n) × Core n (now t) (now x) (now x) ⌝ }
     ensures { λ v. ⌜ v ≡ dstSum n (at (now (x .entry))) j ⌝ }
 {
     let mut sum: i32 = 0;
@@ -25,7 +25,7 @@ pub fn dst(t: &[i16], n: usize, x: &mut [i32], r: &mut [i32])
 {
     let mut j = 0;
     while j < n {
-        r[j] = column(t, n, x, r, j);
+        r[j] = column(t, n, x, j);
         j += 1;
     }
 }

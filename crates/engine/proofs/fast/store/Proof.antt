@@ -1,4 +1,11 @@
 use borrow.Author.Needs.{needs}
+use mathlib.Core.Path.{_≡_, _∙_, subst}
+use Prim.Native.Nat.{ℕ, _-_, _≤_}
+use mir.Syntax.{w32}
+use mir.ValLaws.{toZ-ofZ}
+use Rattle.algebra.specs.Lists.{at}
+use Rattle.algebra.proofs.Lists.{Filled, fill-none, fill-first, filled}
+use Rattle.engine.specs.Prepared.{finished}
 use native.Mathlib.Omega.{arith}
 use Rattle.engine.proofs.fast.store.Statement.{statement}
 use Rattle.engine.proofs.fast.store.Tie as tie
@@ -7,18 +14,18 @@ use Rattle.engine.proofs.fast.store.Lts as lts
 use Rattle.engine.proofs.fast.given.Reads as given-reads
 
 abbrev Inv-loop : tie.InvT-loop
-Inv-loop r n alternate mirror z₀ j₀ z j = ?
+Inv-loop r n alternate mirror z₀ j₀ z j = (j ≤ n) × Filled 0 j z z₀ (finished alternate mirror n (at r))
 
 abbrev μ-loop : tie.MeasureT-loop
-μ-loop r n alternate mirror z₀ j₀ z j = ?
+μ-loop r n alternate mirror z₀ j₀ z j = n - j
 
 -- src/fast.rt:92:5
 loop-holds : tie.Need-loop-holds Inv-loop μ-loop
-loop-holds c = search needs
+loop-holds c = (omega arith, fill-none 0 _ _)
 
 -- src/fast.rt:93:16
 given-requires : tie.Need-given-requires Inv-loop μ-loop
-given-requires c κs = search needs
+given-requires c κs = (c .loop-test .taken, c .before .before .pre .1)
 
 -- src/fast.rt:93:9
 mul-t9 : tie.Need-mul-t9 Inv-loop μ-loop
@@ -26,7 +33,9 @@ mul-t9 c = search needs
 
 -- src/fast.rt:93:9
 slice-set-from-z : tie.Need-slice-set-from-z Inv-loop μ-loop
-slice-set-from-z c = search needs
+slice-set-from-z c =
+    let L = c .before .before in
+    omega (arith, L .loop .inv .1 .long, L .before .pre .0)
 
 -- src/fast.rt:94:9
 add-j : tie.Need-add-j Inv-loop μ-loop
@@ -38,15 +47,20 @@ loop-less c = search needs
 
 -- src/fast.rt:92:5
 loop-again : tie.Need-loop-again Inv-loop μ-loop
-loop-again c = search needs
+loop-again c =
+    let L = c .before .before in
+    (omega arith, fill-first _ (omega (arith, L .before .pre .0)) (L .loop .inv .1) (toZ-ofZ w32 (c .given .result) (search needs) ∙ c .given .ensures))
 
 -- src/fast.rt:87:1
 same-length : tie.Need-same-length Inv-loop μ-loop
-same-length c = search needs
+same-length c = c .before .loop .inv .1 .long
 
 -- src/fast.rt:87:1
 returns : tie.Need-returns Inv-loop μ-loop
-returns c = search needs
+returns c =
+    let a = c .before .before .args in
+    let e : c .before .loop .j ≡ a .n = omega arith in
+    filled (c .before .before .pre .0) (subst (λ (j : ℕ). Filled 0 j (c .before .loop .z) (a .z .now) (finished (a .alternate) (a .mirror) (a .n) (at (a .r .now)))) e (c .before .loop .inv .1))
 
 pub store-spec : {M : Type 1} → statement M
 store-spec =
