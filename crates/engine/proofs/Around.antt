@@ -79,6 +79,17 @@ either : (b p q : Bool) (v w x : ℤ) → v ≡ signed p (signed q w) → cond b
 either true p q v w x e = ap (λ (u : ℤ). u *ℤ x) e ∙ moved p q w x
 either false p q v w x e = nothing p w
 
+-- the core's sums, where they stand in lists
+through : (a m : Bool) (n count : ℕ) (x : ℕ → ℤ) (w r : List ℤ) → w ≡ tabulate n (prepared a m n count x) → r ≡ dstLine n (at w)
+    → (j : ℕ) → j < n → finished a m n (at r) j ≡ finished a m n (dstSum n (prepared a m n count x)) j
+unfolding finished dstSum
+through a m n count x w r holds sums j h =
+    let i = turned a n j in
+    ap (alternated m j)
+    (ap (λ (l : List ℤ). at l i) sums ∙ tab-at n (dstSum n (at w)) i (turned-in a n j h)
+    ∙ sum-cong n (λ k. S n k i *ℤ at w k) (λ k. S n k i *ℤ prepared a m n count x k)
+    (λ k p. ap (λ (v : ℤ). S n k i *ℤ v) (ap (λ (l : List ℤ). at l k) holds ∙ tab-at n (prepared a m n count x) k p)))
+
 module _ (forward : Bool) (kind n count : ℕ) (x : ℕ → ℤ) (known : isKind kind ≡ true) (size : isSize n ≡ true) (some : count ≤ n) where
   -- output j from the core's sums of the prepared inputs
   output : (j : ℕ) → j < n → let a = alternates forward kind in let m = mirrors forward kind in
@@ -95,25 +106,14 @@ module _ (forward : Bool) (kind n count : ℕ) (x : ℕ → ℤ) (known : isKind
       (by-core forward kind n known size k j p h))
       ∙ sum-signed (m && eqb (j % 2) 1) n g
 
-  -- the line, from a work area that holds the prepared inputs and the core's sums of it
-  pub around : (forward ≡ true → count ≡ n) → (w r : List ℤ) → let a = alternates forward kind in let m = mirrors forward kind in
-      w ≡ tabulate n (prepared a m n count x) → r ≡ dstLine n (at w) → tabulate n (finished a m n (at r)) ≡ line forward kind n count x
-  unfolding finished dstSum
-  around all w r holds sums =
-      let a = alternates forward kind in
-      let m = mirrors forward kind in
-      tab-cong n (finished a m n (at r)) (lineSum forward kind n count x) (λ j h. through j h ∙ sym (output j h))
+  -- the line, from a work area w that holds the prepared inputs, and the core's sums r of it
+  pub around : {a m : Bool} → a ≡ alternates forward kind → m ≡ mirrors forward kind → (forward ≡ true → count ≡ n) → (w r : List ℤ)
+      → w ≡ tabulate n (prepared a m n count x) → r ≡ dstLine n (at w) → tabulate n (finished a m n (at r)) ≡ line forward kind n count x
+  around {a} {m} p q all w r holds sums =
+      tab-cong n (finished a m n (at r)) (lineSum forward kind n count x)
+      (λ j h. through a m n count x w r holds sums j h
+      ∙ (λ t. finished (p t) (q t) n (dstSum n (prepared (p t) (q t) n count x)) j) ∙ sym (output j h))
       ∙ line-sums forward kind n count x all
-    where
-      through : (j : ℕ) → j < n → finished (alternates forward kind) (mirrors forward kind) n (at r) j ≡ finished (alternates forward kind) (mirrors forward kind) n (dstSum n (prepared (alternates forward kind) (mirrors forward kind) n count x)) j
-      through j h =
-          let a = alternates forward kind in
-          let m = mirrors forward kind in
-          let i = turned a n j in
-          ap (alternated m j)
-          (ap (λ (l : List ℤ). at l i) sums ∙ tab-at n (dstSum n (at w)) i (turned-in a n j h)
-          ∙ sum-cong n (λ k. S n k i *ℤ at w k) (λ k. S n k i *ℤ prepared a m n count x k)
-          (λ k p. ap (λ (v : ℤ). S n k i *ℤ v) (ap (λ (l : List ℤ). at l k) holds ∙ tab-at n (prepared a m n count x) k p)))
 
 -- ---- a work area once it is filled
 pub loaded : {n : ℕ} {a a₀ : List ℤ} {x : ℕ → ℤ} → length a₀ ≡ n → Filled 0 n a a₀ x → ((k : ℕ) → k < n → natAbs (x k) ≤ 32768) → Loaded n x a
@@ -139,7 +139,7 @@ core-small n size w r small sums =
     bound : (k : ℕ) → natAbs (dstSum n (at w) k) ≤ 1000000000
     bound k =
         let b : natAbs (sum n (λ i. S n i k *ℤ at w i)) ≤ n * 2949120 =
-            sum-in n (λ i. S n i k *ℤ at w i) 2949120
-            (λ i h. subst (λ (m : ℕ). m ≤ 2949120) (sym (abs-mul (S n i k) (at w i))) (mul-le-mul (abs-S n i k) (small .small i h)))
+        sum-in n (λ i. S n i k *ℤ at w i) 2949120
+        (λ i h. subst (λ (m : ℕ). m ≤ 2949120) (sym (abs-mul (S n i k) (at w i))) (mul-le-mul (abs-S n i k) (small .small i h)))
         in
         omega (arith, b, size-in n size)

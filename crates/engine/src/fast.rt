@@ -13,6 +13,18 @@ ghost use Rattle.engine.specs.Dst.{Small};
 ghost use Rattle.engine.specs.Lines.{Given, Inside, input, line};
 ghost use Rattle.engine.specs.Prepared.{turned, alternated, alternates, mirrors, prepared, finished, Loaded};
 
+fn alternating(kind: u32, forward: bool) -> bool
+    ensures { λ r. ⌜ r ≡ alternates forward kind ⌝ }
+{
+    forward || kind != 1
+}
+
+fn mirrored(kind: u32, forward: bool) -> bool
+    ensures { λ r. ⌜ r ≡ mirrors forward kind ⌝ }
+{
+    forward && kind == 1
+}
+
 // Place k of n, counted from the end where asked.
 fn place(back: bool, n: usize, k: usize) -> usize
     requires { ⌜ k < n ⌝ }
@@ -95,6 +107,30 @@ fn store(r: &[i32], n: usize, alternate: bool, mirror: bool, z: &mut [i32])
     }
 }
 
+// The line, given two work areas of n numbers.
+fn worked(
+    t: &[i16],
+    n: usize,
+    kind: u32,
+    forward: bool,
+    s: &[i16],
+    from: usize,
+    step: usize,
+    count: usize,
+    a: &mut [i32],
+    r: &mut [i32],
+    z: &mut [i32],
+)
+    requires { ⌜ ((length (now a) ≡ n) × (length (now r) ≡ n)) × Given n kind forward count from step (now t) (now s) (now z) ⌝ }
+    ensures { λ _. ⌜ now (z .exit) ≡ line forward kind n count (input (now (s .entry)) from step) ⌝ }
+{
+    let alternate = alternating(kind, forward);
+    let mirror = mirrored(kind, forward);
+    load(s, from, step, n, count, alternate, mirror, a);
+    dst(t, n, a, r);
+    store(r, n, alternate, mirror, z);
+}
+
 pub fn fast(
     t: &[i16],
     n: usize,
@@ -109,11 +145,19 @@ pub fn fast(
     requires { ⌜ Given n kind forward count from step (now t) (now s) (now z) ⌝ }
     ensures { λ _. ⌜ now (z .exit) ≡ line forward kind n count (input (now (s .entry)) from step) ⌝ }
 {
-    let alternate = forward || kind != 1;
-    let mirror = forward && kind == 1;
     let mut a = [0i32; 32];
     let mut r = [0i32; 32];
-    load(s, from, step, n, count, alternate, mirror, &mut a[0..n]);
-    dst(t, n, &mut a[0..n], &mut r[0..n]);
-    store(&r[0..n], n, alternate, mirror, z);
+    worked(
+        t,
+        n,
+        kind,
+        forward,
+        s,
+        from,
+        step,
+        count,
+        &mut a[0..n],
+        &mut r[0..n],
+        z,
+    )
 }

@@ -1,5 +1,12 @@
 use borrow.Author.Needs.{needs}
 use native.Mathlib.Omega.{arith}
+use mathlib.Core.Path.{_≡_, _∙_, subst}
+use Prim.Native.Nat.{ℕ, _-_, _≤_}
+use mir.Syntax.{w32}
+use mir.ValLaws.{toZ-ofZ}
+use Rattle.algebra.specs.Lists.{at}
+use Rattle.algebra.proofs.Lists.{Filled, fill-none, fill-first, filled}
+use Rattle.engine.specs.Dst.{dstSum}
 use Rattle.engine.proofs.dst.dst.Statement.{statement}
 use Rattle.engine.proofs.dst.dst.Tie as tie
 use Rattle.engine.proofs.dst.dst.Reads as reads
@@ -7,18 +14,20 @@ use Rattle.engine.proofs.dst.dst.Lts as lts
 use Rattle.engine.proofs.dst.column.Reads as column-reads
 
 abbrev Inv-loop : tie.InvT-loop
-Inv-loop t n x r₀ j₀ r j = ?
+Inv-loop t n x r₀ j₀ r j = (j ≤ n) × Filled 0 j r r₀ (dstSum n (at x))
 
 abbrev μ-loop : tie.MeasureT-loop
-μ-loop t n x r₀ j₀ r j = ?
+μ-loop t n x r₀ j₀ r j = n - j
 
 -- src/dst.rt:27:5
 loop-holds : tie.Need-loop-holds Inv-loop μ-loop
-loop-holds c = search needs
+loop-holds c = (omega arith, fill-none 0 _ _)
 
 -- src/dst.rt:28:16
 column-requires : tie.Need-column-requires Inv-loop μ-loop
-column-requires c κs = search needs
+column-requires c κs =
+    let p = c .before .before .before .pre in
+    (c .before .loop-test .taken, record { size = p .size; table = p .table; input = p .input; long = p .input .long })
 
 -- src/dst.rt:28:9
 mul-t10 : tie.Need-mul-t10 Inv-loop μ-loop
@@ -26,7 +35,9 @@ mul-t10 c = search needs
 
 -- src/dst.rt:28:9
 slice-set-from-r : tie.Need-slice-set-from-r Inv-loop μ-loop
-slice-set-from-r c = search needs
+slice-set-from-r c =
+    let L = c .before .before .before in
+    omega (arith, L .loop .inv .1 .long, L .before .pre .long)
 
 -- src/dst.rt:29:9
 add-j : tie.Need-add-j Inv-loop μ-loop
@@ -38,15 +49,20 @@ loop-less c = search needs
 
 -- src/dst.rt:27:5
 loop-again : tie.Need-loop-again Inv-loop μ-loop
-loop-again c = search needs
+loop-again c =
+    let L = c .before .before .before in
+    (omega arith, fill-first _ (omega (arith, L .before .pre .long)) (L .loop .inv .1) (toZ-ofZ w32 (c .column .result) (search needs) ∙ c .column .ensures))
 
 -- src/dst.rt:22:1
 same-length : tie.Need-same-length Inv-loop μ-loop
-same-length c = search needs
+same-length c = c .before .loop .inv .1 .long
 
 -- src/dst.rt:22:1
 returns : tie.Need-returns Inv-loop μ-loop
-returns c = search needs
+returns c =
+    let a = c .before .before .args in
+    let e : c .before .loop .j ≡ a .n = omega arith in
+    filled (c .before .before .pre .long) (subst (λ (j : ℕ). Filled 0 j (c .before .loop .r) (a .r .now) (dstSum (a .n) (at (a .x .now)))) e (c .before .loop .inv .1))
 
 pub dst-spec : {M : Type 1} → statement M
 dst-spec =

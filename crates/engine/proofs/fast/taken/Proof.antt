@@ -67,7 +67,7 @@ returns c =
     let v = wideness (c .before) in
     let r = toZ-ofZ w32 (c .sign .result) (search needs) in (
       r ∙ c .sign .ensures ∙ ap (alternated (s .args .alternate) (s .args .k)) v
-      ∙ prepared-some (s .args .alternate) (s .args .mirror) (s .args .n) (s .args .count) x (s .args .k) (c .before .before .before .before .place .ensures) (c .before .before .before .if1 .taken),
+          ∙ prepared-some (s .args .alternate) (s .args .mirror) (s .args .n) (s .args .count) x (s .args .k) (c .before .before .before .before .place .ensures) (c .before .before .before .if1 .taken),
       omega (arith, ap natAbs r, ap natAbs (c .sign .ensures), abs-signed (s .args .alternate && eqb (s .args .k % 2) 1) (toZ w32 (ofZ w32 (c .before .wide .result))), ap natAbs (toZ-ofZ w32 (c .before .wide .result) (search needs)), c .before .wide .ensures .1),
     )
 
