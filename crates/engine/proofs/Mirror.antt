@@ -1,10 +1,10 @@
 -- The weights' symmetry, and what it makes of every line: each weight of either kind, in either direction, is a weight of
 -- the inverse DST-VII at a turned place with a changed sign. Assumes nothing.
 use mathlib.Core.Path.{_≡_, refl, sym, ap, _∙_}
-use mathlib.Core.Bool.{Bool, true, false, cond, _&&_}
+use mathlib.Core.Bool.{Bool, true, false}
 use Prim.Native.Nat.{ℕ, _-_, _%_, _<_}
 use lib.Dec.{T, eqb}
-use lib.IntN.{ℤ, negℤ, negℤ-negℤ}
+use lib.IntN.{ℤ, negℤ-negℤ}
 use Rattle.algebra.specs.Equal.{eqZ}
 use Rattle.algebra.proofs.Table.{allTo, allTo-at, eqZ→eq}
 use Rattle.meaning.specs.Weights.{weight, S, C, fold, first, signed}
@@ -33,7 +33,7 @@ signed-twice : (b : Bool) (z : ℤ) → signed b (signed b z) ≡ z
 signed-twice true z = negℤ-negℤ z
 signed-twice false z = refl
 
--- the same of the DST-VII weights: S[j][N-1-k] = (-1)^j * (-1)^k * S[k][N-1-j]
+-- the same of the DST-VII weights: S[j][N-1-k] = (-1)^j * (-1)^k * S[k][N-1-j], the rows of S read as columns from the end
 pub mirrored : (n : ℕ) → isSize n ≡ true → (k j : ℕ) → k < n → j < n → S n j (n - 1 - k) ≡ signed (eqb (j % 2) 1) (C n k j)
 unfolding C
 mirrored n s k j hk hj =

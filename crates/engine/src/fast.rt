@@ -4,7 +4,6 @@ use crate::arith::negated;
 use crate::arith::wide;
 use crate::dst::dst;
 ghost use mathlib.Core.Path.{_≡_};
-ghost use mathlib.Core.Bool.{Bool};
 ghost use Prim.Native.Nat.{_≤_, _<_};
 ghost use lib.IntN.{natAbs};
 ghost use lib.ListN.{length};

@@ -1,8 +1,8 @@
 use borrow.Author.Needs.{needs}
 use native.Mathlib.Omega.{arith}
 use mathlib.Core.Path.{_≡_, refl, sym, ap, _∙_, subst}
-use Prim.Native.Nat.{ℕ, _+_, _*_, _-_, _≤_, _<_}
-use lib.IntN.{ℤ, pos, natAbs, _+ℤ_, _*ℤ_}
+use Prim.Native.Nat.{ℕ, _+_, _*_, _-_, _≤_}
+use lib.IntN.{ℤ, natAbs, _+ℤ_, _*ℤ_}
 use mir.Syntax.{w32}
 use mir.Val.{toZ, ofZ}
 use mir.ValLaws.{toZ-ofZ}
@@ -18,10 +18,6 @@ use Rattle.engine.proofs.Either.{dst}
 use Rattle.engine.proofs.Sums as sums
 use Rattle.engine.proofs.dst.column.Statement.{statement}
 use Rattle.engine.proofs.dst.column.Tie as tie
-use Rattle.engine.proofs.dst.column.Reads as reads
-use Rattle.engine.proofs.dst.column.Lts as lts
-use Rattle.engine.proofs.arith.mac.Reads as mac-reads
-use Rattle.engine.proofs.product.entry.Reads as entry-reads
 
 abbrev part : ℕ → (ℕ → ℤ) → ℕ → ℕ → ℤ
 part n x j i = sum i (λ k. S n k j *ℤ x k)
@@ -32,21 +28,17 @@ Inv-loop t n x j sum₀ i₀ sum i = (i ≤ n) × ((sum ≡ ofZ w32 (part n (at 
 abbrev μ-loop : tie.MeasureT-loop
 μ-loop t n x j sum₀ i₀ sum i = n - i
 
--- src/dst.rt:15:5
 loop-holds : tie.Need-loop-holds Inv-loop μ-loop
 unfolding sum
 loop-holds c = (omega arith, (refl, omega arith))
 
--- src/dst.rt:16:24
 entry-requires : tie.Need-entry-requires Inv-loop μ-loop
 unfolding isKind
 entry-requires c κs = let p = c .before .before .pre in (refl, record { row = c .loop-test .taken; column = p .0; table = p .1 .table })
 
--- src/dst.rt:16:46
 mul-mac : tie.Need-mul-mac Inv-loop μ-loop
 mul-mac c = omega (arith, c .before .before .before .pre .1 .long)
 
--- src/dst.rt:16:46
 shared-slice-copy-out-mac : tie.Need-shared-slice-copy-out-mac Inv-loop μ-loop
 shared-slice-copy-out-mac c = omega (arith, c .before .before .before .pre .1 .long)
 
@@ -59,7 +51,6 @@ weighed c = toZ-ofZ w32 (c .entry .result) (search needs) ∙ c .entry .ensures 
 read : (c : tie.After-mac-arg Inv-loop μ-loop) → let L = c .before .before .before in toZ w32 (ofZ w32 (at (L .before .args .x .now) (L .loop .i))) ≡ at (L .before .args .x .now) (L .loop .i)
 read c = let L = c .before .before .before in toZ-ofZ w32 (at (L .before .args .x .now) (L .loop .i)) (record { sfits = c .mac-arg .given })
 
--- src/dst.rt:16:9
 mac-requires : tie.Need-mac-requires Inv-loop μ-loop
 mac-requires c κs =
     let L = c .before .before .before in
@@ -72,15 +63,12 @@ mac-requires c κs =
       ),
     )
 
--- src/dst.rt:17:9
 add-i : tie.Need-add-i Inv-loop μ-loop
 add-i c = search needs
 
--- src/dst.rt:15:5
 loop-less : tie.Need-loop-less Inv-loop μ-loop
 loop-less c = search needs
 
--- src/dst.rt:15:5
 loop-again : tie.Need-loop-again Inv-loop μ-loop
 loop-again c =
     let L = c .before .before .before .before in
@@ -96,7 +84,6 @@ loop-again c =
       ),
     )
 
--- src/dst.rt:9:1
 returns : tie.Need-returns Inv-loop μ-loop
 unfolding dstSum
 returns c =

@@ -9,9 +9,6 @@ use Rattle.algebra.proofs.Lists.{Filled, fill-none, fill-first, filled}
 use Rattle.engine.specs.Dst.{dstSum}
 use Rattle.engine.proofs.dst.dst.Statement.{statement}
 use Rattle.engine.proofs.dst.dst.Tie as tie
-use Rattle.engine.proofs.dst.dst.Reads as reads
-use Rattle.engine.proofs.dst.dst.Lts as lts
-use Rattle.engine.proofs.dst.column.Reads as column-reads
 
 abbrev Inv-loop : tie.InvT-loop
 Inv-loop t n x r₀ j₀ r j = (j ≤ n) × Filled 0 j r r₀ (dstSum n (at x))
@@ -19,45 +16,36 @@ Inv-loop t n x r₀ j₀ r j = (j ≤ n) × Filled 0 j r r₀ (dstSum n (at x))
 abbrev μ-loop : tie.MeasureT-loop
 μ-loop t n x r₀ j₀ r j = n - j
 
--- src/dst.rt:27:5
 loop-holds : tie.Need-loop-holds Inv-loop μ-loop
 loop-holds c = (omega arith, fill-none 0 _ _)
 
--- src/dst.rt:28:16
 column-requires : tie.Need-column-requires Inv-loop μ-loop
 column-requires c κs =
     let p = c .before .before .before .pre in
     (c .before .loop-test .taken, record { size = p .size; table = p .table; input = p .input; long = p .input .long })
 
--- src/dst.rt:28:9
 mul-t10 : tie.Need-mul-t10 Inv-loop μ-loop
 mul-t10 c = search needs
 
--- src/dst.rt:28:9
 slice-set-from-r : tie.Need-slice-set-from-r Inv-loop μ-loop
 slice-set-from-r c =
     let L = c .before .before .before in
     omega (arith, L .loop .inv .1 .long, L .before .pre .long)
 
--- src/dst.rt:29:9
 add-j : tie.Need-add-j Inv-loop μ-loop
 add-j c = search needs
 
--- src/dst.rt:27:5
 loop-less : tie.Need-loop-less Inv-loop μ-loop
 loop-less c = search needs
 
--- src/dst.rt:27:5
 loop-again : tie.Need-loop-again Inv-loop μ-loop
 loop-again c =
     let L = c .before .before .before in
     (omega arith, fill-first _ (omega (arith, L .before .pre .long)) (L .loop .inv .1) (toZ-ofZ w32 (c .column .result) (search needs) ∙ c .column .ensures))
 
--- src/dst.rt:22:1
 same-length : tie.Need-same-length Inv-loop μ-loop
 same-length c = c .before .loop .inv .1 .long
 
--- src/dst.rt:22:1
 returns : tie.Need-returns Inv-loop μ-loop
 returns c =
     let a = c .before .before .args in

@@ -1,45 +1,34 @@
+-- `fast::fast` meets its contract: the two areas have room for every size. Assumes nothing.
 use borrow.Author.Needs.{needs}
 use native.Mathlib.Omega.{arith}
 use Rattle.meaning.proofs.Cases.{size-in}
 use Rattle.engine.proofs.fast.fast.Statement.{statement}
 use Rattle.engine.proofs.fast.fast.Tie as tie
-use Rattle.engine.proofs.fast.fast.Reads as reads
-use Rattle.engine.proofs.fast.fast.Lts as lts
-use Rattle.engine.proofs.fast.worked.Reads as worked-reads
 
--- src/fast.rt:150:55
 sub-worked : tie.Need-sub-worked
 sub-worked c = search needs
 
--- src/fast.rt:150:55
 part-a-start : tie.Need-part-a-start
 part-a-start c = search needs
 
--- src/fast.rt:150:55
 part-a-end : tie.Need-part-a-end
 part-a-end c = omega (arith, size-in (c .args .n) (c .pre .size))
 
--- src/fast.rt:150:69
 sub-worked-2 : tie.Need-sub-worked-2
 sub-worked-2 c = search needs
 
--- src/fast.rt:150:69
 part-r-start : tie.Need-part-r-start
 part-r-start c = search needs
 
--- src/fast.rt:150:69
 part-r-end : tie.Need-part-r-end
 part-r-end c = omega (arith, size-in (c .before .args .n) (c .before .pre .size))
 
--- src/fast.rt:150:5
 worked-requires : tie.Need-worked-requires
 worked-requires c κs = search needs
 
--- src/fast.rt:134:1
 same-length : tie.Need-same-length
 same-length c = search needs
 
--- src/fast.rt:134:1
 returns : tie.Need-returns
 returns c = search needs
 

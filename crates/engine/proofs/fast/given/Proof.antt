@@ -1,10 +1,9 @@
+-- `fast::given` meets its contract. Assumes nothing.
 use borrow.Author.Needs.{needs}
 use native.Mathlib.Omega.{arith}
 use mathlib.Core.Path.{_≡_, _∙_, sym, ap, subst}
-use mathlib.Core.Bool.{Bool}
-use Prim.Native.Nat.{ℕ, _≤_, _<_}
-use lib.IntN.{ℤ, natAbs}
-use lib.ListN.{length}
+use Prim.Native.Nat.{ℕ, _<_}
+use lib.IntN.{natAbs}
 use mir.Syntax.{w32}
 use mir.Val.{toZ, ofZ}
 use mir.ValLaws.{toZ-ofZ}
@@ -13,12 +12,7 @@ use Rattle.engine.specs.Prepared.{turned, alternated, finished}
 use Rattle.engine.proofs.Around.{turned-in}
 use Rattle.engine.proofs.fast.given.Statement.{statement}
 use Rattle.engine.proofs.fast.given.Tie as tie
-use Rattle.engine.proofs.fast.given.Reads as reads
-use Rattle.engine.proofs.fast.given.Lts as lts
-use Rattle.engine.proofs.fast.place.Reads as place-reads
-use Rattle.engine.proofs.fast.sign.Reads as sign-reads
 
--- src/fast.rt:84:23
 place-requires : tie.Need-place-requires
 place-requires c κs = search needs
 
@@ -27,22 +21,18 @@ spot c =
     let s = c .before in
     subst (λ (i : ℕ). i < s .args .n) (sym (c .place .ensures)) (turned-in (s .args .alternate) (s .args .n) (s .args .j) (s .pre .0))
 
--- src/fast.rt:84:21
 mul-sign : tie.Need-mul-sign
 mul-sign c = omega (arith, spot c, c .before .pre .1 .long)
 
--- src/fast.rt:84:21
 shared-slice-copy-out-sign : tie.Need-shared-slice-copy-out-sign
 shared-slice-copy-out-sign c = omega (arith, spot c, c .before .pre .1 .long)
 
 read : (c : tie.After-sign-arg) → toZ w32 (ofZ w32 (at (c .before .before .args .r .now) (c .before .place .result))) ≡ at (c .before .before .args .r .now) (c .before .place .result)
 read c = toZ-ofZ w32 (at (c .before .before .args .r .now) (c .before .place .result)) (record { sfits = c .sign-arg .given })
 
--- src/fast.rt:84:5
 sign-requires : tie.Need-sign-requires
 sign-requires c κs = omega (arith, ap natAbs (read c), c .before .before .pre .1 .small (c .before .place .result) (spot (c .before)))
 
--- src/fast.rt:80:1
 returns : tie.Need-returns
 unfolding finished
 returns c =

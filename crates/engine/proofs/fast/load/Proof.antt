@@ -1,20 +1,19 @@
+-- `fast::load` meets its contract. The invariant: the first k numbers are written, and each is of size at most 32768.
+-- The measure is what is left of n. Assumes nothing.
 use borrow.Author.Needs.{needs}
 use borrow.Author.Count.{below-more}
-use mathlib.Core.Path.{_≡_, _∙_, ap, sym, subst}
-use Prim.Native.Nat.{ℕ, _+_, _-_, _≤_, _<_}
+use mathlib.Core.Path.{_≡_, _∙_, subst}
+use Prim.Native.Nat.{ℕ, _-_, _≤_, _<_}
 use lib.IntN.{ℤ, natAbs}
 use mir.Syntax.{w32}
 use mir.ValLaws.{toZ-ofZ}
-use Rattle.algebra.proofs.Lists.{Filled, fill-none, fill-first, filled}
+use Rattle.algebra.proofs.Lists.{Filled, fill-none, fill-first}
 use Rattle.engine.specs.Lines.{input}
 use Rattle.engine.specs.Prepared.{prepared}
 use Rattle.engine.proofs.Around.{loaded}
 use native.Mathlib.Omega.{arith}
 use Rattle.engine.proofs.fast.load.Statement.{statement}
 use Rattle.engine.proofs.fast.load.Tie as tie
-use Rattle.engine.proofs.fast.load.Reads as reads
-use Rattle.engine.proofs.fast.load.Lts as lts
-use Rattle.engine.proofs.fast.taken.Reads as taken-reads
 
 abbrev Inv-loop : tie.InvT-loop
 Inv-loop s from step n count alternate mirror a₀ k₀ a k =
@@ -23,33 +22,26 @@ Inv-loop s from step n count alternate mirror a₀ k₀ a k =
 abbrev μ-loop : tie.MeasureT-loop
 μ-loop s from step n count alternate mirror a₀ k₀ a k = n - k
 
--- src/fast.rt:73:5
 loop-holds : tie.Need-loop-holds Inv-loop μ-loop
 loop-holds c = (omega arith, (fill-none 0 _ _, λ i h. omega arith))
 
--- src/fast.rt:74:16
 taken-requires : tie.Need-taken-requires Inv-loop μ-loop
 taken-requires c κs = (c .loop-test .taken, c .before .before .pre .1)
 
--- src/fast.rt:74:9
 mul-t12 : tie.Need-mul-t12 Inv-loop μ-loop
 mul-t12 c = search needs
 
--- src/fast.rt:74:9
 slice-set-from-a : tie.Need-slice-set-from-a Inv-loop μ-loop
 slice-set-from-a c =
     let L = c .before .before in
     omega (arith, L .loop .inv .1 .0 .long, L .before .pre .0)
 
--- src/fast.rt:75:9
 add-k : tie.Need-add-k Inv-loop μ-loop
 add-k c = search needs
 
--- src/fast.rt:73:5
 loop-less : tie.Need-loop-less Inv-loop μ-loop
 loop-less c = search needs
 
--- src/fast.rt:73:5
 loop-again : tie.Need-loop-again Inv-loop μ-loop
 loop-again c =
     let L = c .before .before in
@@ -61,11 +53,9 @@ loop-again c =
       ),
     )
 
--- src/fast.rt:59:1
 same-length : tie.Need-same-length Inv-loop μ-loop
 same-length c = c .before .loop .inv .1 .0 .long
 
--- src/fast.rt:59:1
 returns : tie.Need-returns Inv-loop μ-loop
 returns c =
     let L = c .before in

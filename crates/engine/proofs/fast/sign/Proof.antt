@@ -1,37 +1,28 @@
+-- `fast::sign` meets its contract: the sign changes in 32 bits, where the number is far from the ends. Assumes nothing.
 use borrow.Author.Needs.{needs}
 use borrow.Author.Tests.{eq-eqb, ne-eqb}
-use mathlib.Core.Path.{_∙_, sym, ap}
-use mathlib.Core.Bool.{Bool, true, false, _&&_}
+use mathlib.Core.Path.{_∙_, ap}
 use Prim.Native.Nat.{_%_}
 use lib.IntN.{negℤ}
 use mir.Syntax.{w32}
 use mir.ValLaws.{toZ-ofZ}
-use Rattle.meaning.specs.Weights.{signed}
-use Rattle.engine.specs.Prepared.{alternated}
 use Rattle.engine.proofs.fast.sign.Statement.{statement}
 use Rattle.engine.proofs.fast.sign.Tie as tie
-use Rattle.engine.proofs.fast.sign.Reads as reads
-use Rattle.engine.proofs.fast.sign.Lts as lts
-use Rattle.engine.proofs.arith.negated.Reads as negated-reads
 
--- src/fast.rt:31:13
 negated-requires : tie.Need-negated-requires
 negated-requires c κs = search needs
 
--- src/fast.rt:31:13
 returns : tie.Need-returns
 returns c =
     let s = c .before .before .before in
     toZ-ofZ w32 (c .negated .result) (search needs) ∙ c .negated .ensures ∙ ap negℤ (toZ-ofZ w32 (s .args .v) (s .fits .v))
     ∙ rw (c .before .before .if1 .taken, eq-eqb (s .args .k % 2) 1 (c .before .if2 .taken))
 
--- src/fast.rt:25:1
 returns-2 : tie.Need-returns-2
 returns-2 c =
     let s = c .before .before in
     toZ-ofZ w32 (s .args .v) (s .fits .v) ∙ rw (c .before .if1 .taken, ne-eqb (s .args .k % 2) 1 (c .if2 .left))
 
--- src/fast.rt:25:1
 returns-3 : tie.Need-returns-3
 returns-3 c =
     let s = c .before in

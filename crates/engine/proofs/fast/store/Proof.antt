@@ -1,3 +1,5 @@
+-- `fast::store` meets its contract. The invariant: the first j outputs are written. The measure is what is left of n.
+-- Assumes nothing.
 use borrow.Author.Needs.{needs}
 use mathlib.Core.Path.{_≡_, _∙_, subst}
 use Prim.Native.Nat.{ℕ, _-_, _≤_}
@@ -9,9 +11,6 @@ use Rattle.engine.specs.Prepared.{finished}
 use native.Mathlib.Omega.{arith}
 use Rattle.engine.proofs.fast.store.Statement.{statement}
 use Rattle.engine.proofs.fast.store.Tie as tie
-use Rattle.engine.proofs.fast.store.Reads as reads
-use Rattle.engine.proofs.fast.store.Lts as lts
-use Rattle.engine.proofs.fast.given.Reads as given-reads
 
 abbrev Inv-loop : tie.InvT-loop
 Inv-loop r n alternate mirror z₀ j₀ z j = (j ≤ n) × Filled 0 j z z₀ (finished alternate mirror n (at r))
@@ -19,43 +18,34 @@ Inv-loop r n alternate mirror z₀ j₀ z j = (j ≤ n) × Filled 0 j z z₀ (fi
 abbrev μ-loop : tie.MeasureT-loop
 μ-loop r n alternate mirror z₀ j₀ z j = n - j
 
--- src/fast.rt:92:5
 loop-holds : tie.Need-loop-holds Inv-loop μ-loop
 loop-holds c = (omega arith, fill-none 0 _ _)
 
--- src/fast.rt:93:16
 given-requires : tie.Need-given-requires Inv-loop μ-loop
 given-requires c κs = (c .loop-test .taken, c .before .before .pre .1)
 
--- src/fast.rt:93:9
 mul-t9 : tie.Need-mul-t9 Inv-loop μ-loop
 mul-t9 c = search needs
 
--- src/fast.rt:93:9
 slice-set-from-z : tie.Need-slice-set-from-z Inv-loop μ-loop
 slice-set-from-z c =
     let L = c .before .before in
     omega (arith, L .loop .inv .1 .long, L .before .pre .0)
 
--- src/fast.rt:94:9
 add-j : tie.Need-add-j Inv-loop μ-loop
 add-j c = search needs
 
--- src/fast.rt:92:5
 loop-less : tie.Need-loop-less Inv-loop μ-loop
 loop-less c = search needs
 
--- src/fast.rt:92:5
 loop-again : tie.Need-loop-again Inv-loop μ-loop
 loop-again c =
     let L = c .before .before in
     (omega arith, fill-first _ (omega (arith, L .before .pre .0)) (L .loop .inv .1) (toZ-ofZ w32 (c .given .result) (search needs) ∙ c .given .ensures))
 
--- src/fast.rt:87:1
 same-length : tie.Need-same-length Inv-loop μ-loop
 same-length c = c .before .loop .inv .1 .long
 
--- src/fast.rt:87:1
 returns : tie.Need-returns Inv-loop μ-loop
 returns c =
     let a = c .before .before .args in

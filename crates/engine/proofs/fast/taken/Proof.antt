@@ -1,55 +1,43 @@
+-- `fast::taken` meets its contract. An input is read only below `count`, so its place lies in s. Assumes nothing.
 use borrow.Author.Needs.{needs}
 use native.Mathlib.Omega.{arith}
-use borrow.Author.Tests.{lt-ltb, le-ltb}
-use mathlib.Core.Path.{_≡_, _∙_, sym, ap, subst}
-use mathlib.Core.Bool.{Bool, true, false, cond, _&&_}
-use Prim.Native.Nat.{ℕ, _+_, _*_, _%_, _≤_, _<_}
-use lib.Dec.{eqb, ltb}
-use lib.IntN.{ℤ, pos, natAbs}
+use mathlib.Core.Path.{_≡_, _∙_, ap}
+use mathlib.Core.Bool.{_&&_}
+use Prim.Native.Nat.{_+_, _*_, _%_, _<_}
+use lib.Dec.{eqb}
+use lib.IntN.{natAbs}
 use lib.ListN.{length}
 use mir.Syntax.{w16, w32}
 use mir.Val.{toZ, ofZ}
 use mir.ValLaws.{toZ-ofZ}
 use Rattle.engine.specs.Lines.{input}
-use Rattle.engine.specs.Prepared.{turned, alternated, prepared}
+use Rattle.engine.specs.Prepared.{alternated, prepared}
 use Rattle.engine.proofs.Bound.{abs-signed}
 use Rattle.engine.proofs.Around.{prepared-some, prepared-none}
 use Rattle.engine.proofs.fast.taken.Statement.{statement}
 use Rattle.engine.proofs.fast.taken.Tie as tie
-use Rattle.engine.proofs.fast.taken.Reads as reads
-use Rattle.engine.proofs.fast.taken.Lts as lts
-use Rattle.engine.proofs.arith.wide.Reads as wide-reads
-use Rattle.engine.proofs.fast.place.Reads as place-reads
-use Rattle.engine.proofs.fast.sign.Reads as sign-reads
 
--- src/fast.rt:51:9
 place-requires : tie.Need-place-requires
 place-requires c κs = search needs
 
 spot : (c : tie.Then1) → let s = c .before .before .args in s .from + c .before .place .result * s .step < length (s .s .now)
 spot c = c .before .before .pre .1 (c .before .place .result) (c .if1 .taken)
 
--- src/fast.rt:53:42
 mul-wide : tie.Need-mul-wide
 mul-wide c = omega (arith, spot c)
 
--- src/fast.rt:53:35
 add-wide : tie.Need-add-wide
 add-wide c = omega (arith, spot c)
 
--- src/fast.rt:53:33
 mul-wide-2 : tie.Need-mul-wide-2
 mul-wide-2 c = omega (arith, spot c)
 
--- src/fast.rt:53:33
 shared-slice-copy-out-wide : tie.Need-shared-slice-copy-out-wide
 shared-slice-copy-out-wide c = spot c
 
--- src/fast.rt:53:28
 wide-requires : tie.Need-wide-requires
 wide-requires c κs = search needs
 
--- src/fast.rt:53:9
 sign-requires : tie.Need-sign-requires
 sign-requires c κs = omega (arith, ap natAbs (toZ-ofZ w32 (c .wide .result) (search needs)), c .wide .ensures .1)
 
@@ -58,7 +46,6 @@ wideness : (c : tie.After-wide) → let s = c .before .before .before .before .a
     toZ w32 (ofZ w32 (c .wide .result)) ≡ input (s .s .now) (s .from) (s .step) (c .before .before .before .place .result)
 wideness c = toZ-ofZ w32 (c .wide .result) (search needs) ∙ c .wide .ensures .0 ∙ toZ-ofZ w16 _ (record { sfits = c .before .wide-arg .given })
 
--- src/fast.rt:38:1
 returns : tie.Need-returns
 returns c =
     let s = c .before .before .before .before .before in
@@ -71,7 +58,6 @@ returns c =
       omega (arith, ap natAbs r, ap natAbs (c .sign .ensures), abs-signed (s .args .alternate && eqb (s .args .k % 2) 1) (toZ w32 (ofZ w32 (c .before .wide .result))), ap natAbs (toZ-ofZ w32 (c .before .wide .result) (search needs)), c .before .wide .ensures .1),
     )
 
--- src/fast.rt:38:1
 returns-2 : tie.Need-returns-2
 returns-2 c =
     let s = c .before .before .args in
