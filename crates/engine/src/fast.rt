@@ -12,12 +12,15 @@ ghost use Rattle.engine.specs.Dst.{Small};
 ghost use Rattle.engine.specs.Lines.{Given, Inside, input, line};
 ghost use Rattle.engine.specs.Prepared.{turned, alternated, alternates, mirrors, prepared, finished, Loaded};
 
+// Whether every second input changes its sign and the sums are read backwards: all but the inverse DST-VII. DCT-VIII is
+// DST-VII read backwards with alternate signs ("The weights"), and its own transpose.
 fn alternating(kind: u32, forward: bool) -> bool
     ensures { λ r. ⌜ r ≡ alternates forward kind ⌝ }
 {
     forward || kind != 1
 }
 
+// Whether the inputs are read backwards too and every second sum changes its sign: the forward DST-VII.
 fn mirrored(kind: u32, forward: bool) -> bool
     ensures { λ r. ⌜ r ≡ mirrors forward kind ⌝ }
 {

@@ -50,10 +50,8 @@ returns : tie.Need-returns
 returns c =
     let s = c .before .before .before .before .before in
     let x = input (s .args .s .now) (s .args .from) (s .args .step) in
-    let i = c .before .before .before .before .place .result in
-    let v = wideness (c .before) in
     let r = toZ-ofZ w32 (c .sign .result) (search needs) in (
-      r ∙ c .sign .ensures ∙ ap (alternated (s .args .alternate) (s .args .k)) v
+      r ∙ c .sign .ensures ∙ ap (alternated (s .args .alternate) (s .args .k)) (wideness (c .before))
           ∙ prepared-some (s .args .alternate) (s .args .mirror) (s .args .n) (s .args .count) x (s .args .k) (c .before .before .before .before .place .ensures) (c .before .before .before .if1 .taken),
       omega (arith, ap natAbs r, ap natAbs (c .sign .ensures), abs-signed (s .args .alternate && eqb (s .args .k % 2) 1) (toZ w32 (ofZ w32 (c .before .wide .result))), ap natAbs (toZ-ofZ w32 (c .before .wide .result) (search needs)), c .before .wide .ensures .1),
     )
