@@ -2,6 +2,7 @@
 // made before, so they have a `requires`; every function that a user calls stands in `transform` and has none.
 // Read tables (the stored weights), arith (sums in 32 bits), product (the full matrix product), fast (the folded line).
 pub mod arith;
+pub mod dst;
 pub mod fast;
 pub mod product;
 pub mod tables;
