@@ -5,3 +5,4 @@ pub mod Sums
 pub mod Classes
 pub mod Adding
 pub mod Places
+pub mod Folding

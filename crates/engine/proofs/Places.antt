@@ -6,9 +6,14 @@ use Prim.Native.Nat.{ℕ, _+_, _*_, _-_, _%_, _≤_, _<_, min}
 use native.Mathlib.Omega.{arith}
 use borrow.Author.Tests.{eq-eqb, ne-eqb, lt-ltb, le-ltb}
 use lib.IntN.{ℤ, pos, negℤ, natAbs, _+ℤ_, +ℤ-idr}
+use lib.ListN.{length}
+use mir.Syntax.{w32}
+use mir.Val.{toZ, ofZ}
 use Rattle.algebra.specs.Lists.{at}
 use Rattle.algebra.proofs.Order.{abs-add, abs-neg}
-use Rattle.engine.specs.Folded.{Part, plus, minus, folded, periodic, leading, Place}
+use Rattle.engine.specs.Dst.{Small}
+use Rattle.engine.specs.Folded.{Part, plus, minus, folded, periodic, leading, Place, Periodic}
+use Rattle.engine.proofs.Adding.{read-back, read-small}
 
 -- ---- E of features 2 and 3
 pub periodic-none : (q k : ℕ) → (k + 1) % q ≡ 0 → periodic q k ≡ []
@@ -76,3 +81,24 @@ place-four {a} {E} {B} {r} g h i j e p s t u v =
             abs-add (negℤ (at a g)) (negℤ (at a h) +ℤ (at a i +ℤ at a j)),
           ));
     }
+
+-- ---- what a place is given, and what it hands on
+pub periodic-given : {h : ℕ} (q k : ℕ) {c : List ℤ} → Small h 94371840 c → q ≡ 2 * h + 1 → h ≤ 32 → k < 32 → Periodic q k c
+periodic-given q k {c} p e f n =
+    record {
+      odd = omega (arith, p .long);
+      few = omega (arith, p .long);
+      near = n;
+      sums = record { long = refl; small = λ g l. p .small g (omega (arith, p .long)) };
+    }
+
+module _ {a : List ℤ} {E : List Part} {B : ℕ} {r : ℤ} (p : Place a E B r) (h : B ≤ 1000000000) where
+  pub place-back : toZ w32 (ofZ w32 r) ≡ folded (at a) E
+  place-back = read-back r B (p .small) h ∙ p .is
+
+  pub place-safe : natAbs (toZ w32 (ofZ w32 r)) ≤ 1000000000
+  place-safe = omega (arith, read-small r B (p .small) h)
+
+pub places-safe : {a b : List ℤ} {E F : List Part} {y z : ℤ} → Place a E 94371840 y → Place b F 377487360 z
+    → natAbs (folded (at a) E +ℤ folded (at b) F) ≤ 1000000000
+places-safe {y = y} {z = z} p q = subst (λ (s : ℤ). natAbs s ≤ 1000000000) (λ t. p .is t +ℤ q .is t) (omega (arith, abs-add y z, p .small, q .small))

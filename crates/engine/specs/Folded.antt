@@ -3,7 +3,7 @@
 use mathlib.Core.Path.{_≡_}
 use mathlib.Core.Bool.{Bool, cond, _&&_}
 use mathlib.Core.List.{List, [], _∷_}
-use Prim.Native.Nat.{ℕ, _+_, _*_, _-_, _%_, _≤_, _<_, min}
+use Prim.Native.Nat.{ℕ, _+_, _*_, _-_, _/_, _%_, _≤_, _<_, min}
 use lib.Dec.{eqb, leb, ltb}
 use lib.ListN.{length}
 use lib.IntN.{ℤ, pos, negℤ, natAbs, _+ℤ_}
@@ -88,3 +88,25 @@ pub record Leading (m q k : ℕ) (a : List ℤ) : Type 0 where
   pub past : k + 2 ≤ m + q
   pub few : q ≤ 32
   pub sums : Small m 94371840 a
+
+-- ---- the whole line: L = p * q, (p - 1) / 2 * q places of the first class, (q - 1) / 2 of the second, (p - 1) / 2 of the third
+abbrev pub half : ℕ → ℕ
+half p = (p - 1) / 2
+
+unfoldable pub joinedTwo : ℕ → ℕ → List ℤ → List ℤ → ℕ → ℤ
+joinedTwo p q a c k = folded (at c) (periodic q k) +ℤ folded (at a) (leading p (half p * q) q k)
+
+unfoldable pub joined : ℕ → ℕ → List ℤ → List ℤ → List ℤ → ℕ → ℤ
+joined p q a c d k = folded (at c) (periodic q k) +ℤ (folded (at d) (periodic p k) +ℤ folded (at a) (leading p (half p * q) q k))
+
+-- the sums of the classes, and room for the line
+pub record TwoSums (n m h : ℕ) (a c r : List ℤ) : Type 0 where
+  pub lead : Small m 94371840 a
+  pub second : Small h 94371840 c
+  pub long : length r ≡ n
+
+pub record ThreeSums (n m h g : ℕ) (a c d r : List ℤ) : Type 0 where
+  pub lead : Small m 94371840 a
+  pub second : Small h 94371840 c
+  pub third : Small g 94371840 d
+  pub long : length r ≡ n
