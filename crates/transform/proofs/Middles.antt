@@ -14,15 +14,15 @@ use lib.ListN.{length, set, length-set}
 use lib.Seq.{getD-set-same, getD-set-other}
 use Rattle.algebra.specs.Sum.{sumℕ}
 use Rattle.algebra.specs.Lists.{at, block}
-use Rattle.algebra.proofs.Lists.{row-in, tab-at, tab-length}
-use Rattle.algebra.proofs.Sum.{sumℕ-next, sumℕ-mono, sumℕ-const}
+use Rattle.algebra.proofs.Lists.{row-in, tab-at, tab-length, same-column, block-ext}
+use Rattle.algebra.proofs.Sum.{sumℕ-next, sumℕ-mono, sumℕ-const, sumℕ-cong}
 use Rattle.meaning.specs.declared.Shape.{Shape}
 use Rattle.meaning.specs.Shape.{keptColumns, keptRows, range}
 use Rattle.meaning.specs.Line.{inverseSum, inverseLine}
 use Rattle.meaning.specs.Inverse.{columnSum, rounded, middle, middleAt, middles, railed, count, rails}
 use Rattle.meaning.proofs.Stages.{columns-in}
 use Rattle.transform.specs.Stages.{short, Column, railsOf}
-use Rattle.transform.proofs.Laws.{below-or, same-column, block-ext, sumℕ-cong}
+use Rattle.transform.proofs.Tests.{below-or}
 
 -- ---- a column that a loop writes
 pub column-none : (w x : ℕ) (f : ℕ → ℤ) (m : List ℤ) → Column w x 0 f m m

@@ -9,7 +9,7 @@ use Rattle.algebra.specs.Sum.{sum}
 use Rattle.algebra.specs.Shift.{nearest}
 use Rattle.algebra.specs.Lists.{at, block}
 use Rattle.algebra.proofs.Sum.{sum-cong}
-use Rattle.algebra.proofs.Lists.{block-at, block-cong, block-length}
+use Rattle.algebra.proofs.Lists.{block-at, block-cong, block-length, every-place}
 use Rattle.meaning.specs.declared.Shape.{Shape}
 use Rattle.meaning.specs.Weights.{weight}
 use Rattle.meaning.specs.Shape.{keptColumns, lastShift}
@@ -20,7 +20,6 @@ use Rattle.meaning.proofs.Small.{NoneAbove, within-places}
 use Rattle.meaning.proofs.Sizes.{inverseSum-short}
 use Rattle.meaning.proofs.Stages.{columns-in, middle-in}
 use Rattle.transform.specs.Stages.{residualOf}
-use Rattle.transform.proofs.Laws.{every-place}
 use Rattle.transform.proofs.Middles.{sums-at, sums-long}
 
 inverse-cong : (kind n count : ℕ) (x z : ℕ → ℤ) (j : ℕ) → ((i : ℕ) → i < count → x i ≡ z i) → inverseSum kind n count x j ≡ inverseSum kind n count z j

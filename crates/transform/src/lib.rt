@@ -3,3 +3,4 @@
 pub mod block;
 mod check;
 mod inverse;
+pub mod line;

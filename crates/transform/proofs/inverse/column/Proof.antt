@@ -16,7 +16,7 @@ use Rattle.meaning.specs.Inverse.{columnSum, middle}
 use Rattle.meaning.proofs.Cases.{size-in}
 use Rattle.meaning.proofs.Stages.{columns-in, rows-in, columnSum-in}
 use Rattle.transform.specs.Stages.{short, Column, railsOf}
-use Rattle.transform.proofs.Laws.{never}
+use Rattle.transform.proofs.Tests.{never}
 use Rattle.transform.proofs.Middles.{columnLine, column-sums, column-cong, rails-cong, middle-kept, sums-long}
 use Rattle.transform.proofs.inverse.column.Statement.{statement}
 use Rattle.transform.proofs.inverse.column.Tie as tie

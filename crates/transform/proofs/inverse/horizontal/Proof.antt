@@ -6,7 +6,7 @@ use Prim.Native.Nat.{ℕ}
 use lib.IntN.{ℤ}
 use Rattle.engine.specs.Lines.{Table}
 use Rattle.transform.specs.Stages.{Horizontal}
-use Rattle.transform.proofs.Laws.{last-size}
+use Rattle.transform.proofs.Lent.{thirty-two}
 use Rattle.transform.proofs.inverse.horizontal.Statement.{statement}
 use Rattle.transform.proofs.inverse.horizontal.Tie as tie
 use Rattle.transform.proofs.inverse.horizontal.Reads as reads
@@ -86,7 +86,7 @@ slice-aggregate-rows-4 c = search needs
 rows-requires-4 : tie.Need-rows-requires-4
 rows-requires-4 c κs =
     let s = c .before .before .before .before .before .before in
-    let e = last-size (s .args .shape .width) (s .pre .0 .taken .width) (c .before .before .before .before .before .if1 .left) (c .before .before .before .before .if2 .left) (c .before .before .before .if3 .left) in
+    let e = thirty-two (s .args .shape .width) (s .pre .0 .taken .width) (c .before .before .before .before .before .if1 .left) (c .before .before .before .before .if2 .left) (c .before .before .before .if3 .left) in
     (given s e (c .before .before .weights-32 .ensures), s .pre .0 .room)
 
 same-length-4 : tie.Need-same-length-4

@@ -13,13 +13,12 @@ use mir.Syntax.{w16}
 use mir.ValLaws.{toZ-ofZ}
 use Rattle.algebra.specs.Lists.{at}
 use Rattle.algebra.specs.First.{firstAt}
-use Rattle.algebra.proofs.Lists.{place-in}
+use Rattle.algebra.proofs.Lists.{place-in, row-of, column-of}
 use Rattle.algebra.proofs.First.{first-on, first-here, first-none}
 use Rattle.algebra.proofs.Order.{in-fits}
 use Rattle.meaning.specs.Inverse.{outside}
 use Rattle.meaning.proofs.Small.{within-places}
 use Rattle.transform.specs.Stages.{outsideAt}
-use Rattle.transform.proofs.Laws.{row-of, column-of}
 use Rattle.transform.proofs.inverse.hunt.Statement.{statement}
 use Rattle.transform.proofs.inverse.hunt.Tie as tie
 use Rattle.transform.proofs.inverse.hunt.Reads as reads

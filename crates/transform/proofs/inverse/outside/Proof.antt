@@ -7,14 +7,15 @@ use lib.IntN.{ℤ, pos, natAbs}
 use mir.Syntax.{w16}
 use mir.Val.{toZ, ofZ}
 use mir.ValLaws.{toZ-ofZ}
-use Rattle.transform.proofs.Laws.{no-size, leb-not}
+use Rattle.algebra.proofs.Order.{abs-zero}
+use Rattle.transform.proofs.Tests.{leb-not}
 use Rattle.transform.proofs.inverse.outside.Statement.{statement}
 use Rattle.transform.proofs.inverse.outside.Tie as tie
 use Rattle.transform.proofs.inverse.outside.Reads as reads
 use Rattle.transform.proofs.inverse.outside.Lts as lts
 
 some : (c : tie.Else1) → eqb (natAbs (c .before .args .n)) 0 ≡ false
-some c = ne-eqb (natAbs (c .before .args .n)) 0 (λ e. c .if1 .left (ap (ofZ w16) (no-size (c .before .args .n) e)))
+some c = ne-eqb (natAbs (c .before .args .n)) 0 (λ e. c .if1 .left (ap (ofZ w16) (abs-zero (c .before .args .n) e)))
 
 returns : tie.Need-returns
 returns c =

@@ -6,7 +6,7 @@ use mir.Syntax.{w16}
 use mir.Val.{toZ, ofZ}
 use mir.ValLaws.{toZ-ofZ}
 use Rattle.algebra.specs.Equal.{eqZ}
-use Rattle.transform.proofs.Laws.{eqZ-no}
+use Rattle.algebra.proofs.Table.{eqZ-no}
 use Rattle.transform.proofs.inverse.rail.Statement.{statement}
 use Rattle.transform.proofs.inverse.rail.Tie as tie
 use Rattle.transform.proofs.inverse.rail.Reads as reads

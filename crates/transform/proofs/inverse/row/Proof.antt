@@ -15,7 +15,7 @@ use Rattle.meaning.proofs.Cases.{depth-cases, size-in}
 use Rattle.meaning.proofs.Small.{within-places}
 use Rattle.meaning.proofs.Stages.{columns-in}
 use Rattle.transform.specs.Stages.{residualOf}
-use Rattle.transform.proofs.Laws.{never}
+use Rattle.transform.proofs.Tests.{never}
 use Rattle.transform.proofs.Middles.{sums-long}
 use Rattle.transform.proofs.Residuals.{rowOf, row-sums, residual-row, row-small}
 use Rattle.transform.proofs.inverse.row.Statement.{statement}

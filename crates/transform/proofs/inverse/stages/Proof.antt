@@ -9,12 +9,12 @@ use native.Mathlib.Nat.{mul-le-mul, mul-comm}
 use lib.ListN.{length, take, drop, length-append}
 use lib.IntN.{ℤ}
 use Rattle.algebra.specs.Lists.{block}
+use Rattle.algebra.proofs.Lists.{take-zeros, part-long, part-same}
 use Rattle.meaning.specs.Inverse.{middles}
 use Rattle.meaning.proofs.Cases.{size-in}
 use Rattle.meaning.proofs.Small.{NoneAbove}
 use Rattle.meaning.proofs.Accepted.{Whole}
 use Rattle.transform.specs.Stages.{residualOf}
-use Rattle.transform.proofs.Laws.{take-zeros, part-long, part-same}
 use Rattle.transform.proofs.Residuals.{middles-long, middles-in, residuals}
 use Rattle.transform.proofs.inverse.stages.Statement.{statement}
 use Rattle.transform.proofs.inverse.stages.Tie as tie

@@ -6,7 +6,7 @@ use Prim.Native.Nat.{ℕ}
 use lib.IntN.{ℤ}
 use Rattle.engine.specs.Lines.{Table}
 use Rattle.transform.specs.Stages.{Vertical}
-use Rattle.transform.proofs.Laws.{last-size}
+use Rattle.transform.proofs.Lent.{thirty-two}
 use Rattle.transform.proofs.inverse.vertical.Statement.{statement}
 use Rattle.transform.proofs.inverse.vertical.Tie as tie
 use Rattle.transform.proofs.inverse.vertical.Reads as reads
@@ -95,7 +95,7 @@ slice-aggregate-columns-4 c = search needs
 columns-requires-4 : tie.Need-columns-requires-4
 columns-requires-4 c κs =
     let s = c .before .before .before .before .before .before .before in
-    let e = last-size (s .args .shape .height) (s .pre .0 .taken .height) (c .before .before .before .before .before .before .if1 .left) (c .before .before .before .before .before .if2 .left) (c .before .before .before .before .if3 .left) in
+    let e = thirty-two (s .args .shape .height) (s .pre .0 .taken .height) (c .before .before .before .before .before .before .if1 .left) (c .before .before .before .before .before .if2 .left) (c .before .before .before .before .if3 .left) in
     (given s e (c .before .before .before .weights-32 .ensures), s .pre .1 .1 .1)
 
 same-length-7 : tie.Need-same-length-7

@@ -1,6 +1,6 @@
 -- `inverse::zeros` meets its contract. Assumes nothing.
 use mathlib.Core.Path.{refl}
-use Rattle.transform.proofs.Laws.{zeros-at}
+use Rattle.algebra.proofs.Lists.{zeros-at}
 use Rattle.transform.proofs.inverse.zeros.Statement.{statement}
 use Rattle.transform.proofs.inverse.zeros.Tie as tie
 
