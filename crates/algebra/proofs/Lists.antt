@@ -1,12 +1,13 @@
 -- Laws of tabulated lists and of blocks of rows; a list that a loop fills; a lent part that comes back. Assumes nothing.
 use mathlib.Core.Path.{_≡_, refl, sym, ap, _∙_, subst}
 use mathlib.Core.List.{List, [], _∷_, _++_, append-assoc, append-nil}
-use Prim.Native.Nat.{ℕ, zero, suc, _+_, _*_, _-_, _≤_, _<_}
-use native.Mathlib.Nat.{not-suc-le-zero, mul-le-mul-right, suc-mul, add-mul, one-mul, zero-mul, zero-add, le-of-suc-le-suc}
+use Prim.Native.Nat.{ℕ, zero, suc, _+_, _*_, _-_, _/_, _%_, _≤_, _<_}
+use native.Mathlib.Nat.{div-add-mod', mod-lt, div-lt-iff-lt-mul, add-comm, not-suc-le-zero, mul-zero, mul-le-mul-right, suc-mul, add-mul, one-mul, zero-mul, zero-add, le-of-suc-le-suc}
 use native.Mathlib.Numerals.{add-one}
 use native.Mathlib.Omega.{arith}
 use native.Mathlib.Decide.{ℕ-discrete}
 use lib.ListN.{length, take, drop, getD, set, length-append, length-set, length-drop, List·getD-append, drop-of-length-le}
+use lib.Arith.{digits-div, digits-mod}
 use lib.Seq.{ext-getD, getD-at, getD-append-add, getD-set-same, getD-set-other, take-at, drop-at, drop-drop, drop-cons, set-at, append-snoc, length-take-le}
 use lib.IntN.{ℤ, pos}
 use Rattle.algebra.specs.Lists.{at, tabulate, block, flat}
@@ -71,6 +72,33 @@ pub block-cong : (w h : ℕ) (f g : ℕ → ℕ → ℤ) → ((x y : ℕ) → x 
 unfolding block
 block-cong w zero f g e = refl
 block-cong w (suc h) f g e = λ i. block-cong w h f g (λ x y p q. e x y p (omega arith)) i ++ tab-cong w (λ x. f x h) (λ x. g x h) (λ x p. e x h p (omega arith)) i
+
+-- a place is in one column and one row
+pub place-column : {x i w : ℕ} (y j : ℕ) → x < w → i < w → x + y * w ≡ i + j * w → x ≡ i
+place-column {x} {i} {w} y j hx hi e =
+    sym (digits-mod y hx) ∙ ap (λ (k : ℕ). k % w) (add-comm (y * w) x ∙ e ∙ add-comm i (j * w)) ∙ digits-mod j hi
+
+pub place-row : {x i w : ℕ} (y j : ℕ) → x < w → i < w → x + y * w ≡ i + j * w → y ≡ j
+place-row {x} {i} {w} y j hx hi e =
+    sym (digits-div y hx) ∙ ap (λ (k : ℕ). k / w) (add-comm (y * w) x ∙ e ∙ add-comm i (j * w)) ∙ digits-div j hi
+
+-- a list of h rows of w is a block by what stands at each place
+pub block-ext : (w h : ℕ) (f : ℕ → ℕ → ℤ) (l : List ℤ) → length l ≡ h * w → ((x y : ℕ) → x < w → y < h → at l (x + y * w) ≡ f x y) → l ≡ block w h f
+block-ext w h f l n e = ext-getD (pos 0) l (block w h f) (n ∙ sym (block-length w h f)) (λ k p. one k (subst (λ (m : ℕ). k < m) n p))
+  where
+    one : (k : ℕ) → k < h * w → at l k ≡ at (block w h f) k
+    one k p =
+        let some : 0 < w = positive w p in
+        let x = k % w in
+        let y = k / w in
+        let hx : x < w = mod-lt k some in
+        let hy : y < h = div-lt-iff-lt-mul some .1 p in
+        let q : k ≡ x + y * w = omega (arith, div-add-mod' k w) in
+        ap (at l) q ∙ e x y hx hy ∙ sym (block-at w h f x y hx hy) ∙ ap (at (block w h f)) (sym q)
+      where
+        positive : (w : ℕ) → k < h * w → 0 < w
+        positive zero p = absurd (omega (arith, mul-zero h))
+        positive (suc w) p = omega arith
 
 -- ---- a loop that writes one value after another from place o on: what it wrote, and what is still as it was
 pub record Filled (o j : ℕ) (a a₀ : List ℤ) (f : ℕ → ℤ) : Type 0 where
