@@ -1,0 +1,12 @@
+pub mod Unique
+mod Shapes
+mod Tests
+mod Whole
+pub mod Found
+mod Pairs
+mod Writing
+mod Digits
+mod Signs
+mod Spaced
+pub mod Fuel
+pub mod Printed
