@@ -33,7 +33,7 @@ first-le n k = getD-le 90 (first n) (small n) k
         (pick (λ (xs : List ℕ). T (allLe 90 xs)) (eqb n 8) _ _ tt
         (pick (λ (xs : List ℕ). T (allLe 90 xs)) (eqb n 16) _ _ tt (pick (λ (xs : List ℕ). T (allLe 90 xs)) (eqb n 32) _ _ tt tt)))
 
-abs-signed : (b : Bool) (z : ℤ) → natAbs (signed b z) ≡ natAbs z
+pub abs-signed : (b : Bool) (z : ℤ) → natAbs (signed b z) ≡ natAbs z
 abs-signed true z = abs-neg z
 abs-signed false z = refl
 

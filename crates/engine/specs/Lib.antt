@@ -1,3 +1,4 @@
 pub mod Lines
 pub mod Product
 pub mod Dst
+pub mod Prepared
