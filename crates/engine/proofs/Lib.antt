@@ -4,3 +4,7 @@ pub mod Either
 pub mod Sums
 pub mod Mirror
 pub mod Around
+pub mod Classes
+pub mod Adding
+pub mod Places
+pub mod Folding

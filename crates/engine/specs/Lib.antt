@@ -2,3 +2,4 @@ pub mod Lines
 pub mod Product
 pub mod Dst
 pub mod Prepared
+pub mod Folded

@@ -57,8 +57,8 @@ given {m = m} forward p e t =
     }
 
 -- number i of an input that stands at 0 and goes by 1
-pub in-order : (forward : Bool) (kind n : ℕ) (x : List ℤ) → line forward kind n n (input x 0 1) ≡ line forward kind n n (at x)
-in-order forward kind n x = λ p. line forward kind n n (λ i. at x (same i p))
+pub in-order : (forward : Bool) (kind n : ℕ) (x : List ℤ) {z : List ℤ} → z ≡ line forward kind n n (input x 0 1) → z ≡ line forward kind n n (at x)
+in-order forward kind n x e = e ∙ (λ p. line forward kind n n (λ i. at x (same i p)))
   where
     same : (i : ℕ) → 0 + i * 1 ≡ i
     same i = omega arith

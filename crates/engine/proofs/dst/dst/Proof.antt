@@ -1,69 +1,102 @@
+-- `dst::dst` meets its contract: each size by its own line. Assumes nothing.
 use borrow.Author.Needs.{needs}
 use native.Mathlib.Omega.{arith}
-use mathlib.Core.Path.{_≡_, _∙_, subst}
-use Prim.Native.Nat.{ℕ, _-_, _≤_}
-use mir.Syntax.{w32}
-use mir.ValLaws.{toZ-ofZ}
+use mathlib.Core.Path.{_≡_, refl, sym, ap, _∙_, subst}
+use mathlib.Core.Bool.{true}
+use mathlib.Core.List.{List}
+use Prim.Native.Nat.{ℕ}
+use lib.IntN.{ℤ}
 use Rattle.algebra.specs.Lists.{at}
-use Rattle.algebra.proofs.Lists.{Filled, fill-none, fill-first, filled}
-use Rattle.engine.specs.Dst.{dstSum}
+use Rattle.meaning.specs.Shape.{isSize}
+use Rattle.meaning.proofs.Cases.{size-cases}
+use Rattle.engine.specs.Dst.{Core, dstLine}
 use Rattle.engine.proofs.dst.dst.Statement.{statement}
 use Rattle.engine.proofs.dst.dst.Tie as tie
+use Rattle.engine.proofs.dst.dst.Reads as reads
+use Rattle.engine.proofs.dst.dst.Lts as lts
+use Rattle.engine.proofs.dst.dst_16.Reads as dst-16-reads
+use Rattle.engine.proofs.dst.dst_32.Reads as dst-32-reads
+use Rattle.engine.proofs.dst.dst_4.Reads as dst-4-reads
+use Rattle.engine.proofs.dst.dst_8.Reads as dst-8-reads
 
-abbrev Inv-loop : tie.InvT-loop
-Inv-loop t n x r₀ j₀ r j = (j ≤ n) × Filled 0 j r r₀ (dstSum n (at x))
+-- a size that is none of the others
+last : (n : ℕ) → isSize n ≡ true → (n ≡ 4 → ⊥) → (n ≡ 8 → ⊥) → (n ≡ 16 → ⊥) → n ≡ 32
+last = size-cases (λ n. (n ≡ 4 → ⊥) → (n ≡ 8 → ⊥) → (n ≡ 16 → ⊥) → n ≡ 32) (λ a b c. absurd (a refl)) (λ a b c. absurd (b refl)) (λ a b c. absurd (c refl)) (λ a b c. refl)
 
-abbrev μ-loop : tie.MeasureT-loop
-μ-loop t n x r₀ j₀ r j = n - j
+is-32 : (c : tie.Else3) → c .before .before .before .args .n ≡ 32
+is-32 c = last _ (c .before .before .before .pre .size) (c .before .before .if1 .left) (c .before .if2 .left) (c .if3 .left)
 
-loop-holds : tie.Need-loop-holds Inv-loop μ-loop
-loop-holds c = (omega arith, fill-none 0 _ _)
+core : {n m : ℕ} {t x r : List ℤ} → n ≡ m → Core n t x r → Core m t x r
+core {t = t} {x = x} {r = r} e p = subst (λ (k : ℕ). Core k t x r) e p
 
-column-requires : tie.Need-column-requires Inv-loop μ-loop
-column-requires c κs =
-    let p = c .before .before .before .pre in
-    (c .before .loop-test .taken, record { size = p .size; table = p .table; input = p .input; long = p .input .long })
+same : (x : ℕ → ℤ) {n m : ℕ} {r : List ℤ} → n ≡ m → r ≡ dstLine m x → r ≡ dstLine n x
+same x e p = p ∙ ap (λ (k : ℕ). dstLine k x) (sym e)
 
-mul-t10 : tie.Need-mul-t10 Inv-loop μ-loop
-mul-t10 c = search needs
+dst-4-requires : tie.Need-dst-4-requires
+dst-4-requires c κs = core (c .before .before .if1 .taken) (c .before .before .before .pre)
 
-slice-set-from-r : tie.Need-slice-set-from-r Inv-loop μ-loop
-slice-set-from-r c =
-    let L = c .before .before .before in
-    omega (arith, L .loop .inv .1 .long, L .before .pre .long)
+dst-8-requires : tie.Need-dst-8-requires
+dst-8-requires c κs = core (c .before .before .if2 .taken) (c .before .before .before .before .pre)
 
-add-j : tie.Need-add-j Inv-loop μ-loop
-add-j c = search needs
+dst-16-requires : tie.Need-dst-16-requires
+dst-16-requires c κs = core (c .before .before .if3 .taken) (c .before .before .before .before .before .pre)
 
-loop-less : tie.Need-loop-less Inv-loop μ-loop
-loop-less c = search needs
+dst-32-requires : tie.Need-dst-32-requires
+dst-32-requires c κs = core (is-32 (c .before .before)) (c .before .before .before .before .before .pre)
 
-loop-again : tie.Need-loop-again Inv-loop μ-loop
-loop-again c =
-    let L = c .before .before .before in
-    (omega arith, fill-first _ (omega (arith, L .before .pre .long)) (L .loop .inv .1) (toZ-ofZ w32 (c .column .result) (search needs) ∙ c .column .ensures))
+same-length : tie.Need-same-length
+same-length c = search needs
 
-same-length : tie.Need-same-length Inv-loop μ-loop
-same-length c = c .before .loop .inv .1 .long
+same-length-2 : tie.Need-same-length-2
+same-length-2 c = search needs
 
-returns : tie.Need-returns Inv-loop μ-loop
-returns c =
-    let a = c .before .before .args in
-    let e : c .before .loop .j ≡ a .n = omega arith in
-    filled (c .before .before .pre .long) (subst (λ (j : ℕ). Filled 0 j (c .before .loop .r) (a .r .now) (dstSum (a .n) (at (a .x .now)))) e (c .before .loop .inv .1))
+returns : tie.Need-returns
+returns c = same (at (c .before .before .before .before .before .before .args .x .now)) (c .before .before .before .before .before .if1 .taken) (c .before .before .dst-4 .ensures)
+
+same-length-3 : tie.Need-same-length-3
+same-length-3 c = search needs
+
+same-length-4 : tie.Need-same-length-4
+same-length-4 c = search needs
+
+returns-2 : tie.Need-returns-2
+returns-2 c = same (at (c .before .before .before .before .before .before .before .args .x .now)) (c .before .before .before .before .before .if2 .taken) (c .before .before .dst-8 .ensures)
+
+same-length-5 : tie.Need-same-length-5
+same-length-5 c = search needs
+
+same-length-6 : tie.Need-same-length-6
+same-length-6 c = search needs
+
+returns-3 : tie.Need-returns-3
+returns-3 c = same (at (c .before .before .before .before .before .before .before .before .args .x .now)) (c .before .before .before .before .before .if3 .taken) (c .before .before .dst-16 .ensures)
+
+same-length-7 : tie.Need-same-length-7
+same-length-7 c = search needs
+
+same-length-8 : tie.Need-same-length-8
+same-length-8 c = search needs
+
+returns-4 : tie.Need-returns-4
+returns-4 c = same (at (c .before .before .before .before .before .before .before .before .args .x .now)) (is-32 (c .before .before .before .before .before)) (c .before .before .dst-32 .ensures)
 
 pub dst-spec : {M : Type 1} → statement M
 dst-spec =
     tie.close
     (tie.spec
-    Inv-loop
-    μ-loop
-    loop-holds
-    column-requires
-    mul-t10
-    slice-set-from-r
-    add-j
-    loop-less
-    loop-again
+    dst-4-requires
+    dst-8-requires
+    dst-16-requires
+    dst-32-requires
     same-length
-    returns)
+    same-length-2
+    returns
+    same-length-3
+    same-length-4
+    returns-2
+    same-length-5
+    same-length-6
+    returns-3
+    same-length-7
+    same-length-8
+    returns-4)

@@ -1,35 +1,24 @@
+-- `line::is_place` meets its contract: a test for each part of the conjunction. Assumes nothing.
 use borrow.Author.Needs.{needs}
-use mathlib.Core.Path.{_≡_, refl, sym, ap, _∙_, subst}
-use mathlib.Core.Bool.{true, false}
 use borrow.Author.Tests.{not-true, not-false, lt-ltb, le-ltb}
 use Rattle.transform.proofs.line.is_place.Statement.{statement}
 use Rattle.transform.proofs.line.is_place.Tie as tie
-use Rattle.transform.proofs.line.is_place.Reads as reads
-use Rattle.transform.proofs.line.is_place.Lts as lts
-use Rattle.meaning.proofs.is_kind.Reads as is-kind-reads
-use Rattle.meaning.proofs.is_size.Reads as is-size-reads
 
--- src/line.rt:29:9
 is-kind-requires : tie.Need-is-kind-requires
 is-kind-requires c κs = search needs
 
--- src/line.rt:30:9
 returns : tie.Need-returns
 returns c = rw (← c .before .is-kind .ensures, not-true (c .before .is-kind .result) (c .if1 .taken))
 
--- src/line.rt:32:9
 is-size-requires : tie.Need-is-size-requires
 is-size-requires c κs = search needs
 
--- src/line.rt:33:9
 returns-2 : tie.Need-returns-2
 returns-2 c = rw (← c .before .before .before .is-kind .ensures, not-false (c .before .before .before .is-kind .result) (c .before .before .if1 .left), ← c .before .is-size .ensures, not-true (c .before .is-size .result) (c .if2 .taken))
 
--- src/line.rt:36:9
 returns-3 : tie.Need-returns-3
 returns-3 c = rw (← c .before .before .before .before .is-kind .ensures, not-false (c .before .before .before .before .is-kind .result) (c .before .before .before .if1 .left), ← c .before .before .is-size .ensures, not-false (c .before .before .is-size .result) (c .before .if2 .left), le-ltb _ _ (c .if3 .taken))
 
--- src/line.rt:26:1
 returns-4 : tie.Need-returns-4
 returns-4 c = rw (← c .before .before .before .before .is-kind .ensures, not-false (c .before .before .before .before .is-kind .result) (c .before .before .before .if1 .left), ← c .before .before .is-size .ensures, not-false (c .before .before .is-size .result) (c .before .if2 .left), lt-ltb _ _ (c .if3 .left))
 

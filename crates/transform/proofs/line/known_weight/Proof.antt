@@ -1,5 +1,6 @@
+-- `line::known_weight` meets its contract: in each arm the table lent is that of n points. Assumes nothing.
 use borrow.Author.Needs.{needs}
-use mathlib.Core.Path.{_≡_, refl, sym, ap, _∙_, subst}
+use mathlib.Core.Path.{_≡_, sym, ap, _∙_}
 use Prim.Native.Nat.{ℕ}
 use mir.Syntax.{w32}
 use mir.ValLaws.{toZ-ofZ}
@@ -7,13 +8,6 @@ use Rattle.meaning.specs.Weights.{weight}
 use Rattle.transform.proofs.Lent.{Place, place, spot, thirty-two}
 use Rattle.transform.proofs.line.known_weight.Statement.{statement}
 use Rattle.transform.proofs.line.known_weight.Tie as tie
-use Rattle.transform.proofs.line.known_weight.Reads as reads
-use Rattle.transform.proofs.line.known_weight.Lts as lts
-use Rattle.engine.proofs.product.entry.Reads as entry-reads
-use Rattle.engine.proofs.tables.weights_16.Reads as weights-16-reads
-use Rattle.engine.proofs.tables.weights_32.Reads as weights-32-reads
-use Rattle.engine.proofs.tables.weights_4.Reads as weights-4-reads
-use Rattle.engine.proofs.tables.weights_8.Reads as weights-8-reads
 
 here : (s : tie.Start) → Place (s .args .kind) (s .args .n) (s .args .i) (s .args .j)
 here s = place (s .args .kind) (s .args .n) (s .args .i) (s .args .j) (s .pre)
@@ -22,81 +16,65 @@ here s = place (s .args .kind) (s .args .n) (s .args .i) (s .args .j) (s .pre)
 sized : (s : tie.Start) {m : ℕ} → s .args .n ≡ m → weight (s .args .kind) m (s .args .i) (s .args .j) ≡ weight (s .args .kind) (s .args .n) (s .args .i) (s .args .j)
 sized s e = ap (λ (n : ℕ). weight (s .args .kind) n (s .args .i) (s .args .j)) (sym e)
 
--- src/line.rt:47:17
 weights-4-requires : tie.Need-weights-4-requires
 weights-4-requires c κs = search needs
 
--- src/line.rt:48:22
 slice-aggregate-entry : tie.Need-slice-aggregate-entry
 slice-aggregate-entry c = search needs
 
--- src/line.rt:48:9
 entry-requires : tie.Need-entry-requires
 entry-requires c κs =
     let p = here (c .before .before .before) in
     spot p (c .before .before .if1 .taken) (c .before .weights-4 .ensures)
 
--- src/line.rt:48:9
 returns : tie.Need-returns
 returns c =
     let p = here (c .before .before .before .before) in
     toZ-ofZ w32 _ (search needs) ∙ c .entry .ensures ∙ sized (c .before .before .before .before) (c .before .before .before .if1 .taken)
 
--- src/line.rt:51:17
 weights-8-requires : tie.Need-weights-8-requires
 weights-8-requires c κs = search needs
 
--- src/line.rt:52:22
 slice-aggregate-entry-2 : tie.Need-slice-aggregate-entry-2
 slice-aggregate-entry-2 c = search needs
 
--- src/line.rt:52:9
 entry-requires-2 : tie.Need-entry-requires-2
 entry-requires-2 c κs =
     let p = here (c .before .before .before .before) in
     spot p (c .before .before .if2 .taken) (c .before .weights-8 .ensures)
 
--- src/line.rt:52:9
 returns-2 : tie.Need-returns-2
 returns-2 c =
     let p = here (c .before .before .before .before .before) in
     toZ-ofZ w32 _ (search needs) ∙ c .entry2 .ensures ∙ sized (c .before .before .before .before .before) (c .before .before .before .if2 .taken)
 
--- src/line.rt:55:17
 weights-16-requires : tie.Need-weights-16-requires
 weights-16-requires c κs = search needs
 
--- src/line.rt:56:22
 slice-aggregate-entry-3 : tie.Need-slice-aggregate-entry-3
 slice-aggregate-entry-3 c = search needs
 
--- src/line.rt:56:9
 entry-requires-3 : tie.Need-entry-requires-3
 entry-requires-3 c κs =
     let p = here (c .before .before .before .before .before) in
     spot p (c .before .before .if3 .taken) (c .before .weights-16 .ensures)
 
--- src/line.rt:56:9
 returns-3 : tie.Need-returns-3
 returns-3 c =
     let p = here (c .before .before .before .before .before .before) in
     toZ-ofZ w32 _ (search needs) ∙ c .entry3 .ensures ∙ sized (c .before .before .before .before .before .before) (c .before .before .before .if3 .taken)
 
--- src/line.rt:58:13
 weights-32-requires : tie.Need-weights-32-requires
 weights-32-requires c κs = search needs
 
--- src/line.rt:59:11
 slice-aggregate-entry-4 : tie.Need-slice-aggregate-entry-4
 slice-aggregate-entry-4 c = search needs
 
--- src/line.rt:59:5
 entry-requires-4 : tie.Need-entry-requires-4
 entry-requires-4 c κs =
     let p = here (c .before .before .before .before .before) in
     spot p (thirty-two _ (p .size) (c .before .before .before .before .if1 .left) (c .before .before .before .if2 .left) (c .before .before .if3 .left)) (c .before .weights-32 .ensures)
 
--- src/line.rt:42:1
 returns-4 : tie.Need-returns-4
 returns-4 c =
     let p = here (c .before .before .before .before .before .before) in

@@ -1,8 +1,8 @@
+-- `line::total` meets its contract: the first refusal that applies, or the line with number 0. Assumes nothing.
 use borrow.Author.Needs.{needs}
-use mathlib.Core.Path.{_≡_, refl, sym, ap, _∙_, subst}
+use mathlib.Core.Path.{sym, ap, _∙_}
 use mathlib.Core.List.{List, []}
 use lib.ListN.{length}
-use lib.IntN.{ℤ}
 use Prim.Native.Nat.{ℕ}
 use Rattle.algebra.specs.Refusals.{Refusal}
 use Rattle.algebra.proofs.Refusals.{refused-first, passed-first}
@@ -12,12 +12,6 @@ use Rattle.engine.specs.Lines.{line}
 use Rattle.algebra.specs.Lists.{at}
 use Rattle.transform.proofs.line.total.Statement.{statement}
 use Rattle.transform.proofs.line.total.Tie as tie
-use Rattle.transform.proofs.line.total.Reads as reads
-use Rattle.transform.proofs.line.total.Lts as lts
-use Rattle.transform.proofs.check.acceptance.Reads as acceptance-reads
-use Rattle.transform.proofs.check.line_refusal.Reads as line-refusal-reads
-use Rattle.transform.proofs.check.refusal.Reads as refusal-reads
-use Rattle.transform.proofs.line.accepted_line.Reads as accepted-line-reads
 
 abbrev tests : tie.Start → List Refusal
 tests s = lineTests (s .args .n) (s .args .kind) (length (s .args .x .now)) (length (s .args .y .now))
@@ -28,39 +22,32 @@ given-back s number place = (refused number place, s .args .y .now)
 abbrev done : tie.Start → Outcome
 done s = (accepted 0, line (s .args .forward) (s .args .kind) (s .args .n) (s .args .n) (at (s .args .x .now)))
 
--- src/line.rt:133:9
 line-refusal-requires : tie.Need-line-refusal-requires
 line-refusal-requires c κs = search needs
 
--- src/line.rt:135:9
 refusal-requires : tie.Need-refusal-requires
 refusal-requires c κs = search needs
 
--- src/line.rt:135:9
 returns : tie.Need-returns
 returns c =
     let s = c .before .before .before in
     ap (λ (a : Answer). (a, s .args .y .now)) (c .refusal .ensures ∙ ap (λ (number : ℕ). refused number 0) (c .before .before .line-refusal .ensures))
     ∙ sym (refused-first [] (given-back s) (done s) (tests s) tt (λ e. c .before .if1 .taken (c .before .before .line-refusal .ensures ∙ e)))
 
--- src/line.rt:137:5
 accepted-line-requires : tie.Need-accepted-line-requires
 accepted-line-requires c κs = search needs
 
--- src/line.rt:138:5
 acceptance-requires : tie.Need-acceptance-requires
 acceptance-requires c κs = search needs
 
--- src/line.rt:123:1
 same-length : tie.Need-same-length
 same-length c = search needs
 
--- src/line.rt:123:1
 returns-2 : tie.Need-returns-2
 returns-2 c =
     let s = c .before .before .before .before .before .before in
-    (λ i. (c .acceptance .ensures i, c .before .before .accepted-line .ensures i))
-    ∙ sym (passed-first [] (given-back s) (done s) (tests s) tt (sym (c .before .before .before .before .before .line-refusal .ensures) ∙ c .before .before .before .before .if1 .left))
+    _∙_ {b = done s} (λ i. (c .acceptance .ensures i, c .before .before .accepted-line .ensures i))
+    (sym (passed-first [] (given-back s) (done s) (tests s) tt (sym (c .before .before .before .before .before .line-refusal .ensures) ∙ c .before .before .before .before .if1 .left)))
 
 pub total-spec : {M : Type 1} → statement M
 total-spec =

@@ -1,28 +1,21 @@
+-- `line::weight` meets its contract: the weight, and 0 outside. Assumes nothing.
 use borrow.Author.Needs.{needs}
-use mathlib.Core.Path.{_≡_, refl, sym, ap, _∙_, subst}
+use mathlib.Core.Path.{sym, _∙_}
 use mir.Syntax.{w32}
 use mir.ValLaws.{toZ-ofZ}
 use borrow.Author.Tests.{not-true, not-false}
 use Rattle.transform.proofs.line.weight.Statement.{statement}
 use Rattle.transform.proofs.line.weight.Tie as tie
-use Rattle.transform.proofs.line.weight.Reads as reads
-use Rattle.transform.proofs.line.weight.Lts as lts
-use Rattle.transform.proofs.line.is_place.Reads as is-place-reads
-use Rattle.transform.proofs.line.known_weight.Reads as known-weight-reads
 
--- src/line.rt:66:9
 is-place-requires : tie.Need-is-place-requires
 is-place-requires c κs = search needs
 
--- src/line.rt:67:9
 returns : tie.Need-returns
 returns c = rw (← c .before .is-place .ensures, not-true (c .before .is-place .result) (c .if1 .taken))
 
--- src/line.rt:69:5
 known-weight-requires : tie.Need-known-weight-requires
 known-weight-requires c κs = sym (c .before .is-place .ensures) ∙ not-false (c .before .is-place .result) (c .if1 .left)
 
--- src/line.rt:63:1
 returns-2 : tie.Need-returns-2
 returns-2 c = toZ-ofZ w32 _ (search needs) ∙ c .known-weight .ensures ∙ rw (← c .before .before .is-place .ensures, not-false (c .before .before .is-place .result) (c .before .if1 .left))
 
