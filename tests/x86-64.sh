@@ -1,3 +1,4 @@
+# shellcheck shell=bash disable=SC2034
 # How a program for x86-64 is compiled and run here, for the scripts that source this: the archive is for x86-64 alone.
 # On such a machine that takes a C compiler; on any other a cross compiler, static programs and an emulator.
 #   find_x86_64 NAME   sets the words cc and cxx (which is empty where there is no C++) to compile and link with, and run
@@ -35,12 +36,12 @@ find_native() {
 
 find_cross() {
     local c=x86_64-linux-gnu-gcc emulator
-    command -v $c >/dev/null || install_cross_compilers
-    command -v $c >/dev/null || { echo "$1: a C compiler for x86-64 is missing here, so nothing was run"; return 1; }
+    command -v "$c" >/dev/null || install_cross_compilers
+    command -v "$c" >/dev/null || { echo "$1: a C compiler for x86-64 is missing here, so nothing was run"; return 1; }
     emulator=$(find_emulator) || { echo "$1: an emulator of x86-64 is missing here, so nothing was run"; return 1; }
     # a static program needs no library of the machine that it is for
-    cc=($c -static)
+    cc=("$c" -static)
     # gcc compiles C++ too; g++ would add -lm, of which Debian's cross packages have no static form that links
-    if command -v x86_64-linux-gnu-g++ >/dev/null; then cxx=($c -static); fi
+    if command -v x86_64-linux-gnu-g++ >/dev/null; then cxx=("$c" -static); fi
     run=("$emulator")
 }

@@ -28,14 +28,24 @@ pub extern "C" fn hoengtila_line_inverse(n: u32, kind: u32, x: &[i16], y: &mut [
 }
 
 #[no_mangle]
-pub extern "C" fn hoengtila_line_forward_product(n: u32, kind: u32, x: &[i16], y: &mut [i32]) -> Answer
+pub extern "C" fn hoengtila_line_forward_product(
+    n: u32,
+    kind: u32,
+    x: &[i16],
+    y: &mut [i32],
+) -> Answer
     ensures { λ r. ⌜ _≡_ {A = Outcome} (r, now (y .exit)) (forwardLineOutcome n kind (now (x .entry)) (now (y .entry))) ⌝ }
 {
     transform::line::forward_product(n, kind, x, y)
 }
 
 #[no_mangle]
-pub extern "C" fn hoengtila_line_inverse_product(n: u32, kind: u32, x: &[i16], y: &mut [i32]) -> Answer
+pub extern "C" fn hoengtila_line_inverse_product(
+    n: u32,
+    kind: u32,
+    x: &[i16],
+    y: &mut [i32],
+) -> Answer
     ensures { λ r. ⌜ _≡_ {A = Outcome} (r, now (y .exit)) (inverseLineOutcome n kind (now (x .entry)) (now (y .entry))) ⌝ }
 {
     transform::line::inverse_product(n, kind, x, y)
