@@ -105,6 +105,7 @@ fn accepted_line(n: u32, kind: u32, forward: bool, quick: bool, x: &[i16], y: &m
     run(&t, 32, kind, forward, quick, x, y);
 }
 
+// Any numbers and any buffers: the first refusal that applies, or the line.
 fn total(n: u32, kind: u32, forward: bool, quick: bool, x: &[i16], y: &mut [i32]) -> Answer
     ensures { λ r. ⌜ _≡_ {A = Outcome} (r, now (y .exit)) (lineOutcome forward n kind (now (x .entry)) (now (y .entry))) ⌝ }
 {
