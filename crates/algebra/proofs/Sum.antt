@@ -54,6 +54,11 @@ sum-swap zero n f = sym (sum-none n)
 sum-swap (suc m) n f = ap (λ (x : ℤ). x +ℤ sum n (f m)) (sum-swap m n f) ∙ sym (sum-add n (λ j. sum m (λ i. f i j)) (f m))
 
 -- ---- size
+pub sumℕ-cong : (n : ℕ) (f g : ℕ → ℕ) → ((i : ℕ) → i < n → f i ≡ g i) → sumℕ n f ≡ sumℕ n g
+unfolding sumℕ
+sumℕ-cong zero f g e = refl
+sumℕ-cong (suc n) f g e = λ t. sumℕ-cong n f g (λ i p. e i (omega arith)) t + e n (omega arith) t
+
 pub sumℕ-mono : (n : ℕ) (f g : ℕ → ℕ) → ((i : ℕ) → i < n → f i ≤ g i) → sumℕ n f ≤ sumℕ n g
 unfolding sumℕ
 sumℕ-mono zero f g h = omega arith

@@ -46,6 +46,13 @@ pub or-none : (a b : Bool) → (T a → ⊥) → (T b → ⊥) → T (a || b) �
 or-none true b f g t = f tt
 or-none false b f g t = g t
 
+pub eqZ-no : (a b : ℤ) → (a ≡ b → ⊥) → eqZ a b ≡ false
+eqZ-no a b n = go (eqZ a b) (λ t. n (eqZ→eq a b t))
+  where
+    go : (c : Bool) → (T c → ⊥) → c ≡ false
+    go true f = absurd (f tt)
+    go false f = refl
+
 -- ---- every number below n passes
 abbrev pub allTo : ℕ → (ℕ → Bool) → Bool
 allTo zero f = true

@@ -1,12 +1,14 @@
--- Two outcomes that the contract of a public function of `line` allows are equal: what it hands back and what it leaves in
--- each lent buffer follow from its arguments. The fast and the full function of a direction have one contract, so the two
+-- Two outcomes that the contract of a public function allows are equal: what it hands back and what it leaves in each lent
+-- buffer follow from its arguments. The fast and the full function of a direction have one contract, so the two
 -- outcomes may come from either. Assumes nothing.
 use mathlib.Core.Path.{_≡_}
 use mathlib.Core.List.{List}
 use Prim.Native.Nat.{ℕ}
 use lib.IntN.{ℤ}
 use Rattle.algebra.proofs.Unique.{one}
+use Rattle.meaning.specs.declared.Shape.{Shape}
 use Rattle.meaning.specs.Answer.{Outcome, forwardLineOutcome, inverseLineOutcome}
+use Rattle.meaning.specs.Inverse.{inverseOutcome}
 use Rattle.transform.specs.Line.{weightOrZero}
 
 -- `weight`
@@ -30,3 +32,7 @@ module _ (n kind : ℕ) (x y z : List ℤ) {o p : Outcome × Outcome} where
   -- `inverse_both`
   pub inverse-both-one : o ≡ (inverseLineOutcome n kind x y, inverseLineOutcome n kind x z) → p ≡ (inverseLineOutcome n kind x y, inverseLineOutcome n kind x z) → o ≡ p
   inverse-both-one = one
+
+-- `block::inverse`
+pub inverse-block-one : (sh : Shape) (c out : List ℤ) {o p : Outcome} → o ≡ inverseOutcome sh c out → p ≡ inverseOutcome sh c out → o ≡ p
+inverse-block-one sh c out = one

@@ -1,0 +1,26 @@
+// Blocks, in both directions.
+use crate::check::acceptance;
+use crate::check::block_refusal;
+use crate::check::refusal;
+use crate::inverse::hunt;
+use crate::inverse::stages;
+use meaning::Answer;
+use meaning::Shape;
+ghost use mathlib.Core.Path.{_≡_};
+ghost use Rattle.meaning.specs.Answer.{Outcome};
+ghost use Rattle.meaning.specs.Inverse.{inverseOutcome};
+
+/// The inverse of a block: residuals from coefficients, with the rail count. Any numbers, any buffers.
+pub fn inverse(shape: Shape, coefficients: &[i16], residuals: &mut [i32]) -> Answer
+    ensures { λ r. ⌜ _≡_ {A = Outcome} (r, now (residuals .exit)) (inverseOutcome shape (now (coefficients .entry)) (now (residuals .entry))) ⌝ }
+{
+    let number = block_refusal(shape, coefficients.len(), residuals.len());
+    if number != 0 {
+        return refusal(number, 0);
+    }
+    let place = hunt(shape, coefficients);
+    if place < coefficients.len() {
+        return refusal(8, place as u32);
+    }
+    acceptance(stages(shape, coefficients, residuals))
+}
