@@ -2,8 +2,10 @@
 // include/hoengtila.h declares. A wrapper is one call and has the contract of what it calls; none has a `requires`, so
 // whatever numbers and lengths a caller hands over, the contract says what comes back.
 use meaning::Answer;
+use meaning::Shape;
 ghost use mathlib.Core.Path.{_≡_};
 ghost use Rattle.meaning.specs.Answer.{Outcome, forwardLineOutcome, inverseLineOutcome};
+ghost use Rattle.meaning.specs.Inverse.{inverseOutcome};
 ghost use Rattle.transform.specs.Line.{weightOrZero};
 
 #[no_mangle]
@@ -49,4 +51,15 @@ pub extern "C" fn hoengtila_line_inverse_product(
     ensures { λ r. ⌜ _≡_ {A = Outcome} (r, now (y .exit)) (inverseLineOutcome n kind (now (x .entry)) (now (y .entry))) ⌝ }
 {
     transform::line::inverse_product(n, kind, x, y)
+}
+
+#[no_mangle]
+pub extern "C" fn hoengtila_block_inverse(
+    shape: Shape,
+    coefficients: &[i16],
+    residuals: &mut [i32],
+) -> Answer
+    ensures { λ r. ⌜ _≡_ {A = Outcome} (r, now (residuals .exit)) (inverseOutcome shape (now (coefficients .entry)) (now (residuals .entry))) ⌝ }
+{
+    transform::block::inverse(shape, coefficients, residuals)
 }
