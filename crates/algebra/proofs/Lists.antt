@@ -83,6 +83,9 @@ row-of {x} {w} y h = ap (λ (k : ℕ). k / w) (add-comm x (y * w)) ∙ digits-di
 pub same-column : {x x′ w : ℕ} (y y′ : ℕ) → x < w → x′ < w → x + y * w ≡ x′ + y′ * w → x ≡ x′
 same-column {w = w} y y′ h h′ e = sym (column-of y h) ∙ ap (λ (k : ℕ). k % w) e ∙ column-of y′ h′
 
+pub same-row : {x x′ w : ℕ} (y y′ : ℕ) → x < w → x′ < w → x + y * w ≡ x′ + y′ * w → y ≡ y′
+same-row {w = w} y y′ h h′ e = sym (row-of y h) ∙ ap (λ (k : ℕ). k / w) e ∙ row-of y′ h′
+
 -- what holds of every column of every row holds of every place
 pub every-place : (w h : ℕ) (P : ℕ → Type 0) → ((x y : ℕ) → x < w → y < h → P (x + y * w)) → (k : ℕ) → k < h * w → P k
 every-place w h P p k l =

@@ -2,12 +2,14 @@
 use crate::check::acceptance;
 use crate::check::block_refusal;
 use crate::check::refusal;
+use crate::forward::run;
 use crate::inverse::hunt;
 use crate::inverse::stages;
 use meaning::Answer;
 use meaning::Shape;
 ghost use mathlib.Core.Path.{_≡_};
 ghost use Rattle.meaning.specs.Answer.{Outcome};
+ghost use Rattle.meaning.specs.Forward.{forwardOutcome};
 ghost use Rattle.meaning.specs.Inverse.{inverseOutcome};
 
 /// The inverse of a block: residuals from coefficients, with the rail count. Any numbers, any buffers.
@@ -23,4 +25,11 @@ pub fn inverse(shape: Shape, coefficients: &[i16], residuals: &mut [i32]) -> Ans
         return refusal(8, place as u32);
     }
     acceptance(stages(shape, coefficients, residuals))
+}
+
+/// The forward block: residuals to coefficients. Refusals 1 to 7 and 9.
+pub fn forward(shape: Shape, residuals: &[i16], coefficients: &mut [i16]) -> Answer
+    ensures { λ r. ⌜ _≡_ {A = Outcome} (r, now (coefficients .exit)) (forwardOutcome shape (now (residuals .entry)) (now (coefficients .entry))) ⌝ }
+{
+    run(shape, residuals, coefficients)
 }

@@ -2,5 +2,6 @@
 // call stands in check, and the work behind them in the crate `engine`.
 pub mod block;
 mod check;
+mod forward;
 mod inverse;
 pub mod line;
