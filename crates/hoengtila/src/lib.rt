@@ -6,6 +6,7 @@ use meaning::Shape;
 ghost use mathlib.Core.Path.{_≡_};
 ghost use Rattle.meaning.specs.Answer.{Outcome, forwardLineOutcome, inverseLineOutcome};
 ghost use Rattle.meaning.specs.Inverse.{inverseOutcome};
+ghost use Rattle.meaning.specs.Forward.{forwardOutcome};
 ghost use Rattle.transform.specs.Line.{weightOrZero};
 
 #[no_mangle]
@@ -62,4 +63,15 @@ pub extern "C" fn hoengtila_block_inverse(
     ensures { λ r. ⌜ _≡_ {A = Outcome} (r, now (residuals .exit)) (inverseOutcome shape (now (coefficients .entry)) (now (residuals .entry))) ⌝ }
 {
     transform::block::inverse(shape, coefficients, residuals)
+}
+
+#[no_mangle]
+pub extern "C" fn hoengtila_block_forward(
+    shape: Shape,
+    residuals: &[i16],
+    coefficients: &mut [i16],
+) -> Answer
+    ensures { λ r. ⌜ _≡_ {A = Outcome} (r, now (coefficients .exit)) (forwardOutcome shape (now (residuals .entry)) (now (coefficients .entry))) ⌝ }
+{
+    transform::block::forward(shape, residuals, coefficients)
 }
