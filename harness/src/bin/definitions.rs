@@ -7,6 +7,7 @@ use hoengtila_harness::model::block::middle;
 use hoengtila_harness::model::weights::weight;
 use hoengtila_harness::model::{self, Answer, Shape};
 use hoengtila_harness::random::{seed, Random, SEED_VARIABLE};
+use hoengtila_harness::wrong::{Wrong, NO_DEPTH, NO_KIND, NO_SIZE};
 
 const SIZES: [i64; 4] = [4, 8, 16, 32];
 const SIXTEEN_BITS: [i64; 2] = [-32768, 32767];
@@ -238,36 +239,6 @@ fn accepted_block(t: &mut Theorems, direction: Direction, shape: &Shape) {
 }
 
 // ---- random calls that are refused
-
-/// Numbers that no size, kind or depth is; a caller can hand over any of 32 bits.
-const NO_SIZE: [i64; 8] = [0, 1, 2, 5, 24, 64, 65_536, 4_294_967_295];
-const NO_KIND: [i64; 4] = [0, 3, 257, 4_294_967_295];
-const NO_DEPTH: [i64; 6] = [0, 7, 13, 255, 65_544, 4_294_967_295];
-
-/// Which tests apply: `number` does, none before it, each one after it or not.
-struct Wrong {
-    applies: [bool; 10],
-}
-
-impl Wrong {
-    fn first(random: &mut Random, number: usize) -> Wrong {
-        let mut applies = [false; 10];
-        for (k, applies) in applies.iter_mut().enumerate() {
-            *applies = k == number || (k > number && random.once_in(2));
-        }
-        Wrong { applies }
-    }
-
-    /// A number for test `k`: one of `wrong` where it applies, else one of `right`.
-    fn pick(&self, random: &mut Random, k: usize, right: &[i64], wrong: &[i64]) -> i64 {
-        random.choose(if self.applies[k] { wrong } else { right })
-    }
-
-    /// A length for test `k`, where `right` is the right one.
-    fn length(&self, random: &mut Random, k: usize, right: i64) -> usize {
-        self.pick(random, k, &[right], &[0, right - 1, right + 1, 2 * right]) as usize
-    }
-}
 
 fn refused_line(t: &mut Theorems, direction: Direction, number: usize) {
     let random = &mut t.random;
