@@ -1,0 +1,97 @@
+// What stands in a block, and what an output holds before a call. Every buffer has room for the largest block.
+ghost use mathlib.Core.Path.{_≡_};
+ghost use Prim.Native.Nat.{_<_};
+ghost use lib.ListN.{length};
+
+pub fn zeros() -> [i16; 1024]
+    ensures { λ r. ⌜ 1024 ≡ length r ⌝ }
+{
+    [0; 1024]
+}
+
+fn wide_zeros() -> [i32; 1024]
+    ensures { λ r. ⌜ 1024 ≡ length r ⌝ }
+{
+    [0; 1024]
+}
+
+// One number, and zeros.
+pub fn one(place: usize, number: i16) -> [i16; 1024]
+    requires { ⌜ place < 1024 ⌝ }
+    ensures { λ r. ⌜ 1024 ≡ length r ⌝ }
+{
+    let mut a = zeros();
+    a[place] = number;
+    a
+}
+
+// Two numbers, and zeros.
+pub fn two(place: usize, number: i16, next: usize, other: i16) -> [i16; 1024]
+    requires { ⌜ (place < 1024) × (next < 1024) ⌝ }
+    ensures { λ r. ⌜ 1024 ≡ length r ⌝ }
+{
+    let mut a = one(place, number);
+    a[next] = other;
+    a
+}
+
+// The number at place k of rows of w: the two by turns in each row and column of the first `kept`, and 0 elsewhere.
+fn by_turns(k: usize, w: usize, kept: usize, even: i16, odd: i16) -> i16 {
+    if w == 0 {
+        return 0;
+    }
+    let x = k % w;
+    let y = k / w;
+    if kept <= x {
+        return 0;
+    }
+    if kept <= y {
+        return 0;
+    }
+    if x % 2 == y % 2 { even } else { odd }
+}
+
+fn fill(a: &mut [i16], w: usize, kept: usize, even: i16, odd: i16) {
+    let mut k: usize = 0;
+    while k < a.len() {
+        a[k] = by_turns(k, w, kept, even, odd);
+        k += 1;
+    }
+}
+
+pub fn filled(w: u32, kept: usize, even: i16, odd: i16) -> [i16; 1024]
+    ensures { λ r. ⌜ 1024 ≡ length r ⌝ }
+{
+    let mut a = zeros();
+    fill(&mut a, w as usize, kept, even, odd);
+    a
+}
+
+// What an output holds before a call.
+pub fn marks() -> [i16; 1024]
+    ensures { λ r. ⌜ 1024 ≡ length r ⌝ }
+{
+    filled(32, 32, 1234, -4321)
+}
+
+fn wide(v: i16) -> i32 {
+    v as i32
+}
+
+fn widen(from: &[i16], to: &mut [i32])
+    requires { ⌜ length (now from) ≡ length (now to) ⌝ }
+{
+    let mut k: usize = 0;
+    while k < from.len() {
+        to[k] = wide(from[k]);
+        k += 1;
+    }
+}
+
+pub fn widened(from: [i16; 1024]) -> [i32; 1024]
+    ensures { λ r. ⌜ 1024 ≡ length r ⌝ }
+{
+    let mut to = wide_zeros();
+    widen(&from, &mut to);
+    to
+}
