@@ -15,7 +15,6 @@ use Rattle.algebra.proofs.Word.{small}
 use Rattle.meaning.specs.Weights.{S}
 use Rattle.engine.specs.Dst.{Small}
 use Rattle.engine.specs.Folded.{Row}
-use Rattle.engine.proofs.Bound.{abs-S}
 
 -- a number of a known size, as it is read
 pub read-back : (z : ℤ) (B : ℕ) → natAbs z ≤ B → B ≤ 1000000000 → toZ w32 (ofZ w32 z) ≡ z
@@ -30,9 +29,6 @@ module _ {m n i : ℕ} {v : ℤ} {t a : List ℤ} (p : Row m n i v t a) where
 
   pub weighs : (j : ℕ) → j < m → at t (i * n + j) ≡ S n i j
   weighs j h = p .table .right i j (p .row) (omega (arith, p .width))
-
-  pub light : (j : ℕ) → j < m → natAbs (at t (i * n + j)) ≤ 90
-  light j h = subst (λ (z : ℤ). natAbs z ≤ 90) (sym (weighs j h)) (abs-S n i j)
 
   -- what the loop has not reached is as it was
   pub kept : {b : List ℤ} {f : ℕ → ℤ} (j : ℕ) → Filled 0 j b a f → at b j ≡ at a j
