@@ -9,9 +9,11 @@
 enum { MOST = 4096 };
 enum { WEIGHT, LINE_FORWARD, LINE_INVERSE, LINE_FORWARD_PRODUCT, LINE_INVERSE_PRODUCT, BLOCK_INVERSE, BLOCK_FORWARD };
 
+/* an output has one number more than the library is told of, which is to stay as it is */
+enum { BEYOND = 0x5A5A };
 static int16_t in16[MOST];
-static int16_t out16[MOST];
-static int32_t out32[MOST];
+static int16_t out16[MOST + 1];
+static int32_t out32[MOST + 1];
 
 static void get(void *to, size_t size, size_t count) {
     if (fread(to, size, count, stdin) != count) exit(1);
@@ -29,8 +31,25 @@ static uint32_t length(void) {
     return n;
 }
 
+/* Field by field and by name, as a caller does it: the order of the fields is the header's affair. */
+static hoengtila_shape shape(void) {
+    hoengtila_shape s;
+    s.width = number();
+    s.height = number();
+    s.horizontal = number();
+    s.vertical = number();
+    s.depth = number();
+    return s;
+}
+
 static void put(const void *from, size_t size, size_t count) {
     if (fwrite(from, size, count, stdout) != count) exit(1);
+}
+
+static void put_answer(hoengtila_answer a) {
+    put(&a.number, sizeof a.number, 1);
+    put(&a.place, sizeof a.place, 1);
+    put(&a.rails, sizeof a.rails, 1);
 }
 
 static void weight(void) {
@@ -44,33 +63,36 @@ static void line(uint32_t call) {
     hoengtila_answer a;
     get(in16, sizeof *in16, in);
     get(out32, sizeof *out32, out);
+    out32[out] = BEYOND;
     switch (call) {
     case LINE_FORWARD: a = hoengtila_line_forward(n, kind, in16, in, out32, out); break;
     case LINE_INVERSE: a = hoengtila_line_inverse(n, kind, in16, in, out32, out); break;
     case LINE_FORWARD_PRODUCT: a = hoengtila_line_forward_product(n, kind, in16, in, out32, out); break;
     default: a = hoengtila_line_inverse_product(n, kind, in16, in, out32, out); break;
     }
-    put(&a, sizeof a, 1);
+    if (out32[out] != BEYOND) exit(3);
+    put_answer(a);
     put(out32, sizeof *out32, out);
 }
 
 static void block(uint32_t call) {
-    hoengtila_shape shape;
-    uint32_t in, out;
+    hoengtila_shape s = shape();
+    uint32_t in = length(), out = length();
     hoengtila_answer a;
-    get(&shape, sizeof shape, 1);
-    in = length();
-    out = length();
     get(in16, sizeof *in16, in);
     if (call == BLOCK_INVERSE) {
         get(out32, sizeof *out32, out);
-        a = hoengtila_block_inverse(shape, in16, in, out32, out);
-        put(&a, sizeof a, 1);
+        out32[out] = BEYOND;
+        a = hoengtila_block_inverse(s, in16, in, out32, out);
+        if (out32[out] != BEYOND) exit(3);
+        put_answer(a);
         put(out32, sizeof *out32, out);
     } else {
         get(out16, sizeof *out16, out);
-        a = hoengtila_block_forward(shape, in16, in, out16, out);
-        put(&a, sizeof a, 1);
+        out16[out] = BEYOND;
+        a = hoengtila_block_forward(s, in16, in, out16, out);
+        if (out16[out] != BEYOND) exit(3);
+        put_answer(a);
         put(out16, sizeof *out16, out);
     }
 }
