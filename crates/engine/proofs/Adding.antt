@@ -16,7 +16,7 @@ use Rattle.algebra.proofs.Word.{small}
 use Rattle.meaning.specs.Weights.{S}
 use Rattle.engine.specs.Dst.{Small}
 use Rattle.engine.specs.Folded.{Row}
-use Rattle.engine.proofs.Bound.{abs-S}
+use Rattle.meaning.proofs.Sizes.{S-size}
 
 -- a number of a known size, as it is read
 pub read-back : (z : ℤ) (B : ℕ) → natAbs z ≤ B → B ≤ 1000000000 → toZ w32 (ofZ w32 z) ≡ z
@@ -33,7 +33,7 @@ module _ {m n i : ℕ} {v : ℤ} {t a : List ℤ} (p : Row m n i v t a) where
   weighs : (j : ℕ) → j < m → toZ w16 (ofZ w16 (at t (i * n + j))) ≡ S n i j
   weighs j h =
       let e : at t (i * n + j) ≡ S n i j = p .table .right i j (p .row) (omega (arith, p .width)) in
-      ap (λ (z : ℤ). toZ w16 (ofZ w16 z)) e ∙ toZ-ofZ w16 (S n i j) (small {B = 90} (omega arith) (abs-S n i j))
+      ap (λ (z : ℤ). toZ w16 (ofZ w16 z)) e ∙ toZ-ofZ w16 (S n i j) (small {B = 90} (omega arith) (S-size n i j))
 
   module _ {b : List ℤ} {f : ℕ → ℤ} (j : ℕ) (h : j < m) (l : Filled 0 j b a f) where
     -- the sum, which the loop has not reached
@@ -46,7 +46,7 @@ module _ {m n i : ℕ} {v : ℤ} {t a : List ℤ} (p : Row m n i v t a) where
     pub mac-given : (natAbs (toZ w32 (ofZ w32 (at b j))) ≤ 1000000000) × ((natAbs (toZ w16 (ofZ w16 (at t (i * n + j)))) ≤ 90) × (natAbs (toZ w32 (ofZ w32 v)) ≤ 32768))
     mac-given = (
       subst (λ (z : ℤ). natAbs z ≤ 1000000000) (sym summed) (omega (arith, p .sums .small j h)),
-      (subst (λ (z : ℤ). natAbs z ≤ 90) (sym (weighs j h)) (abs-S n i j), read-small v 32768 (p .value) (omega arith)),
+      (subst (λ (z : ℤ). natAbs z ≤ 90) (sym (weighs j h)) (S-size n i j), read-small v 32768 (p .value) (omega arith)),
     )
 
     pub mac-made : {r : ℤ} → r ≡ toZ w32 (ofZ w32 (at b j)) +ℤ toZ w16 (ofZ w16 (at t (i * n + j))) *ℤ toZ w32 (ofZ w32 v) → r ≡ at a j +ℤ S n i j *ℤ toZ w32 (ofZ w32 v)

@@ -22,9 +22,9 @@ use Rattle.algebra.proofs.Sum.{sum-cong, sum-add, sum-next, sum-split, sum-none
 use Rattle.algebra.proofs.Lists.{tab-at, tab-length, tabulated}
 use Rattle.meaning.specs.Weights.{S}
 use Rattle.engine.specs.Dst.{Small, dstSum}
-use Rattle.engine.specs.Lines.{Table}
+use Rattle.tables.specs.Table.{Table}
 use Rattle.engine.specs.Folded.{inClass, masked, cleared, Row, Class, Sums}
-use Rattle.engine.proofs.Bound.{abs-S}
+use Rattle.meaning.proofs.Sizes.{S-size}
 use Rattle.engine.proofs.Adding.{read-back, read-small}
 
 -- ---- a row of the class, as a loop reaches it
@@ -148,7 +148,7 @@ upto-small n x i k h b =
 
     one : (j : ℕ) → natAbs (x j) ≤ 32768 → natAbs (S n j k *ℤ x j) ≤ 2949120
     one j p =
-        let q : natAbs (S n j k) * natAbs (x j) ≤ 90 * 32768 = mul-le-mul (abs-S n j k) p in
+        let q : natAbs (S n j k) * natAbs (x j) ≤ 90 * 32768 = mul-le-mul (S-size n j k) p in
         omega (arith, abs-mul (S n j k) (x j))
 
 module _ (m n first step : ℕ) (x : List ℤ) where

@@ -1,6 +1,6 @@
 // The DST-VII weights, stored whole. A `const` array is built anew at each use, so each is handed out by value once for a
 // line or a block and lent from there.
-ghost use Rattle.engine.specs.Lines.{Table};
+ghost use Rattle.tables.specs.Table.{Table};
 
 const WEIGHTS_4: [i16; 16] = [
     29, // row 0 of 4
