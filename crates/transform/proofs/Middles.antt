@@ -1,26 +1,24 @@
 -- The vertical stage: a column that a loop writes, the rails that it counts, and the middle values column by column.
 -- Assumes nothing.
 use mathlib.Core.Path.{_≡_, refl, sym, ap, _∙_, subst}
-use mathlib.Core.Bool.{Bool, true, false, cond}
+use mathlib.Core.Bool.{Bool, true, false}
 use mathlib.Core.List.{List}
 use Prim.Native.Nat.{ℕ, _+_, _*_, _≤_, _<_}
 use native.Mathlib.Omega.{arith}
 use native.Mathlib.Nat.{mul-comm, not-suc-le-zero}
 use native.Mathlib.Decide.{ℕ-discrete}
 use borrow.Author.Tests.{lt-ltb, le-ltb}
-use lib.Dec.{ltb}
 use lib.IntN.{ℤ, pos}
 use lib.ListN.{length, set, length-set}
 use lib.Seq.{getD-set-same, getD-set-other}
 use Rattle.algebra.specs.Sum.{sumℕ}
-use Rattle.algebra.specs.Lists.{at, block}
+use Rattle.algebra.specs.Lists.{at}
 use Rattle.algebra.proofs.Lists.{row-in, tab-at, tab-length, same-column, block-ext}
 use Rattle.algebra.proofs.Sum.{sumℕ-next, sumℕ-mono, sumℕ-const, sumℕ-cong}
 use Rattle.meaning.specs.declared.Shape.{Shape}
 use Rattle.meaning.specs.Shape.{keptColumns, keptRows, range}
 use Rattle.meaning.specs.Line.{inverseSum, inverseLine}
 use Rattle.meaning.specs.Inverse.{columnSum, rounded, middle, middleAt, middles, railed, count, rails}
-use Rattle.meaning.proofs.Stages.{columns-in}
 use Rattle.transform.specs.Stages.{short, Column, railsOf}
 use Rattle.transform.proofs.Tests.{below-or}
 

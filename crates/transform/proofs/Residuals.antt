@@ -5,7 +5,6 @@ use Prim.Native.Nat.{ℕ, _+_, _*_, _-_, _≤_, _<_}
 use native.Mathlib.Omega.{arith}
 use lib.IntN.{ℤ, natAbs, _*ℤ_}
 use lib.ListN.{length}
-use Rattle.algebra.specs.Sum.{sum}
 use Rattle.algebra.specs.Shift.{nearest}
 use Rattle.algebra.specs.Lists.{at, block}
 use Rattle.algebra.proofs.Sum.{sum-cong}
@@ -20,7 +19,7 @@ use Rattle.meaning.proofs.Small.{NoneAbove, within-places}
 use Rattle.meaning.proofs.Sizes.{inverseSum-short}
 use Rattle.meaning.proofs.Stages.{columns-in, middle-in}
 use Rattle.transform.specs.Stages.{residualOf}
-use Rattle.transform.proofs.Middles.{sums-at, sums-long}
+use Rattle.transform.proofs.Middles.{sums-at}
 
 inverse-cong : (kind n count : ℕ) (x z : ℕ → ℤ) (j : ℕ) → ((i : ℕ) → i < count → x i ≡ z i) → inverseSum kind n count x j ≡ inverseSum kind n count z j
 unfolding inverseSum

@@ -6,38 +6,35 @@ use tables::weights_8;
 use tables::weights_16;
 use tables::weights_32;
 ghost use mathlib.Core.Path.{_≡_};
-ghost use mathlib.Core.List.{_++_};
-ghost use Prim.Native.Nat.{ℕ, _≤_, _<_, _*_, _+_};
+ghost use Prim.Native.Nat.{ℕ, _≤_, _<_, _*_, min};
 ghost use lib.ListN.{length};
 ghost use lib.IntN.{pos, natAbs};
 ghost use Rattle.algebra.specs.Clip.{clip};
 ghost use Rattle.algebra.specs.Shift.{nearest};
 ghost use Rattle.algebra.specs.Lists.{at, tabulate, block};
-ghost use Rattle.meaning.specs.Shape.{keptColumns, keptRows, lastShift};
+ghost use Rattle.meaning.specs.Shape.{keptColumns, keptRows};
 ghost use Rattle.meaning.specs.Inverse.{rounded, middle, railed, count, middleAt, columnSum, middles, rails, inverseBlock, firstOutside};
 ghost use Rattle.meaning.proofs.Accepted.{Whole};
 ghost use Rattle.meaning.proofs.Small.{NoneAbove};
 ghost use Rattle.transform.specs.Stages.{outsideAt, short, Column, railsOf, Sums, Vertical, Horizontal, residualOf};
 
-// "Kept columns are the first min(w,16), kept rows the first min(h,16)".
+// "the first min(w,16), .. the first min(h,16)".
+fn kept(n: u32) -> usize
+    ensures { λ r. ⌜ r ≡ min n 16 ⌝ }
+{
+    if n < 16 { n as usize } else { 16 }
+}
+
 pub fn kept_columns(shape: Shape) -> usize
     ensures { λ r. ⌜ r ≡ keptColumns shape ⌝ }
 {
-    if shape.width < 16 {
-        shape.width as usize
-    } else {
-        16
-    }
+    kept(shape.width)
 }
 
 pub fn kept_rows(shape: Shape) -> usize
     ensures { λ r. ⌜ r ≡ keptRows shape ⌝ }
 {
-    if shape.height < 16 {
-        shape.height as usize
-    } else {
-        16
-    }
+    kept(shape.height)
 }
 
 fn outside(n: i16, x: usize, y: usize, columns: usize, rows: usize) -> bool
@@ -87,6 +84,7 @@ fn round7(e: i32) -> i32
     (e + 64) >> 7
 }
 
+// "clipped to -32768..32767".
 fn clip16(v: i32) -> i16
     ensures { λ r. ⌜ r ≡ clip short v ⌝ }
 {

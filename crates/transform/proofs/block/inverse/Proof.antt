@@ -9,7 +9,6 @@ use native.Mathlib.Nat.{mul-le-mul}
 use borrow.Author.Tests.{lt-ltb, le-ltb}
 use lib.Dec.{ltb}
 use lib.ListN.{length}
-use lib.IntN.{ℤ}
 use Rattle.algebra.specs.Refusals.{Refusal, firstOf, numberOf}
 use Rattle.algebra.proofs.Refusals.{refused-first, passed-first}
 use Rattle.meaning.specs.declared.Answer.{Answer}
@@ -19,13 +18,6 @@ use Rattle.meaning.proofs.Cases.{size-in}
 use Rattle.meaning.proofs.Accepted.{Whole, whole-of}
 use Rattle.transform.proofs.block.inverse.Statement.{statement}
 use Rattle.transform.proofs.block.inverse.Tie as tie
-use Rattle.transform.proofs.block.inverse.Reads as reads
-use Rattle.transform.proofs.block.inverse.Lts as lts
-use Rattle.transform.proofs.check.acceptance.Reads as acceptance-reads
-use Rattle.transform.proofs.check.block_refusal.Reads as block-refusal-reads
-use Rattle.transform.proofs.check.refusal.Reads as refusal-reads
-use Rattle.transform.proofs.inverse.hunt.Reads as hunt-reads
-use Rattle.transform.proofs.inverse.stages.Reads as stages-reads
 
 -- 1 to 7, 8, and what a call hands back at either end
 abbrev seven : tie.Start → List Refusal

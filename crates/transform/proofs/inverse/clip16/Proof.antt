@@ -1,8 +1,8 @@
 -- `inverse::clip16` meets its contract. Assumes nothing.
-use mathlib.Core.Path.{_≡_, sym, _∙_}
+use mathlib.Core.Path.{sym, _∙_}
 use native.Mathlib.Omega.{arith}
-use lib.IntN.{ℤ, pos, negsuc}
-use lib.Signed.{ltZ, _≤ℤ_}
+use lib.IntN.{pos, negsuc}
+use lib.Signed.{_≤ℤ_}
 use mir.Syntax.{w16, w32}
 use mir.Val.{SFits}
 use mir.ValLaws.{toZ-ofZ}
@@ -12,8 +12,6 @@ use Rattle.algebra.proofs.Word.{arg, lit, lt-no, castV!, cast-fits! }
 use Rattle.transform.specs.Stages.{short}
 use Rattle.transform.proofs.inverse.clip16.Statement.{statement}
 use Rattle.transform.proofs.inverse.clip16.Tie as tie
-use Rattle.transform.proofs.inverse.clip16.Reads as reads
-use Rattle.transform.proofs.inverse.clip16.Lts as lts
 
 returns : tie.Need-returns
 returns c =

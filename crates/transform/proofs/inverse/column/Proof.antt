@@ -2,8 +2,7 @@
 -- Assumes nothing.
 use borrow.Author.Needs.{needs}
 use native.Mathlib.Omega.{arith}
-use mathlib.Core.Path.{_≡_, refl, sym, ap, _∙_, subst}
-use mathlib.Core.Bool.{true, false}
+use mathlib.Core.Path.{_≡_, sym, ap, _∙_, subst}
 use mathlib.Core.List.{List}
 use Prim.Native.Nat.{ℕ, _+_, _*_, _<_, _≤_}
 use native.Mathlib.Nat.{mul-comm}
@@ -11,20 +10,14 @@ use lib.ListN.{length}
 use lib.IntN.{ℤ, natAbs}
 use Rattle.algebra.specs.Lists.{at}
 use Rattle.algebra.proofs.Lists.{place-in}
-use Rattle.meaning.specs.Shape.{keptColumns}
 use Rattle.meaning.specs.Inverse.{columnSum, middle}
 use Rattle.meaning.proofs.Cases.{size-in}
 use Rattle.meaning.proofs.Stages.{columns-in, rows-in, columnSum-in}
 use Rattle.transform.specs.Stages.{short, Column, railsOf}
 use Rattle.transform.proofs.Tests.{never}
-use Rattle.transform.proofs.Middles.{columnLine, column-sums, column-cong, rails-cong, middle-kept, sums-long}
+use Rattle.transform.proofs.Middles.{column-sums, column-cong, rails-cong, middle-kept, sums-long}
 use Rattle.transform.proofs.inverse.column.Statement.{statement}
 use Rattle.transform.proofs.inverse.column.Tie as tie
-use Rattle.transform.proofs.inverse.column.Reads as reads
-use Rattle.transform.proofs.inverse.column.Lts as lts
-use Rattle.engine.proofs.fast.fast.Reads as fast-reads
-use Rattle.transform.proofs.inverse.kept_rows.Reads as kept-rows-reads
-use Rattle.transform.proofs.inverse.settle.Reads as settle-reads
 
 -- row i of column x lies in a block of h rows
 place : (s : tie.Start) → (n : ℕ) → n ≡ s .args .shape .width * s .args .shape .height → (i : ℕ) → i < s .args .shape .height

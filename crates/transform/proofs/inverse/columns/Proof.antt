@@ -2,8 +2,7 @@
 use borrow.Author.Needs.{needs}
 use native.Mathlib.Omega.{arith}
 use mathlib.Core.Path.{_≡_, refl, sym, ap, _∙_, subst}
-use Prim.Native.Nat.{ℕ, _+_, _*_, _-_, _<_, _≤_}
-use native.Mathlib.Nat.{le-antisymm}
+use Prim.Native.Nat.{ℕ, _+_, _-_, _<_, _≤_}
 use lib.ListN.{length}
 use Rattle.algebra.specs.Sum.{sumℕ}
 use Rattle.algebra.proofs.Sum.{sumℕ-next}
@@ -15,10 +14,6 @@ use Rattle.transform.specs.Stages.{railsOf}
 use Rattle.transform.proofs.Middles.{Grid, grid-none, grid-next, grid-all, rails-all, rails-few, no-columns}
 use Rattle.transform.proofs.inverse.columns.Statement.{statement}
 use Rattle.transform.proofs.inverse.columns.Tie as tie
-use Rattle.transform.proofs.inverse.columns.Reads as reads
-use Rattle.transform.proofs.inverse.columns.Lts as lts
-use Rattle.transform.proofs.inverse.column.Reads as column-reads
-use Rattle.transform.proofs.inverse.kept_columns.Reads as kept-columns-reads
 
 abbrev Inv-loop : tie.InvT-loop
 Inv-loop t shape c e₀ m₀ last rails₀ x₀ e m rails x =

@@ -1,8 +1,8 @@
 -- `inverse::hunt` meets its contract: every place that the hunt has passed fails the test. Assumes nothing.
 use borrow.Author.Needs.{needs}
 use native.Mathlib.Omega.{arith}
-use mathlib.Core.Path.{_≡_, refl, sym, ap, _∙_, subst}
-use mathlib.Core.Bool.{Bool, true, false}
+use mathlib.Core.Path.{_≡_, refl, sym, ap, _∙_}
+use mathlib.Core.Bool.{Bool}
 use mathlib.Core.List.{List}
 use Prim.Native.Nat.{ℕ, _+_, _*_, _-_, _/_, _%_, _<_, _≤_}
 use native.Mathlib.Nat.{zero-mul, zero-add, add-mul, one-mul, mul-comm, le-antisymm}
@@ -21,11 +21,6 @@ use Rattle.meaning.proofs.Small.{within-places}
 use Rattle.transform.specs.Stages.{outsideAt}
 use Rattle.transform.proofs.inverse.hunt.Statement.{statement}
 use Rattle.transform.proofs.inverse.hunt.Tie as tie
-use Rattle.transform.proofs.inverse.hunt.Reads as reads
-use Rattle.transform.proofs.inverse.hunt.Lts as lts
-use Rattle.transform.proofs.inverse.kept_columns.Reads as kept-columns-reads
-use Rattle.transform.proofs.inverse.kept_rows.Reads as kept-rows-reads
-use Rattle.transform.proofs.inverse.outside.Reads as outside-reads
 
 -- the contract's test, by the numbers that the loops have at hand
 abbrev test : ℕ → ℕ → ℕ → ℕ → ℤ → Bool

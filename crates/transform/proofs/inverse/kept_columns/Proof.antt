@@ -1,20 +1,15 @@
 -- `inverse::kept_columns` meets its contract. Assumes nothing.
 use borrow.Author.Needs.{needs}
-use native.Mathlib.Omega.{arith}
 use Rattle.meaning.specs.Shape.{keptColumns}
 use Rattle.transform.proofs.inverse.kept_columns.Statement.{statement}
 use Rattle.transform.proofs.inverse.kept_columns.Tie as tie
 
-cast-result : tie.Need-cast-result
-cast-result c = search needs
+kept-requires : tie.Need-kept-requires
+kept-requires c κs = search needs
 
 returns : tie.Need-returns
 unfolding keptColumns
-returns c = omega arith
-
-returns-2 : tie.Need-returns-2
-unfolding keptColumns
-returns-2 c = omega arith
+returns c = c .kept .ensures
 
 pub kept-columns-spec : {M : Type 1} → statement M
-kept-columns-spec = tie.close (tie.spec cast-result returns returns-2)
+kept-columns-spec = tie.close (tie.spec kept-requires returns)

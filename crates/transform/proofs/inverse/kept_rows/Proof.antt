@@ -1,20 +1,15 @@
 -- `inverse::kept_rows` meets its contract. Assumes nothing.
 use borrow.Author.Needs.{needs}
-use native.Mathlib.Omega.{arith}
 use Rattle.meaning.specs.Shape.{keptRows}
 use Rattle.transform.proofs.inverse.kept_rows.Statement.{statement}
 use Rattle.transform.proofs.inverse.kept_rows.Tie as tie
 
-cast-result : tie.Need-cast-result
-cast-result c = search needs
+kept-requires : tie.Need-kept-requires
+kept-requires c κs = search needs
 
 returns : tie.Need-returns
 unfolding keptRows
-returns c = omega arith
-
-returns-2 : tie.Need-returns-2
-unfolding keptRows
-returns-2 c = omega arith
+returns c = c .kept .ensures
 
 pub kept-rows-spec : {M : Type 1} → statement M
-kept-rows-spec = tie.close (tie.spec cast-result returns returns-2)
+kept-rows-spec = tie.close (tie.spec kept-requires returns)

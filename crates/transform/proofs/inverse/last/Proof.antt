@@ -2,8 +2,7 @@
 use borrow.Author.Needs.{needs}
 use native.Mathlib.Omega.{arith}
 use mathlib.Core.Path.{_≡_, refl, sym, ap, _∙_, subst}
-use Prim.Native.Nat.{ℕ, _+_, _-_, _<_, _≤_}
-use native.Mathlib.Nat.{zero-add}
+use Prim.Native.Nat.{ℕ, _-_, _<_, _≤_}
 use lib.ListN.{length}
 use lib.IntN.{ℤ, natAbs}
 use mir.Syntax.{w32}
@@ -14,9 +13,6 @@ use Rattle.algebra.specs.Lists.{at}
 use Rattle.algebra.proofs.Lists.{Filled, fill-none, fill-first, filled}
 use Rattle.transform.proofs.inverse.last.Statement.{statement}
 use Rattle.transform.proofs.inverse.last.Tie as tie
-use Rattle.transform.proofs.inverse.last.Reads as reads
-use Rattle.transform.proofs.inverse.last.Lts as lts
-use Rattle.transform.proofs.inverse.round_last.Reads as round-last-reads
 
 abbrev Inv-loop : tie.InvT-loop
 Inv-loop part₀ s x₀ part x = (x ≤ length part₀) × Filled 0 x part part₀ (λ x. nearest s (at part₀ x))

@@ -1,9 +1,9 @@
 -- `inverse::outside` meets its contract: the bits are 0 where the number is. Assumes nothing.
 use mathlib.Core.Path.{_≡_, sym, ap, _∙_}
-use mathlib.Core.Bool.{true, false}
-use borrow.Author.Tests.{eq-eqb, ne-eqb, le-ltb, lt-ltb}
-use lib.Dec.{eqb, ltb}
-use lib.IntN.{ℤ, pos, natAbs}
+use mathlib.Core.Bool.{false}
+use borrow.Author.Tests.{ne-eqb, le-ltb, lt-ltb}
+use lib.Dec.{eqb}
+use lib.IntN.{natAbs}
 use mir.Syntax.{w16}
 use mir.Val.{toZ, ofZ}
 use mir.ValLaws.{toZ-ofZ}
@@ -11,8 +11,6 @@ use Rattle.algebra.proofs.Order.{abs-zero}
 use Rattle.transform.proofs.Tests.{leb-not}
 use Rattle.transform.proofs.inverse.outside.Statement.{statement}
 use Rattle.transform.proofs.inverse.outside.Tie as tie
-use Rattle.transform.proofs.inverse.outside.Reads as reads
-use Rattle.transform.proofs.inverse.outside.Lts as lts
 
 some : (c : tie.Else1) → eqb (natAbs (c .before .args .n)) 0 ≡ false
 some c = ne-eqb (natAbs (c .before .args .n)) 0 (λ e. c .if1 .left (ap (ofZ w16) (abs-zero (c .before .args .n) e)))

@@ -1,7 +1,7 @@
 -- `inverse::rail` meets its contract: equal bits are equal numbers. Assumes nothing.
 use mathlib.Core.Path.{_≡_, sym, ap, _∙_}
 use mathlib.Core.Bool.{false}
-use lib.IntN.{ℤ, pos, negsuc}
+use lib.IntN.{pos, negsuc}
 use mir.Syntax.{w16}
 use mir.Val.{toZ, ofZ}
 use mir.ValLaws.{toZ-ofZ}
@@ -9,8 +9,6 @@ use Rattle.algebra.specs.Equal.{eqZ}
 use Rattle.algebra.proofs.Table.{eqZ-no}
 use Rattle.transform.proofs.inverse.rail.Statement.{statement}
 use Rattle.transform.proofs.inverse.rail.Tie as tie
-use Rattle.transform.proofs.inverse.rail.Reads as reads
-use Rattle.transform.proofs.inverse.rail.Lts as lts
 
 not-low : (c : tie.Else1) → eqZ (c .before .args .v) (negsuc 32767) ≡ false
 not-low c = eqZ-no (c .before .args .v) (negsuc 32767) (λ e. c .if1 .left (ap (ofZ w16) e))

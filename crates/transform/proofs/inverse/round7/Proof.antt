@@ -1,6 +1,6 @@
 -- `inverse::round7` meets its contract. Assumes nothing.
 use mir.Syntax.{w32}
-use Rattle.algebra.proofs.Machine.{MV, arg≤, lit, add, shr, add-fits, val}
+use Rattle.algebra.proofs.Machine.{arg≤, lit, add, shr, add-fits, val}
 use Rattle.transform.proofs.inverse.round7.Statement.{statement}
 use Rattle.transform.proofs.inverse.round7.Tie as tie
 

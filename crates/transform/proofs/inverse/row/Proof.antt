@@ -1,8 +1,7 @@
 -- `inverse::row` meets its contract: the sums that the line left are the row's, and `last` rounds them. Assumes nothing.
 use borrow.Author.Needs.{needs}
 use native.Mathlib.Omega.{arith}
-use mathlib.Core.Path.{_≡_, refl, sym, ap, _∙_, subst}
-use mathlib.Core.Bool.{true, false}
+use mathlib.Core.Path.{_≡_, sym, ap, _∙_, subst}
 use mathlib.Core.List.{List}
 use Prim.Native.Nat.{ℕ, _+_, _*_, _-_, _<_, _≤_}
 use native.Mathlib.Nat.{mul-comm}
@@ -11,7 +10,7 @@ use lib.IntN.{ℤ, natAbs}
 use Rattle.algebra.specs.Shift.{nearest}
 use Rattle.algebra.specs.Lists.{at, tabulate}
 use Rattle.algebra.proofs.Lists.{row-in, place-in, tab-cong, tab-length}
-use Rattle.meaning.proofs.Cases.{depth-cases, size-in}
+use Rattle.meaning.proofs.Cases.{depth-cases}
 use Rattle.meaning.proofs.Small.{within-places}
 use Rattle.meaning.proofs.Stages.{columns-in}
 use Rattle.transform.specs.Stages.{residualOf}
@@ -20,11 +19,6 @@ use Rattle.transform.proofs.Middles.{sums-long}
 use Rattle.transform.proofs.Residuals.{rowOf, row-sums, residual-row, row-small}
 use Rattle.transform.proofs.inverse.row.Statement.{statement}
 use Rattle.transform.proofs.inverse.row.Tie as tie
-use Rattle.transform.proofs.inverse.row.Reads as reads
-use Rattle.transform.proofs.inverse.row.Lts as lts
-use Rattle.engine.proofs.fast.fast.Reads as fast-reads
-use Rattle.transform.proofs.inverse.kept_columns.Reads as kept-columns-reads
-use Rattle.transform.proofs.inverse.last.Reads as last-reads
 
 -- column i of row y lies among the middle values
 place : (s : tie.Start) → (i : ℕ) → i < s .args .shape .width → i + s .args .y * s .args .shape .width < length (s .args .m .now)

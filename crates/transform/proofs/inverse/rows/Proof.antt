@@ -1,20 +1,17 @@
 -- `inverse::rows` meets its contract: the rows before y are done, and what stands after them is as it was. Assumes nothing.
 use borrow.Author.Needs.{needs}
 use native.Mathlib.Omega.{arith}
-use mathlib.Core.Path.{_≡_, refl, sym, ap, _∙_, subst}
+use mathlib.Core.Path.{_≡_, refl, ap, _∙_}
 use mathlib.Core.List.{List, _++_, append-nil}
-use Prim.Native.Nat.{ℕ, _+_, _*_, _-_, _<_, _≤_}
-use native.Mathlib.Nat.{zero-mul, add-mul, one-mul, mul-comm, le-antisymm, mul-le-mul-right}
+use Prim.Native.Nat.{_+_, _*_, _-_, _≤_}
+use native.Mathlib.Nat.{zero-mul, add-mul, one-mul, mul-comm, mul-le-mul-right}
 use lib.ListN.{length, take, drop, length-append, length-take, length-drop, drop-of-length-le}
 use lib.IntN.{ℤ}
-use Rattle.algebra.specs.Lists.{tabulate, block}
+use Rattle.algebra.specs.Lists.{block}
 use Rattle.algebra.proofs.Lists.{row-in, block-none, block-more, block-length, part-back}
 use Rattle.transform.specs.Stages.{residualOf}
 use Rattle.transform.proofs.inverse.rows.Statement.{statement}
 use Rattle.transform.proofs.inverse.rows.Tie as tie
-use Rattle.transform.proofs.inverse.rows.Reads as reads
-use Rattle.transform.proofs.inverse.rows.Lts as lts
-use Rattle.transform.proofs.inverse.row.Reads as row-reads
 
 abbrev Inv-loop : tie.InvT-loop
 Inv-loop t shape m residuals₀ w h y₀ residuals y = (y ≤ h) × (residuals ≡ block w y (residualOf shape m) ++ drop (y * w) residuals₀)
@@ -74,7 +71,7 @@ part-row-end c = omega (arith, row-here c, long (c .before))
 row-requires : tie.Need-row-requires Inv-loop μ-loop
 row-requires c κs =
     let s = c .before .before .before .before .before in
-    (s .pre .0, (c .before .loop-test .taken, simp (length-take, length-drop) (omega (arith, row-here (c .before), long (c .before .before)))))
+    (s .pre .0, (omega arith, simp (length-take, length-drop) (omega (arith, row-here (c .before), long (c .before .before)))))
 
 add-y : tie.Need-add-y Inv-loop μ-loop
 add-y c = search needs
@@ -102,7 +99,7 @@ returns : tie.Need-returns Inv-loop μ-loop
 returns c =
     let L = c .before in
     let s = L .before .before .before .args in
-    let e : L .loop .y ≡ s .shape .height = le-antisymm (L .loop .inv .0) (c .loop-test .left) in
+    let e : L .loop .y ≡ s .shape .height = omega (arith, L .loop .inv .0, c .loop-test .left) in
     let l : length (s .residuals .now) ≤ s .shape .height * s .shape .width = omega (arith, area L) in
     L .loop .inv .1 ∙ rw (e, drop-of-length-le (s .residuals .now) l) (append-nil (block (s .shape .width) (s .shape .height) (residualOf (s .shape) (s .m .now))))
 

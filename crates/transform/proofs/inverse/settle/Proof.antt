@@ -1,7 +1,7 @@
 -- `inverse::settle` meets its contract. Assumes nothing.
 use borrow.Author.Needs.{needs}
 use native.Mathlib.Omega.{arith}
-use mathlib.Core.Path.{_≡_, refl, sym, ap, _∙_, subst}
+use mathlib.Core.Path.{_≡_, sym, ap, _∙_, subst}
 use Prim.Native.Nat.{ℕ, _+_, _*_, _-_, _<_, _≤_}
 use lib.ListN.{length}
 use lib.IntN.{ℤ, natAbs}
@@ -15,11 +15,6 @@ use Rattle.transform.specs.Stages.{short, Column, railsOf}
 use Rattle.transform.proofs.Middles.{column-none, column-next, rails-none, rails-next, rails-in, count-in}
 use Rattle.transform.proofs.inverse.settle.Statement.{statement}
 use Rattle.transform.proofs.inverse.settle.Tie as tie
-use Rattle.transform.proofs.inverse.settle.Reads as reads
-use Rattle.transform.proofs.inverse.settle.Lts as lts
-use Rattle.transform.proofs.inverse.clip16.Reads as clip16-reads
-use Rattle.transform.proofs.inverse.rail.Reads as rail-reads
-use Rattle.transform.proofs.inverse.round7.Reads as round7-reads
 
 abbrev Inv-loop : tie.InvT-loop
 Inv-loop e x w m₀ rails₀ y₀ m rails y = (y ≤ length e) × (Column w x y (λ y. middle short (at e y)) m₀ m × (rails ≡ railsOf y (at e)))

@@ -4,9 +4,9 @@ use borrow.Author.Needs.{needs}
 use native.Mathlib.Omega.{arith}
 use mathlib.Core.Path.{_≡_, sym, ap, _∙_, subst}
 use mathlib.Core.List.{List, _++_}
-use Prim.Native.Nat.{ℕ, _*_, _-_, _≤_}
+use Prim.Native.Nat.{_*_, _-_, _≤_}
 use native.Mathlib.Nat.{mul-le-mul, mul-comm}
-use lib.ListN.{length, take, drop, length-append}
+use lib.ListN.{length, take, length-append}
 use lib.IntN.{ℤ}
 use Rattle.algebra.specs.Lists.{block}
 use Rattle.algebra.proofs.Lists.{take-zeros, part-long, part-same}
@@ -18,11 +18,6 @@ use Rattle.transform.specs.Stages.{residualOf}
 use Rattle.transform.proofs.Residuals.{middles-long, middles-in, residuals}
 use Rattle.transform.proofs.inverse.stages.Statement.{statement}
 use Rattle.transform.proofs.inverse.stages.Tie as tie
-use Rattle.transform.proofs.inverse.stages.Reads as reads
-use Rattle.transform.proofs.inverse.stages.Lts as lts
-use Rattle.transform.proofs.inverse.horizontal.Reads as horizontal-reads
-use Rattle.transform.proofs.inverse.vertical.Reads as vertical-reads
-use Rattle.transform.proofs.inverse.zeros.Reads as zeros-reads
 
 -- no block has more than 1024 numbers, and no column more than 32
 area : (s : tie.Start) → length (s .args .c .now) ≤ 1024
