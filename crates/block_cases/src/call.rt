@@ -13,7 +13,7 @@ pub fn inverse(shape: Shape, block: &[u8], numbers: [i16; 1024], input: usize, o
     let before = widened(marks());
     let mut after = widened(marks());
     let answer = transform::block::inverse(shape, &numbers[0..input], &mut after[0..output]);
-    end(answer, &before[0..output], &after[0..output]);
+    end(answer, before, after, output);
 }
 
 pub fn forward(shape: Shape, block: &[u8], numbers: [i16; 1024], input: usize, output: usize)
@@ -24,7 +24,7 @@ pub fn forward(shape: Shape, block: &[u8], numbers: [i16; 1024], input: usize, o
     let answer = transform::block::forward(shape, &numbers[0..input], &mut out[0..output]);
     let before = widened(marks());
     let after = widened(out);
-    end(answer, &before[0..output], &after[0..output]);
+    end(answer, before, after, output);
 }
 
 pub fn either(

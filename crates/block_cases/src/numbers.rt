@@ -18,7 +18,6 @@ fn wide_zeros() -> [i32; 1024]
 // One number, and zeros.
 pub fn one(place: usize, number: i16) -> [i16; 1024]
     requires { ⌜ place < 1024 ⌝ }
-    ensures { λ r. ⌜ 1024 ≡ length r ⌝ }
 {
     let mut a = zeros();
     a[place] = number;
@@ -28,9 +27,9 @@ pub fn one(place: usize, number: i16) -> [i16; 1024]
 // Two numbers, and zeros.
 pub fn two(place: usize, number: i16, next: usize, other: i16) -> [i16; 1024]
     requires { ⌜ (place < 1024) × (next < 1024) ⌝ }
-    ensures { λ r. ⌜ 1024 ≡ length r ⌝ }
 {
-    let mut a = one(place, number);
+    let mut a = zeros();
+    a[place] = number;
     a[next] = other;
     a
 }
@@ -59,18 +58,14 @@ fn fill(a: &mut [i16], w: usize, kept: usize, even: i16, odd: i16) {
     }
 }
 
-pub fn filled(w: u32, kept: usize, even: i16, odd: i16) -> [i16; 1024]
-    ensures { λ r. ⌜ 1024 ≡ length r ⌝ }
-{
+pub fn filled(w: u32, kept: usize, even: i16, odd: i16) -> [i16; 1024] {
     let mut a = zeros();
     fill(&mut a, w as usize, kept, even, odd);
     a
 }
 
 // What an output holds before a call.
-pub fn marks() -> [i16; 1024]
-    ensures { λ r. ⌜ 1024 ≡ length r ⌝ }
-{
+pub fn marks() -> [i16; 1024] {
     filled(32, 32, 1234, -4321)
 }
 
@@ -88,9 +83,7 @@ fn widen(from: &[i16], to: &mut [i32])
     }
 }
 
-pub fn widened(from: [i16; 1024]) -> [i32; 1024]
-    ensures { λ r. ⌜ 1024 ≡ length r ⌝ }
-{
+pub fn widened(from: [i16; 1024]) -> [i32; 1024] {
     let mut to = wide_zeros();
     widen(&from, &mut to);
     to

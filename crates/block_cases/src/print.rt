@@ -5,6 +5,7 @@ use meaning::Answer;
 use meaning::Shape;
 use std::num::wrapping_add_u64;
 use std::num::wrapping_sub_u64;
+ghost use Prim.Native.Nat.{_≤_};
 
 fn text(t: &[u8]) {
     io::write_all(STDOUT_FILENO, t);
@@ -96,8 +97,7 @@ fn outcome(answer: Answer) {
     signed(answer.rails as u64);
 }
 
-pub fn end(answer: Answer, before: &[i32], after: &[i32]) {
-    outcome(answer);
+fn output(before: &[i32], after: &[i32]) {
     if same(before, after) {
         text(b" kept");
     } else {
@@ -108,5 +108,13 @@ pub fn end(answer: Answer, before: &[i32], after: &[i32]) {
         text(b" all");
         every(after);
     }
+}
+
+// The first `count` numbers are those of the output.
+pub fn end(answer: Answer, before: [i32; 1024], after: [i32; 1024], count: usize)
+    requires { ⌜ count ≤ 1024 ⌝ }
+{
+    outcome(answer);
+    output(&before[0..count], &after[0..count]);
     text(b"\n");
 }

@@ -22,7 +22,7 @@ use Rattle.engine.specs.Lines.{line}
 use Rattle.engine.specs.Product.{term, lineSum}
 use Rattle.engine.specs.Dst.{Small, dstSum, dstLine}
 use Rattle.engine.specs.Prepared.{turned, alternated, alternates, mirrors, prepared, finished, Loaded}
-use Rattle.engine.proofs.Bound.{abs-S}
+use Rattle.meaning.proofs.Sizes.{S-size}
 use Rattle.engine.proofs.Sums.{line-sums}
 use Rattle.engine.proofs.Mirror.{by-core}
 
@@ -140,6 +140,6 @@ core-small n size w r small sums =
     bound k =
         let b : natAbs (sum n (λ i. S n i k *ℤ at w i)) ≤ n * 2949120 =
         sum-in n (λ i. S n i k *ℤ at w i) 2949120
-        (λ i h. subst (λ (m : ℕ). m ≤ 2949120) (sym (abs-mul (S n i k) (at w i))) (mul-le-mul (abs-S n i k) (small .small i h)))
+        (λ i h. subst (λ (m : ℕ). m ≤ 2949120) (sym (abs-mul (S n i k) (at w i))) (mul-le-mul (S-size n i k) (small .small i h)))
         in
         omega (arith, b, size-in n size)

@@ -8,19 +8,24 @@ use native.Mathlib.Nat.{zero-mod, add-mod-right, mod-add-mod, mod-eq-of-lt, zero
 use native.Mathlib.Decide.{ℕ-discrete}
 use native.Mathlib.Omega.{arith}
 use borrow.Author.Tests.{eq-eqb, ne-eqb, le-leb, lt-leb, ltb-true, ltb-false}
-use lib.Dec.{leb, eqb, ltb}
+use lib.Dec.{T, leb, eqb, ltb, leb→le, ltb→lt}
 use lib.ListN.{length, set, replicate, length-replicate, getD-replicate, length-set, List·getD-eq-default}
 use lib.Seq.{getD-set-same, getD-set-other}
 use lib.IntN.{ℤ, pos, natAbs, _+ℤ_, _*ℤ_, +ℤ-idr, *ℤ-zero}
+use mir.Syntax.{w32}
+use mir.Val.{toZ, ofZ}
 use Rattle.algebra.specs.Sum.{sum}
 use Rattle.algebra.specs.Lists.{at, tabulate}
+use Rattle.algebra.proofs.Table.{and-left, and-right}
 use Rattle.algebra.proofs.Order.{abs-mul}
 use Rattle.algebra.proofs.Sum.{sum-cong, sum-add, sum-next, sum-split, sum-none, sum-in}
 use Rattle.algebra.proofs.Lists.{tab-at, tab-length, tabulated}
 use Rattle.meaning.specs.Weights.{S}
 use Rattle.engine.specs.Dst.{Small, dstSum}
-use Rattle.engine.specs.Folded.{inClass, masked, cleared, Sums}
-use Rattle.engine.proofs.Bound.{abs-S}
+use Rattle.tables.specs.Table.{Table}
+use Rattle.engine.specs.Folded.{inClass, masked, cleared, Row, Class, Sums}
+use Rattle.meaning.proofs.Sizes.{S-size}
+use Rattle.engine.proofs.Adding.{read-back, read-small}
 
 -- ---- a row of the class, as a loop reaches it
 pub record Along (first step i : ℕ) : Type 0 where
@@ -143,7 +148,7 @@ upto-small n x i k h b =
 
     one : (j : ℕ) → natAbs (x j) ≤ 32768 → natAbs (S n j k *ℤ x j) ≤ 2949120
     one j p =
-        let q : natAbs (S n j k) * natAbs (x j) ≤ 90 * 32768 = mul-le-mul (abs-S n j k) p in
+        let q : natAbs (S n j k) * natAbs (x j) ≤ 90 * 32768 = mul-le-mul (S-size n j k) p in
         omega (arith, abs-mul (S n j k) (x j))
 
 module _ (m n first step : ℕ) (x : List ℤ) where
@@ -243,3 +248,40 @@ clear-next {first} {step} {i} {x} {x₀} s l p =
 
 pub clear-all : {first step i : ℕ} {x x₀ : List ℤ} → length x₀ ≤ i → Clearing first step i x x₀ → x ≡ tabulate (length x₀) (cleared first step (at x₀))
 clear-all {x = x} {x₀ = x₀} l p = tabulated (length x₀) x _ (p .long) (λ k h. p .done k (omega arith))
+
+-- ---- what the loops over a class are given, the numbers by one test
+pub class-of : {m n step : ℕ} {t x : List ℤ} → T (leb m n && (leb n 32 && (ltb 0 step && leb step 32))) → Table n t → Small n 32768 x → Class m n step t x
+class-of {m} {n} {step} p t x =
+    let q = and-right (leb m n) _ p in
+    let r = and-right (leb n 32) _ q in
+    record {
+      width = leb→le m n (and-left (leb m n) _ p);
+      few = leb→le n 32 (and-left (leb n 32) _ q);
+      moves = ltb→lt 0 step (and-left (ltb 0 step) _ r);
+      near = leb→le step 32 (and-right (ltb 0 step) _ r);
+      table = t;
+      input = x;
+    }
+
+pub clear-of : {n step : ℕ} {x : List ℤ} → T (leb n 32 && (ltb 0 step && leb step 32)) → Small n 32768 x → (0 < step) × ((step ≤ 32) × (length x ≤ 32))
+clear-of {n} {step} p x =
+    let q = and-right (leb n 32) _ p in
+    let l : n ≤ 32 = leb→le n 32 (and-left (leb n 32) _ p) in
+    (ltb→lt 0 step (and-left (ltb 0 step) _ q), (leb→le step 32 (and-right (ltb 0 step) _ q), omega (arith, x .long)))
+
+-- an input, as it is read
+pub input-back : {m n step : ℕ} {t x : List ℤ} → Class m n step t x → (i : ℕ) → i < n → toZ w32 (ofZ w32 (at x i)) ≡ at x i
+input-back {x = x} p i h = read-back (at x i) 32768 (p .input .small i h) (omega arith)
+
+-- what a row is given
+pub row-given : (m n first step : ℕ) (x : List ℤ) {t a : List ℤ} {i : ℕ} → Class m n step t x → i < n → Upto m n first step x i a
+    → Row m n i (toZ w32 (ofZ w32 (at x i))) t a
+row-given m n first step x {i = i} p h u =
+    record {
+      row = h;
+      width = p .width;
+      few = p .few;
+      table = p .table;
+      value = read-small (at x i) 32768 (p .input .small i h) (omega arith);
+      sums = small-upto m n first step x (p .few) (p .input) (omega arith) u;
+    }

@@ -1,5 +1,3 @@
-pub mod Stored
-pub mod Bound
 pub mod Either
 pub mod Sums
 pub mod Mirror

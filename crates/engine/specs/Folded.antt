@@ -8,7 +8,7 @@ use lib.Dec.{eqb, leb, ltb}
 use lib.ListN.{length}
 use lib.IntN.{ℤ, pos, negℤ, natAbs, _+ℤ_}
 use Rattle.algebra.specs.Lists.{at, tabulate}
-use Rattle.engine.specs.Lines.{Table}
+use Rattle.tables.specs.Table.{Table}
 use Rattle.engine.specs.Dst.{Small, dstSum}
 
 -- ---- a class of rows: first, first + step, ..

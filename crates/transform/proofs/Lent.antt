@@ -13,7 +13,8 @@ use Rattle.algebra.specs.Lists.{at}
 use Rattle.meaning.specs.Shape.{isSize, isKind}
 use Rattle.meaning.proofs.Cases.{size-cases}
 use Rattle.meaning.proofs.Accepted.{TakenLine}
-use Rattle.engine.specs.Lines.{Table, Spot, Given, input, line}
+use Rattle.engine.specs.Lines.{Spot, Given, input, line}
+use Rattle.tables.specs.Table.{Table}
 use Rattle.transform.specs.Line.{isPlace}
 
 -- a size that is none of the three others

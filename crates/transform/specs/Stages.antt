@@ -17,7 +17,7 @@ use Rattle.meaning.specs.Inverse.{rounded, middle, railed, count}
 use Rattle.meaning.proofs.Taken.{Taken}
 use Rattle.meaning.proofs.Small.{NoneAbove}
 use Rattle.meaning.proofs.Accepted.{Whole}
-use Rattle.engine.specs.Lines.{Table}
+use Rattle.tables.specs.Table.{Table}
 
 -- "a non-zero coefficient outside the kept part", in column x of row y
 abbrev pub outsideAt : ℕ → ℕ → ℕ → ℕ → ℤ → Bool

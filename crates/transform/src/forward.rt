@@ -4,12 +4,12 @@ use crate::check::acceptance;
 use crate::check::block_refusal;
 use crate::check::refusal;
 use engine::fast::fast;
-use engine::tables::weights_4;
-use engine::tables::weights_8;
-use engine::tables::weights_16;
-use engine::tables::weights_32;
 use meaning::Answer;
 use meaning::Shape;
+use tables::weights_4;
+use tables::weights_8;
+use tables::weights_16;
+use tables::weights_32;
 ghost use mathlib.Core.Path.{_≡_};
 ghost use mathlib.Core.Bool.{true};
 ghost use Prim.Native.Nat.{_+_, _*_, _-_, _^_, _<_, _≤_};
@@ -21,7 +21,7 @@ ghost use Rattle.algebra.specs.Lists.{at, tabulate, block};
 ghost use Rattle.meaning.specs.Shape.{isSize, isDepth, keptColumns, keptRows};
 ghost use Rattle.meaning.specs.Answer.{Outcome};
 ghost use Rattle.meaning.specs.Forward.{log2, rowShift, columnShift, rowValue, firstTooLarge, forwardBlock, forwardOutcome};
-ghost use Rattle.engine.specs.Lines.{Table};
+ghost use Rattle.tables.specs.Table.{Table};
 ghost use Rattle.transform.specs.Forward.{Sums, Line, Lines, Residuals, Middle, Put, Stage, lineValue, keptValue};
 
 // The size, in 32 bits: 16 do not hold that of -32768.

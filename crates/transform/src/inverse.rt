@@ -1,10 +1,10 @@
 // The work behind `block::inverse`: the hunt for refusal 8, then columns into middle values, then rows into residuals.
 use engine::fast::fast;
-use engine::tables::weights_4;
-use engine::tables::weights_8;
-use engine::tables::weights_16;
-use engine::tables::weights_32;
 use meaning::Shape;
+use tables::weights_4;
+use tables::weights_8;
+use tables::weights_16;
+use tables::weights_32;
 ghost use mathlib.Core.Path.{_≡_};
 ghost use mathlib.Core.List.{_++_};
 ghost use Prim.Native.Nat.{ℕ, _≤_, _<_, _*_, _+_};

@@ -1,7 +1,6 @@
 // One row: v times its first weights, added to the sums of a class. One function for each width that a class has, since a
 // constant width and a local array of sums are what LLVM turns into vector code.
-use crate::arith::mac;
-use crate::arith::wide;
+use crate::arith::mac_stored;
 ghost use mathlib.Core.Path.{_≡_};
 ghost use lib.IntN.{_+ℤ_, _*ℤ_};
 ghost use Rattle.algebra.specs.Lists.{at, tabulate};
@@ -15,7 +14,7 @@ pub fn row_1(t: &[i16], n: usize, i: usize, v: i32, a: &mut [i32; 1])
     let o = i * n;
     let mut j = 0;
     while j < 1 {
-        a[j] = mac(a[j], wide(t[o + j]), v);
+        a[j] = mac_stored(a[j], t[o + j], v);
         j += 1;
     }
 }
@@ -27,7 +26,7 @@ pub fn row_2(t: &[i16], n: usize, i: usize, v: i32, a: &mut [i32; 2])
     let o = i * n;
     let mut j = 0;
     while j < 2 {
-        a[j] = mac(a[j], wide(t[o + j]), v);
+        a[j] = mac_stored(a[j], t[o + j], v);
         j += 1;
     }
 }
@@ -39,7 +38,7 @@ pub fn row_3(t: &[i16], n: usize, i: usize, v: i32, a: &mut [i32; 3])
     let o = i * n;
     let mut j = 0;
     while j < 3 {
-        a[j] = mac(a[j], wide(t[o + j]), v);
+        a[j] = mac_stored(a[j], t[o + j], v);
         j += 1;
     }
 }
@@ -51,7 +50,7 @@ pub fn row_5(t: &[i16], n: usize, i: usize, v: i32, a: &mut [i32; 5])
     let o = i * n;
     let mut j = 0;
     while j < 5 {
-        a[j] = mac(a[j], wide(t[o + j]), v);
+        a[j] = mac_stored(a[j], t[o + j], v);
         j += 1;
     }
 }
@@ -63,7 +62,7 @@ pub fn row_6(t: &[i16], n: usize, i: usize, v: i32, a: &mut [i32; 6])
     let o = i * n;
     let mut j = 0;
     while j < 6 {
-        a[j] = mac(a[j], wide(t[o + j]), v);
+        a[j] = mac_stored(a[j], t[o + j], v);
         j += 1;
     }
 }
@@ -75,7 +74,7 @@ pub fn row_8(t: &[i16], n: usize, i: usize, v: i32, a: &mut [i32; 8])
     let o = i * n;
     let mut j = 0;
     while j < 8 {
-        a[j] = mac(a[j], wide(t[o + j]), v);
+        a[j] = mac_stored(a[j], t[o + j], v);
         j += 1;
     }
 }
@@ -87,7 +86,7 @@ pub fn row_11(t: &[i16], n: usize, i: usize, v: i32, a: &mut [i32; 11])
     let o = i * n;
     let mut j = 0;
     while j < 11 {
-        a[j] = mac(a[j], wide(t[o + j]), v);
+        a[j] = mac_stored(a[j], t[o + j], v);
         j += 1;
     }
 }
@@ -99,7 +98,7 @@ pub fn row_26(t: &[i16], n: usize, i: usize, v: i32, a: &mut [i32; 26])
     let o = i * n;
     let mut j = 0;
     while j < 26 {
-        a[j] = mac(a[j], wide(t[o + j]), v);
+        a[j] = mac_stored(a[j], t[o + j], v);
         j += 1;
     }
 }

@@ -1,7 +1,7 @@
 -- `dst::dst_16` meets its contract: the law at 16 points. Assumes nothing.
 use borrow.Author.Needs.{needs}
-use native.Mathlib.Omega.{arith}
 use mathlib.Core.Path.{_≡_, refl, sym, _∙_}
+use Rattle.engine.proofs.Classes.{class-of, clear-of}
 use Rattle.engine.proofs.Folding.{Less, less, left-small, three, folds-16}
 use Rattle.engine.proofs.dst.dst_16.Statement.{statement}
 use Rattle.engine.proofs.dst.dst_16.Tie as tie
@@ -14,29 +14,29 @@ use Rattle.engine.proofs.dst.front.front_5.Reads as front-5-reads
 use Rattle.engine.proofs.dst.spread.spread_16.Reads as spread-16-reads
 
 front-5-requires : tie.Need-front-5-requires
-front-5-requires c κs = record { width = omega arith; few = omega arith; moves = omega arith; near = omega arith; table = c .before .pre .table; input = c .before .pre .input }
+front-5-requires c κs = class-of tt (c .before .pre .table) (c .before .pre .input)
 
 clear-requires : tie.Need-clear-requires
-clear-requires c κs = (omega arith, (omega arith, omega (arith, c .before .before .before .pre .input .long)))
+clear-requires c κs = clear-of tt (c .before .before .before .pre .input)
 
 front-1-requires : tie.Need-front-1-requires
 front-1-requires c κs =
     let s = c .before .before .before .before .before .before in
     let y = less 1 3 (s .pre .input .long) (c .before .before .clear .ensures) in
-    record { width = omega arith; few = omega arith; moves = omega arith; near = omega arith; table = s .pre .table; input = left-small y (s .pre .input) }
+    class-of tt (s .pre .table) (left-small y (s .pre .input))
 
 clear-requires-2 : tie.Need-clear-requires-2
 clear-requires-2 c κs =
     let s = c .before .before .before .before .before .before .before .before in
     let y = less 1 3 (s .pre .input .long) (c .before .before .before .before .clear .ensures) in
-    (omega arith, (omega arith, omega (arith, left-small y (s .pre .input) .long)))
+    clear-of tt (left-small y (s .pre .input))
 
 front-11-requires : tie.Need-front-11-requires
 front-11-requires c κs =
     let s = c .before .before .before .before .before .before .before .before .before .before .before in
     let y = less 1 3 (s .pre .input .long) (c .before .before .before .before .before .before .before .clear .ensures) in
     let z = less 5 11 (left-small y (s .pre .input) .long) (c .before .before .clear2 .ensures) in
-    record { width = omega arith; few = omega arith; moves = omega arith; near = omega arith; table = s .pre .table; input = left-small z (left-small y (s .pre .input)) }
+    class-of tt (s .pre .table) (left-small z (left-small y (s .pre .input)))
 
 slice-aggregate-spread-16 : tie.Need-slice-aggregate-spread-16
 slice-aggregate-spread-16 c = search needs

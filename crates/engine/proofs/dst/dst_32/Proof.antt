@@ -1,7 +1,7 @@
 -- `dst::dst_32` meets its contract: the law at 32 points. Assumes nothing.
 use borrow.Author.Needs.{needs}
-use native.Mathlib.Omega.{arith}
 use mathlib.Core.Path.{_≡_, refl, sym, _∙_}
+use Rattle.engine.proofs.Classes.{class-of, clear-of}
 use Rattle.engine.proofs.Folding.{Less, less, left-small, three, folds-32}
 use Rattle.engine.proofs.dst.dst_32.Statement.{statement}
 use Rattle.engine.proofs.dst.dst_32.Tie as tie
@@ -14,29 +14,29 @@ use Rattle.engine.proofs.dst.front.front_6.Reads as front-6-reads
 use Rattle.engine.proofs.dst.spread.spread_32.Reads as spread-32-reads
 
 front-6-requires : tie.Need-front-6-requires
-front-6-requires c κs = record { width = omega arith; few = omega arith; moves = omega arith; near = omega arith; table = c .before .pre .table; input = c .before .pre .input }
+front-6-requires c κs = class-of tt (c .before .pre .table) (c .before .pre .input)
 
 clear-requires : tie.Need-clear-requires
-clear-requires c κs = (omega arith, (omega arith, omega (arith, c .before .before .before .pre .input .long)))
+clear-requires c κs = clear-of tt (c .before .before .before .pre .input)
 
 front-2-requires : tie.Need-front-2-requires
 front-2-requires c κs =
     let s = c .before .before .before .before .before .before in
     let y = less 2 5 (s .pre .input .long) (c .before .before .clear .ensures) in
-    record { width = omega arith; few = omega arith; moves = omega arith; near = omega arith; table = s .pre .table; input = left-small y (s .pre .input) }
+    class-of tt (s .pre .table) (left-small y (s .pre .input))
 
 clear-requires-2 : tie.Need-clear-requires-2
 clear-requires-2 c κs =
     let s = c .before .before .before .before .before .before .before .before in
     let y = less 2 5 (s .pre .input .long) (c .before .before .before .before .clear .ensures) in
-    (omega arith, (omega arith, omega (arith, left-small y (s .pre .input) .long)))
+    clear-of tt (left-small y (s .pre .input))
 
 front-26-requires : tie.Need-front-26-requires
 front-26-requires c κs =
     let s = c .before .before .before .before .before .before .before .before .before .before .before in
     let y = less 2 5 (s .pre .input .long) (c .before .before .before .before .before .before .before .clear .ensures) in
     let z = less 6 13 (left-small y (s .pre .input) .long) (c .before .before .clear2 .ensures) in
-    record { width = omega arith; few = omega arith; moves = omega arith; near = omega arith; table = s .pre .table; input = left-small z (left-small y (s .pre .input)) }
+    class-of tt (s .pre .table) (left-small z (left-small y (s .pre .input)))
 
 slice-aggregate-spread-32 : tie.Need-slice-aggregate-spread-32
 slice-aggregate-spread-32 c = search needs

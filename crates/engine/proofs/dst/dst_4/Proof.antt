@@ -1,7 +1,7 @@
 -- `dst::dst_4` meets its contract: the law at 4 points. Assumes nothing.
 use borrow.Author.Needs.{needs}
-use native.Mathlib.Omega.{arith}
 use mathlib.Core.Path.{_≡_, refl, sym, _∙_}
+use Rattle.engine.proofs.Classes.{class-of, clear-of}
 use Rattle.engine.proofs.Folding.{Less, less, left-small, two, folds-4}
 use Rattle.engine.proofs.dst.dst_4.Statement.{statement}
 use Rattle.engine.proofs.dst.dst_4.Tie as tie
@@ -13,16 +13,16 @@ use Rattle.engine.proofs.dst.front.front_3.Reads as front-3-reads
 use Rattle.engine.proofs.dst.spread.spread_4.Reads as spread-4-reads
 
 front-1-requires : tie.Need-front-1-requires
-front-1-requires c κs = record { width = omega arith; few = omega arith; moves = omega arith; near = omega arith; table = c .before .pre .table; input = c .before .pre .input }
+front-1-requires c κs = class-of tt (c .before .pre .table) (c .before .pre .input)
 
 clear-requires : tie.Need-clear-requires
-clear-requires c κs = (omega arith, (omega arith, omega (arith, c .before .before .before .pre .input .long)))
+clear-requires c κs = clear-of tt (c .before .before .before .pre .input)
 
 front-3-requires : tie.Need-front-3-requires
 front-3-requires c κs =
     let s = c .before .before .before .before .before .before in
     let y = less 1 3 (s .pre .input .long) (c .before .before .clear .ensures) in
-    record { width = omega arith; few = omega arith; moves = omega arith; near = omega arith; table = s .pre .table; input = left-small y (s .pre .input) }
+    class-of tt (s .pre .table) (left-small y (s .pre .input))
 
 slice-aggregate-spread-4 : tie.Need-slice-aggregate-spread-4
 slice-aggregate-spread-4 c = search needs

@@ -11,6 +11,7 @@ use Rattle.algebra.specs.Lists.{at}
 use Rattle.algebra.proofs.Lists.{Filled, fill-none, fill-first, filled, tab-at}
 use Rattle.engine.specs.Dst.{dstSum}
 use Rattle.engine.proofs.Adding.{read-back}
+use Rattle.engine.proofs.Classes.{class-of}
 use Rattle.engine.proofs.Folding.{plain}
 use Rattle.engine.proofs.dst.dst_8.Statement.{statement}
 use Rattle.engine.proofs.dst.dst_8.Tie as tie
@@ -27,7 +28,7 @@ abbrev μ-loop : tie.MeasureT-loop
 front-8-requires : tie.Need-front-8-requires Inv-loop μ-loop
 front-8-requires c κs =
     let p = c .before .pre in
-    record { width = omega arith; few = omega arith; moves = omega arith; near = omega arith; table = p .table; input = p .input }
+    class-of tt (p .table) (p .input)
 
 loop-holds : tie.Need-loop-holds Inv-loop μ-loop
 loop-holds c = (omega arith, fill-none 0 _ _)

@@ -12,7 +12,7 @@ use mir.Val.{toZ, ofZ}
 use mir.ValLaws.{toZ-ofZ}
 use Rattle.engine.specs.Lines.{input}
 use Rattle.engine.specs.Prepared.{alternated, prepared}
-use Rattle.engine.proofs.Bound.{abs-signed}
+use Rattle.meaning.proofs.Sizes.{abs-signed}
 use Rattle.engine.proofs.Around.{prepared-some, prepared-none}
 use Rattle.engine.proofs.fast.taken.Statement.{statement}
 use Rattle.engine.proofs.fast.taken.Tie as tie

@@ -5,7 +5,7 @@ use mathlib.Core.Bool.{true}
 use Prim.Native.Nat.{ℕ}
 use Rattle.meaning.specs.Shape.{isSize}
 use Rattle.meaning.proofs.Cases.{size-cases}
-use Rattle.engine.specs.Lines.{Table}
+use Rattle.tables.specs.Table.{Table}
 use Rattle.transform.proofs.forward.stage.Statement.{statement}
 use Rattle.transform.proofs.forward.stage.Tie as tie
 

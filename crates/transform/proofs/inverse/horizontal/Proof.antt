@@ -4,17 +4,17 @@ use mathlib.Core.Path.{_≡_, sym, subst}
 use mathlib.Core.List.{List}
 use Prim.Native.Nat.{ℕ}
 use lib.IntN.{ℤ}
-use Rattle.engine.specs.Lines.{Table}
+use Rattle.tables.specs.Table.{Table}
 use Rattle.transform.specs.Stages.{Horizontal}
 use Rattle.transform.proofs.Lent.{thirty-two}
 use Rattle.transform.proofs.inverse.horizontal.Statement.{statement}
 use Rattle.transform.proofs.inverse.horizontal.Tie as tie
 use Rattle.transform.proofs.inverse.horizontal.Reads as reads
 use Rattle.transform.proofs.inverse.horizontal.Lts as lts
-use Rattle.engine.proofs.tables.weights_16.Reads as weights-16-reads
-use Rattle.engine.proofs.tables.weights_32.Reads as weights-32-reads
-use Rattle.engine.proofs.tables.weights_4.Reads as weights-4-reads
-use Rattle.engine.proofs.tables.weights_8.Reads as weights-8-reads
+use Rattle.tables.proofs.weights_16.Reads as weights-16-reads
+use Rattle.tables.proofs.weights_32.Reads as weights-32-reads
+use Rattle.tables.proofs.weights_4.Reads as weights-4-reads
+use Rattle.tables.proofs.weights_8.Reads as weights-8-reads
 use Rattle.transform.proofs.inverse.rows.Reads as rows-reads
 
 given : (s : tie.Start) {n : ℕ} {t : List ℤ} → s .args .shape .width ≡ n → Table n t → Horizontal (s .args .shape) t (s .args .m .now)

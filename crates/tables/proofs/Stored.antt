@@ -5,7 +5,7 @@ use mathlib.Core.List.{List, [], _∷_}
 use Prim.Native.Nat.{ℕ}
 use lib.IntN.{ℤ, pos, negsuc}
 use Rattle.meaning.specs.Weights.{S, fold, first}
-use Rattle.engine.specs.Lines.{Table}
+use Rattle.tables.specs.Table.{Table}
 use Rattle.algebra.proofs.Table.{table-at}
 
 abbrev weights4 : List ℤ
