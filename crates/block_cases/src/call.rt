@@ -6,40 +6,57 @@ use crate::print::start;
 use meaning::Shape;
 ghost use Prim.Native.Nat.{_≤_};
 
-pub fn inverse(shape: Shape, block: &[u8], numbers: [i16; 1024], input: usize, output: usize)
+fn inverse(shape: Shape, block: &[u8], numbers: [i16; 1024], input: usize, output: usize)
     requires { ⌜ (input ≤ 1024) × (output ≤ 1024) ⌝ }
 {
     start(b"inverse", shape, input, output, block);
     let before = widened(marks());
-    let mut after = widened(marks());
+    let mut after = before;
     let answer = transform::block::inverse(shape, &numbers[0..input], &mut after[0..output]);
     end(answer, before, after, output);
 }
 
-pub fn forward(shape: Shape, block: &[u8], numbers: [i16; 1024], input: usize, output: usize)
+fn forward(shape: Shape, block: &[u8], numbers: [i16; 1024], input: usize, output: usize)
     requires { ⌜ (input ≤ 1024) × (output ≤ 1024) ⌝ }
 {
     start(b"forward", shape, input, output, block);
-    let mut out = marks();
-    let answer = transform::block::forward(shape, &numbers[0..input], &mut out[0..output]);
-    let before = widened(marks());
-    let after = widened(out);
-    end(answer, before, after, output);
+    let before = marks();
+    let mut after = before;
+    let answer = transform::block::forward(shape, &numbers[0..input], &mut after[0..output]);
+    end(answer, widened(before), widened(after), output);
 }
 
-pub fn either(
+pub fn line(
     is_forward: bool,
     shape: Shape,
     block: &[u8],
     numbers: [i16; 1024],
     input: usize,
     output: usize,
-)
-    requires { ⌜ (input ≤ 1024) × (output ≤ 1024) ⌝ }
-{
+) {
+    if 1024 < input {
+        return;
+    }
+    if 1024 < output {
+        return;
+    }
     if is_forward {
         forward(shape, block, numbers, input, output);
     } else {
         inverse(shape, block, numbers, input, output);
     }
+}
+
+// A line with the lengths that the shape asks for.
+pub fn whole(is_forward: bool, shape: Shape, block: &[u8], numbers: [i16; 1024]) {
+    let w = shape.width;
+    let h = shape.height;
+    if 32 < w {
+        return;
+    }
+    if 32 < h {
+        return;
+    }
+    let area = (w * h) as usize;
+    line(is_forward, shape, block, numbers, area, area);
 }

@@ -15,17 +15,8 @@ fn wide_zeros() -> [i32; 1024]
     [0; 1024]
 }
 
-// One number, and zeros.
-pub fn one(place: usize, number: i16) -> [i16; 1024]
-    requires { ⌜ place < 1024 ⌝ }
-{
-    let mut a = zeros();
-    a[place] = number;
-    a
-}
-
-// Two numbers, and zeros.
-pub fn two(place: usize, number: i16, next: usize, other: i16) -> [i16; 1024]
+// A number at one place, then a number at another, and zeros.
+pub fn only(place: usize, number: i16, next: usize, other: i16) -> [i16; 1024]
     requires { ⌜ (place < 1024) × (next < 1024) ⌝ }
 {
     let mut a = zeros();
@@ -50,17 +41,13 @@ fn by_turns(k: usize, w: usize, kept: usize, even: i16, odd: i16) -> i16 {
     if x % 2 == y % 2 { even } else { odd }
 }
 
-fn fill(a: &mut [i16], w: usize, kept: usize, even: i16, odd: i16) {
-    let mut k: usize = 0;
-    while k < a.len() {
-        a[k] = by_turns(k, w, kept, even, odd);
-        k += 1;
-    }
-}
-
 pub fn filled(w: u32, kept: usize, even: i16, odd: i16) -> [i16; 1024] {
     let mut a = zeros();
-    fill(&mut a, w as usize, kept, even, odd);
+    let mut k: usize = 0;
+    while k < 1024 {
+        a[k] = by_turns(k, w as usize, kept, even, odd);
+        k += 1;
+    }
     a
 }
 
@@ -73,18 +60,12 @@ fn wide(v: i16) -> i32 {
     v as i32
 }
 
-fn widen(from: &[i16], to: &mut [i32])
-    requires { ⌜ length (now from) ≡ length (now to) ⌝ }
-{
+pub fn widened(from: [i16; 1024]) -> [i32; 1024] {
+    let mut to = wide_zeros();
     let mut k: usize = 0;
-    while k < from.len() {
+    while k < 1024 {
         to[k] = wide(from[k]);
         k += 1;
     }
-}
-
-pub fn widened(from: [i16; 1024]) -> [i32; 1024] {
-    let mut to = wide_zeros();
-    widen(&from, &mut to);
     to
 }

@@ -1,11 +1,13 @@
 // The parts of a line, on standard output. Sums are taken modulo 2^64 and printed as the numbers from -2^63 on: those of
-// 1024 numbers of 32 bits, each by a place of at most 1024, are far inside.
+// 1024 numbers of 32 bits, each times a place of at most 1024, are far inside.
 use libc::STDOUT_FILENO;
 use meaning::Answer;
 use meaning::Shape;
 use std::num::wrapping_add_u64;
 use std::num::wrapping_sub_u64;
+ghost use mathlib.Core.Path.{_≡_};
 ghost use Prim.Native.Nat.{_≤_};
+ghost use lib.ListN.{length};
 
 fn text(t: &[u8]) {
     io::write_all(STDOUT_FILENO, t);
@@ -21,30 +23,50 @@ fn signed(n: u64) {
     io::print_decimal(STDOUT_FILENO, wrapping_sub_u64(0, n));
 }
 
-fn size(v: i32) -> u64 {
+fn modular(v: i32) -> u64 {
     let wide = v as i64;
     if wide < 0 {
-        (0 - wide) as u64
+        wrapping_sub_u64(0, (0 - wide) as u64)
     } else {
         wide as u64
     }
 }
 
-fn modular(v: i32) -> u64 {
-    let n = size(v);
-    if v < 0 { wrapping_sub_u64(0, n) } else { n }
+pub fn start(direction: &[u8], shape: Shape, input: usize, output: usize, block: &[u8]) {
+    text(direction);
+    signed(shape.width as u64);
+    signed(shape.height as u64);
+    signed(shape.horizontal as u64);
+    signed(shape.vertical as u64);
+    signed(shape.depth as u64);
+    text(b",");
+    signed(input as u64);
+    text(b" to");
+    signed(output as u64);
+    text(b", ");
+    text(block);
+    text(b":");
 }
 
-// From the last number on: what is summed so far is added to the second sum at each place.
-fn sums(a: &[i32]) {
+// How many numbers changed, and the sums. From the last number on: what is summed so far is added to the second sum
+// at each place.
+fn sums(before: &[i32], after: &[i32])
+    requires { ⌜ length (now before) ≡ length (now after) ⌝ }
+{
+    let mut changed: u64 = 0;
     let mut plain: u64 = 0;
     let mut placed: u64 = 0;
-    let mut k = a.len();
+    let mut k = after.len();
     while k > 0 {
         k -= 1;
-        plain = wrapping_add_u64(plain, modular(a[k]));
+        if before[k] != after[k] {
+            changed = wrapping_add_u64(changed, 1);
+        }
+        plain = wrapping_add_u64(plain, modular(after[k]));
         placed = wrapping_add_u64(placed, plain);
     }
+    signed(changed);
+    text(b" changed");
     signed(plain);
     signed(placed);
 }
@@ -57,64 +79,18 @@ fn every(a: &[i32]) {
     }
 }
 
-fn same(a: &[i32], b: &[i32]) -> bool {
-    if a.len() != b.len() {
-        return false;
-    }
-    let mut k: usize = 0;
-    while k < a.len() {
-        if a[k] != b[k] {
-            return false;
-        }
-        k += 1;
-    }
-    true
-}
-
-fn figures(shape: Shape) {
-    signed(shape.width as u64);
-    signed(shape.height as u64);
-    signed(shape.horizontal as u64);
-    signed(shape.vertical as u64);
-    signed(shape.depth as u64);
-}
-
-pub fn start(direction: &[u8], shape: Shape, input: usize, output: usize, block: &[u8]) {
-    text(direction);
-    figures(shape);
-    text(b",");
-    signed(input as u64);
-    text(b" to");
-    signed(output as u64);
-    text(b", ");
-    text(block);
-    text(b":");
-}
-
-fn outcome(answer: Answer) {
-    signed(answer.number as u64);
-    signed(answer.place as u64);
-    signed(answer.rails as u64);
-}
-
-fn output(before: &[i32], after: &[i32]) {
-    if same(before, after) {
-        text(b" kept");
-    } else {
-        text(b" written");
-    }
-    sums(after);
-    if after.len() == 16 {
-        text(b" all");
-        every(after);
-    }
-}
-
 // The first `count` numbers are those of the output.
 pub fn end(answer: Answer, before: [i32; 1024], after: [i32; 1024], count: usize)
     requires { ⌜ count ≤ 1024 ⌝ }
 {
-    outcome(answer);
-    output(&before[0..count], &after[0..count]);
+    signed(answer.number as u64);
+    signed(answer.place as u64);
+    signed(answer.rails as u64);
+    text(b",");
+    sums(&before[0..count], &after[0..count]);
+    if count == 16 {
+        text(b" all");
+        every(&after[0..count]);
+    }
     text(b"\n");
 }

@@ -78,7 +78,8 @@ fn line(
     print!("{name} {width} {height} {horizontal} {vertical} {depth},");
     print!(" {input} to {output}, {what}:");
     print!(" {} {} {}", answer.number, answer.place, answer.rails);
-    print!(" {}", if before == after { "kept" } else { "written" });
+    let changed = (0..output).filter(|&k| before[k] != after[k]).count();
+    print!(", {changed} changed");
     print_numbers(&after);
     println!();
 }
@@ -93,32 +94,35 @@ fn print_numbers(numbers: &[i64]) {
     }
 }
 
-fn items() {
-    let small = [16, 16];
+/// Calls with the lengths that the shape asks for.
+fn whole(direction: Direction, shape: [i64; 5], what: &str, block: &[i64]) {
+    let area = (shape[0] * shape[1]) as usize;
+    line(direction, shape, what, block, [area, area]);
+}
+
+fn forward_items() {
     let shape = [4, 4, 1, 1, 8];
-    for n in [255, -255] {
-        let block = filled(4, 32, [n, n]);
-        line(Forward, shape, &format!("item 4, all {n}"), &block, small);
+    for (item, n) in [(4, 255), (4, -255), (5, 256)] {
+        let what = format!("item {item}, all {n}");
+        whole(Forward, shape, &what, &filled(4, 32, [n, n]));
     }
-    let block = filled(4, 32, [256, 256]);
-    line(Forward, shape, "item 5, all 256", &block, small);
+    whole(Forward, [5, 4, 0, 0, 7], "item 10", &only(&[]));
+}
+
+fn inverse_items() {
     let shape = [4, 4, 1, 1, 10];
     for n in [21063, 21064, 21066] {
         let block = only(&[(4, 32767), (8, n)]);
-        line(Inverse, shape, &format!("item 7, {n}"), &block, small);
+        whole(Inverse, shape, &format!("item 7, {n}"), &block);
     }
-    let block = only(&[(0, 64)]);
-    line(Inverse, shape, "item 8, the whole case", &block, small);
+    whole(Inverse, shape, "item 8, the whole case", &only(&[(0, 64)]));
     let block = filled(4, 16, [32767, 32767]);
-    line(Inverse, shape, "item 8, all 32767", &block, small);
+    whole(Inverse, shape, "item 8, all 32767", &block);
     for place in [15, 16] {
         let what = format!("item 9, 1000 at place {place}");
-        let block = only(&[(place, 1000)]);
-        line(Inverse, [32, 4, 1, 1, 8], &what, &block, [128, 128]);
+        whole(Inverse, [32, 4, 1, 1, 8], &what, &only(&[(place, 1000)]));
     }
-    for direction in [Inverse, Forward] {
-        line(direction, [5, 4, 0, 0, 7], "item 10", &only(&[]), [20, 20]);
-    }
+    whole(Inverse, [5, 4, 0, 0, 7], "item 10", &only(&[]));
 }
 
 /// 1 to 7, each alone.
@@ -170,8 +174,7 @@ fn refusals_in_order(direction: Direction) {
 /// The places of 8.
 fn outside() {
     let case = |shape: [i64; 5], what: &str, numbers: &[(usize, i64)]| {
-        let area = (shape[0] * shape[1]) as usize;
-        line(Inverse, shape, what, &only(numbers), [area, area]);
+        whole(Inverse, shape, what, &only(numbers));
     };
     let wide = [32, 4, 2, 1, 9];
     case(wide, "1 at place 31", &[(31, 1)]);
@@ -179,74 +182,60 @@ fn outside() {
     let high = [8, 32, 2, 1, 9];
     case(high, "-32768 at place 127", &[(127, -32768)]);
     case(high, "-32768 at place 128", &[(128, -32768)]);
-    let whole = [32, 32, 1, 2, 10];
-    case(whole, "1 at places 512 and 496", &[(512, 1), (496, 1)]);
-    case(whole, "1 at places 1023 and 495", &[(1023, 1), (495, 1)]);
+    let large = [32, 32, 1, 2, 10];
+    case(large, "1 at places 512 and 496", &[(512, 1), (496, 1)]);
+    case(large, "1 at places 1023 and 495", &[(1023, 1), (495, 1)]);
 }
 
 /// The places of 9.
 fn too_large() {
     let case = |shape: [i64; 5], what: &str, numbers: &[(usize, i64)]| {
-        let area = (shape[0] * shape[1]) as usize;
-        line(Forward, shape, what, &only(numbers), [area, area]);
+        whole(Forward, shape, what, &only(numbers));
     };
     let small = [4, 8, 1, 2, 8];
     let what = "-255 at place 0, 256 at place 31";
     case(small, what, &[(0, -255), (31, 256)]);
     case(small, "-256 at places 30 and 7", &[(30, -256), (7, -256)]);
     case(small, "-32768 at place 12", &[(12, -32768)]);
-    let whole = [32, 32, 2, 2, 12];
+    let large = [32, 32, 2, 2, 12];
     let what = "-4095 at place 1000, 4095 at place 1023";
-    case(whole, what, &[(1000, -4095), (1023, 4095)]);
+    case(large, what, &[(1000, -4095), (1023, 4095)]);
     let what = "4096 at places 1023 and 1000";
-    case(whole, what, &[(1023, 4096), (1000, 4096)]);
+    case(large, what, &[(1023, 4096), (1000, 4096)]);
 }
 
-/// All high, all low, and by turns.
-fn worst_blocks(direction: Direction, shape: [i64; 5], kept: usize, [low, high]: [i64; 2]) {
-    let area = (shape[0] * shape[1]) as usize;
+/// At this depth every width, height and pair of kinds: all high, all low, and by turns.
+fn worst(direction: Direction, depth: i64, kept: usize, [low, high]: [i64; 2]) {
     let blocks = [
         ("high", [high, high]),
         ("low", [low, low]),
         ("by turns", [high, low]),
     ];
-    for (what, turns) in blocks {
-        let block = filled(shape[0], kept, turns);
-        line(direction, shape, what, &block, [area, area]);
-    }
-}
-
-/// Width, height and both kinds of every block, in the program's order.
-fn shapes() -> impl Iterator<Item = [i64; 4]> {
     let sides = SIDES.into_iter().flat_map(|w| SIDES.map(|h| [w, h]));
-    sides.flat_map(|[w, h]| [[1, 1], [1, 2], [2, 1], [2, 2]].map(|[x, y]| [w, h, x, y]))
-}
-
-fn worst_inverse() {
-    for [w, h, x, y] in shapes() {
-        for depth in [8, 12] {
-            worst_blocks(Inverse, [w, h, x, y, depth], 16, [-32768, 32767]);
-        }
-    }
-}
-
-fn worst_forward() {
-    for [w, h, x, y] in shapes() {
-        for depth in 8..=12 {
-            let largest = (1 << depth) - 1;
-            worst_blocks(Forward, [w, h, x, y, depth], 32, [-largest, largest]);
+    for [w, h] in sides {
+        for [x, y] in [[1, 1], [1, 2], [2, 1], [2, 2]] {
+            for (what, turns) in blocks {
+                let block = filled(w, kept, turns);
+                whole(direction, [w, h, x, y, depth], what, &block);
+            }
         }
     }
 }
 
 fn main() {
-    items();
+    forward_items();
+    inverse_items();
     refusals_alone(Inverse);
     refusals_in_order(Inverse);
     outside();
     refusals_alone(Forward);
     refusals_in_order(Forward);
     too_large();
-    worst_inverse();
-    worst_forward();
+    for depth in [8, 12] {
+        worst(Inverse, depth, 16, [-32768, 32767]);
+    }
+    for depth in 8..=12 {
+        let largest = (1 << depth) - 1;
+        worst(Forward, depth, 32, [-largest, largest]);
+    }
 }
