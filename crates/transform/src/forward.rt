@@ -15,7 +15,10 @@ ghost use mathlib.Core.Bool.{true};
 ghost use Prim.Native.Nat.{_+_, _*_, _-_, _^_, _<_, _≤_};
 ghost use lib.Dec.{ltb};
 ghost use lib.IntN.{natAbs, pos};
+ghost use lib.Signed.{shrZ};
 ghost use lib.ListN.{length};
+ghost use mir.Syntax.{w32};
+ghost use mir.Val.{SFits};
 ghost use Rattle.algebra.specs.Shift.{nearest};
 ghost use Rattle.algebra.specs.Lists.{at, tabulate, block};
 ghost use Rattle.meaning.specs.Shape.{isSize, isDepth, keptColumns, keptRows};
@@ -75,12 +78,20 @@ fn first_too_large(shape: Shape, residuals: &[i16]) -> usize
     place
 }
 
-// (e + 2^(n-1)) >> n, the floor for negative e too.
+// The shift rounds down, below 0 too.
+fn down(a: i32, n: u32) -> i32
+    requires { ⌜ (n < 32) × SFits w32 (shrZ a (2 ^ n)) ⌝ }
+    ensures { λ r. ⌜ r ≡ shrZ a (2 ^ n) ⌝ }
+{
+    a >> n
+}
+
+// "(y + 2^(p-1)) >> p"
 fn rounded(e: i32, n: u32) -> i16
     requires { ⌜ ((0 < n) × (n ≤ 20)) × ((natAbs e ≤ 67108864) × (natAbs (nearest n e) ≤ 32767)) ⌝ }
     ensures { λ r. ⌜ r ≡ nearest n e ⌝ }
 {
-    ((e + power(n - 1) as i32) >> n) as i16
+    down(e + power(n - 1) as i32, n) as i16
 }
 
 // The first `count` of the sums e, rounded, from place `from` on, `step` apart.
@@ -247,17 +258,9 @@ fn rows(shape: Shape, residuals: &[i16], m: &mut [i16])
 {
     let w = shape.width as usize;
     let h = shape.height as usize;
-    stage(
-        w,
-        shape.horizontal,
-        residuals,
-        h,
-        w,
-        1,
-        row_shift(shape),
-        w,
-        m,
-    );
+    let kind = shape.horizontal;
+    let shift = row_shift(shape);
+    stage(w, kind, residuals, h, w, 1, shift, w, m);
 }
 
 // "Then columns", the kept ones; "Coefficients outside the kept rows and columns are written 0".
@@ -267,20 +270,12 @@ fn columns(shape: Shape, m: &[i16], coefficients: &mut [i16])
 {
     let w = shape.width as usize;
     let h = shape.height as usize;
-    let across = kept_columns(shape);
-    let down = kept_rows(shape);
+    let wide = kept_columns(shape);
+    let high = kept_rows(shape);
+    let kind = shape.vertical;
+    let shift = column_shift(shape);
     clear(coefficients);
-    stage(
-        h,
-        shape.vertical,
-        m,
-        across,
-        1,
-        w,
-        column_shift(shape),
-        down,
-        coefficients,
-    );
+    stage(h, kind, m, wide, 1, w, shift, high, coefficients);
 }
 
 fn stages(shape: Shape, residuals: &[i16], coefficients: &mut [i16])

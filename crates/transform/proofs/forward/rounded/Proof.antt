@@ -1,17 +1,18 @@
--- `forward::rounded` meets its contract: the shift rounds down, and what it leaves fits 16 bits. Assumes nothing.
+-- `forward::rounded` meets its contract: what the shift leaves fits 16 bits. Assumes nothing.
 use borrow.Author.Needs.{needs}
 use native.Mathlib.Omega.{arith}
-use mathlib.Core.Path.{_≡_, sym, ap, _∙_}
+use mathlib.Core.Path.{_≡_, sym, ap, _∙_, subst}
 use Prim.Native.Nat.{ℕ, _-_, _^_, _≤_, _<_}
 use lib.Dec.{lit<}
 use lib.Pow.{pow-mono}
-use lib.IntN.{ℤ, pos}
+use lib.IntN.{ℤ, pos, natAbs}
+use lib.Signed.{shrZ}
 use mir.Syntax.{w16, w32}
-use mir.Val.{SFits}
+use mir.Val.{SFits, toZ, ofZ}
 use mir.ValLaws.{toZ-ofZ}
 use Rattle.algebra.specs.Shift.{nearest}
-use Rattle.algebra.proofs.Word as word
-use Rattle.algebra.proofs.Machine.{MV, arg≤, add, add-fits, shr}
+use Rattle.algebra.proofs.Word.{small}
+use Rattle.algebra.proofs.Machine.{MV, arg≤, add, add-fits, val}
 use Rattle.transform.proofs.forward.rounded.Statement.{statement}
 use Rattle.transform.proofs.forward.rounded.Tie as tie
 
@@ -36,14 +37,15 @@ half c =
 abbrev sum : tie.After-power → MV w32
 sum c = add (arg≤ (c .before .fits .e) (c .before .pre .1 .0)) (half c) tt
 
-abbrev shifted : tie.After-power → MV w32
-shifted c = shr (sum c) (2 ^ c .before .args .n) tt
+-- the sum, shifted
+shifted : (c : tie.After-power) → shrZ (toZ w32 (sum c .n)) (2 ^ c .before .args .n) ≡ nearest (c .before .args .n) (c .before .args .e)
+shifted c = ap (λ (z : ℤ). shrZ z (2 ^ c .before .args .n)) (val (sum c)) ∙ rw (c .power .ensures)
 
-is-nearest : (c : tie.After-power) → shifted c .z ≡ nearest (c .before .args .n) (c .before .args .e)
-is-nearest c = rw (c .power .ensures)
+short : (c : tie.Start) → SFits w16 (nearest (c .args .n) (c .args .e))
+short c = small {B = 32767} (lit< tt) (c .pre .1 .1)
 
-short : (c : tie.After-power) → SFits w16 (shifted c .z)
-short c = rw (is-nearest c) (word.small {B = 32767} (lit< tt) (omega (arith, c .before .pre .1 .1)))
+result : (c : tie.After-down) → toZ w32 (ofZ w32 (c .down .result)) ≡ nearest (c .before .before .args .n) (c .before .before .args .e)
+result c = toZ-ofZ w32 (c .down .result) (record { sfits = c .down .ok }) ∙ c .down .ensures ∙ shifted (c .before)
 
 sub-power : tie.Need-sub-power
 sub-power c = search needs
@@ -51,33 +53,22 @@ sub-power c = search needs
 power-requires : tie.Need-power-requires
 power-requires c κs = search needs
 
+cast-down : tie.Need-cast-down
+cast-down c = half-fits c
+
+add-down : tie.Need-add-down
+add-down c = add-fits (arg≤ (c .before .fits .e) (c .before .pre .1 .0)) (half c) tt
+
+down-requires : tie.Need-down-requires
+down-requires c κs = (omega arith, subst (SFits w32) (sym (shifted c)) (small {B = 32767} (lit< tt) (c .before .pre .1 .1)))
+
 cast-result : tie.Need-cast-result
-cast-result c = half-fits c
-
-add-result : tie.Need-add-result
-add-result c = add-fits (arg≤ (c .before .fits .e) (c .before .pre .1 .0)) (half c) tt
-
-cast-result-2 : tie.Need-cast-result-2
-cast-result-2 c = search needs
-
-shr-result : tie.Need-shr-result
-shr-result c = search needs
-
-cast-result-3 : tie.Need-cast-result-3
-cast-result-3 c = word.cast-fits! (shifted c .is) (short c)
+cast-result c = subst (SFits w16) (sym (result c)) (short (c .before .before))
 
 returns : tie.Need-returns
-returns c = word.castV! (shifted c .is) (short c) .val ∙ is-nearest c
+returns c = ap (λ (z : ℤ). toZ w16 (ofZ w16 z)) (result c) ∙ toZ-ofZ w16 (nearest (c .before .before .args .n) (c .before .before .args .e)) (short (c .before .before))
 
 pub rounded-spec : {M : Type 1} → statement M
 rounded-spec =
     tie.close
-    (tie.spec
-    sub-power
-    power-requires
-    cast-result
-    add-result
-    cast-result-2
-    shr-result
-    cast-result-3
-    returns)
+    (tie.spec sub-power power-requires cast-down add-down down-requires cast-result returns)
