@@ -11,17 +11,10 @@ use lib.IntN.{ℤ}
 use lib.ListN.{length}
 use Rattle.algebra.specs.Lists.{at}
 use Rattle.meaning.specs.Shape.{isSize, isKind}
-use Rattle.meaning.proofs.Cases.{size-cases}
 use Rattle.meaning.proofs.Accepted.{TakenLine}
 use Rattle.engine.specs.Lines.{Spot, Given, input, line}
 use Rattle.tables.specs.Table.{Table}
 use Rattle.transform.specs.Line.{isPlace}
-
--- a size that is none of the three others
-pub thirty-two : (n : ℕ) → isSize n ≡ true → (n ≡ 4 → ⊥) → (n ≡ 8 → ⊥) → (n ≡ 16 → ⊥) → n ≡ 32
-thirty-two =
-    size-cases (λ n. (n ≡ 4 → ⊥) → (n ≡ 8 → ⊥) → (n ≡ 16 → ⊥) → n ≡ 32)
-    (λ a b c. absurd (a refl)) (λ a b c. absurd (b refl)) (λ a b c. absurd (c refl)) (λ a b c. refl)
 
 -- ---- a place of a matrix
 pub record Place (kind n i j : ℕ) : Type 0 where

@@ -2,9 +2,6 @@
 use crate::check::acceptance;
 use crate::check::block_refusal;
 use crate::check::refusal;
-use crate::forward::run;
-use crate::inverse::hunt;
-use crate::inverse::stages;
 use meaning::Answer;
 use meaning::Shape;
 ghost use mathlib.Core.Path.{_≡_};
@@ -20,16 +17,25 @@ pub fn inverse(shape: Shape, coefficients: &[i16], residuals: &mut [i32]) -> Ans
     if number != 0 {
         return refusal(number, 0);
     }
-    let place = hunt(shape, coefficients);
+    let place = inverse_block::inverse::hunt(shape, coefficients);
     if place < coefficients.len() {
         return refusal(8, place as u32);
     }
-    acceptance(stages(shape, coefficients, residuals))
+    acceptance(inverse_block::inverse::stages(shape, coefficients, residuals))
 }
 
 /// The forward block: residuals to coefficients. Refusals 1 to 7 and 9.
 pub fn forward(shape: Shape, residuals: &[i16], coefficients: &mut [i16]) -> Answer
     ensures { λ r. ⌜ _≡_ {A = Outcome} (r, now (coefficients .exit)) (forwardOutcome shape (now (residuals .entry)) (now (coefficients .entry))) ⌝ }
 {
-    run(shape, residuals, coefficients)
+    let number = block_refusal(shape, residuals.len(), coefficients.len());
+    if number != 0 {
+        return refusal(number, 0);
+    }
+    let place = forward_block::forward::first_too_large(shape, residuals);
+    if place < residuals.len() {
+        return refusal(9, place as u32);
+    }
+    forward_block::forward::stages(shape, residuals, coefficients);
+    acceptance(0)
 }

@@ -2,6 +2,4 @@
 // call stands in check, and the work behind them in the crate `engine`.
 pub mod block;
 mod check;
-mod forward;
-mod inverse;
 pub mod line;

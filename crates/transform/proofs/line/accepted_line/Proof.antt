@@ -6,7 +6,8 @@ use lib.ListN.{length}
 use Rattle.algebra.specs.Lists.{at}
 use Rattle.meaning.proofs.Accepted.{TakenLine, line-taken}
 use Rattle.engine.specs.Lines.{line}
-use Rattle.transform.proofs.Lent.{given, thirty-two}
+use Rattle.transform.proofs.Lent.{given}
+use Rattle.meaning.proofs.Cases.{thirty-two}
 use Rattle.transform.proofs.line.accepted_line.Statement.{statement}
 use Rattle.transform.proofs.line.accepted_line.Tie as tie
 

@@ -5,7 +5,8 @@ use Prim.Native.Nat.{ℕ}
 use mir.Syntax.{w32}
 use mir.ValLaws.{toZ-ofZ}
 use Rattle.meaning.specs.Weights.{weight}
-use Rattle.transform.proofs.Lent.{Place, place, spot, thirty-two}
+use Rattle.transform.proofs.Lent.{Place, place, spot}
+use Rattle.meaning.proofs.Cases.{thirty-two}
 use Rattle.transform.proofs.line.known_weight.Statement.{statement}
 use Rattle.transform.proofs.line.known_weight.Tie as tie
 
