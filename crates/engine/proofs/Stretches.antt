@@ -9,13 +9,13 @@ use native.Mathlib.Decide.{ℕ-discrete}
 use native.Mathlib.Omega.{arith}
 use borrow.Author.Tests.{ltb-true, ltb-false}
 use lib.Dec.{eqb, ltb}
-use lib.ListN.{length, set, replicate, length-set, length-replicate, getD-replicate, List·getD-eq-default}
+use lib.ListN.{length, set, replicate, length-set, getD-replicate, List·getD-eq-default}
 use lib.Seq.{getD-set-same, getD-set-other}
 use lib.IntN.{ℤ, pos, negℤ, natAbs, _+ℤ_, +ℤ-idr}
 use Rattle.algebra.specs.Lists.{at}
 use Rattle.algebra.proofs.Order.{abs-neg}
 use Rattle.engine.specs.Dst.{Small}
-use Rattle.engine.specs.Folded.{Part, plus, minus, folded, periodic, Periodic, Stretched, Place}
+use Rattle.engine.specs.Folded.{plus, minus, folded, periodic, Periodic, Stretched, Place}
 use Rattle.engine.proofs.Places.{periodic-turn, periodic-low, periodic-high, periodic-end}
 
 below : (k m : ℕ) (P : Type 0) → (k < m → P) → (m ≤ k → P) → P

@@ -1,8 +1,8 @@
 -- `dst::stretch::stretched` meets its contract: the places before k are laid out. Assumes nothing.
 use borrow.Author.Needs.{needs}
 use native.Mathlib.Omega.{arith}
-use mathlib.Core.Path.{_≡_, ap, _∙_}
-use Prim.Native.Nat.{ℕ, _+_, _*_, _-_, _≤_, _<_}
+use mathlib.Core.Path.{ap, _∙_}
+use Prim.Native.Nat.{_-_, _≤_, _<_}
 use lib.IntN.{negℤ}
 use mir.Syntax.{w32}
 use mir.ValLaws.{toZ-ofZ}
