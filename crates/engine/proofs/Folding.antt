@@ -14,7 +14,7 @@
 use mathlib.Core.Path.{_≡_, refl, sym, _∙_, ap, ap₂, subst}
 use mathlib.Core.Bool.{Bool, true, false, cond, not, _&&_, _||_}
 use mathlib.Core.List.{List, [], _∷_}
-use Prim.Native.Nat.{ℕ, _+_, _*_, _-_, _/_, _%_, _≤_, _<_}
+use Prim.Native.Nat.{ℕ, _+_, _*_, _-_, _≤_, _<_}
 use native.Mathlib.Nat.{mod-one}
 use native.Mathlib.Omega.{arith}
 use lib.Dec.{T, ltb, ltb→lt}
@@ -26,11 +26,11 @@ use Rattle.algebra.specs.Lists.{at, tabulate}
 use Rattle.algebra.proofs.Ring.{neg-*ℤ, add-*ℤ, *ℤ-add}
 use Rattle.algebra.proofs.Sum.{sum-cong, sum-add, sum-neg, sum-none}
 use Rattle.algebra.proofs.Table.{allTo, allTo-at, and-left, and-right, eqZ→eq}
-use Rattle.algebra.proofs.Lists.{tab-at, tab-length, tab-cong, tabulated}
+use Rattle.algebra.proofs.Lists.{tab-at, tab-length, tab-cong}
 use Rattle.meaning.specs.Weights.{S, fold, first}
 use Rattle.engine.specs.Dst.{Small, dstSum, dstLine}
 use Rattle.engine.specs.Folded.{inClass, masked, cleared, Part, plus, minus, folded, periodic, leading, Sums, half, joinedTwo, joined}
-use Rattle.engine.proofs.Classes.{Along, in-class, masked-in, masked-out, cleared-in, cleared-zero, cleared-small}
+use Rattle.engine.proofs.Classes.{in-class, masked-in, masked-out, cleared-in, cleared-zero, cleared-small}
 
 -- ---- the exchange of sums
 pub law : (n : ℕ) (x : ℕ → ℤ) (E : List Part) → sum n (λ i. folded (S n i) E *ℤ x i) ≡ folded (dstSum n x) E

@@ -6,3 +6,4 @@ pub mod Classes
 pub mod Adding
 pub mod Places
 pub mod Folding
+pub mod Stretches

@@ -76,12 +76,16 @@ pub record Place (a : List ℤ) (E : List Part) (B : ℕ) (r : ℤ) : Type 0 whe
   pub is : r ≡ folded (at a) E
   pub small : natAbs r ≤ B
 
--- sums of (q - 1) / 2 places, and a place of the line
-pub record Periodic (q k : ℕ) (c : List ℤ) : Type 0 where
+-- sums of (q - 1) / 2 places
+pub record Periodic (q : ℕ) (c : List ℤ) : Type 0 where
   pub odd : q ≡ 2 * length c + 1
-  pub few : length c ≤ 32
-  pub near : k < 32
+  pub few : q ≤ 32
   pub sums : Small (length c) 94371840 c
+
+-- what they give at the first n places
+pub record Stretched (n q : ℕ) (c w : List ℤ) : Type 0 where
+  pub long : length w ≡ 32
+  pub are : (k : ℕ) → k < n → at w k ≡ folded (at c) (periodic q k)
 
 -- sums of m places, and a place at most q - 2 past them
 pub record Leading (m q k : ℕ) (a : List ℤ) : Type 0 where

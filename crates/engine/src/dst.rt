@@ -6,6 +6,7 @@ pub mod front;
 pub mod place;
 pub mod row;
 pub mod spread;
+pub mod stretch;
 
 use crate::dst::clear::clear;
 use crate::dst::front::front_1;

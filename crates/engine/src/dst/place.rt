@@ -1,25 +1,11 @@
-// What the sums of one class give at place k of the line, counted from 0.
+// What the sums of the first class give at place k of the line, counted from 0.
 use crate::arith::negated;
 use crate::arith::plus;
 ghost use mathlib.Core.Path.{_≡_};
 ghost use Prim.Native.Nat.{_+_, _*_, _<_, _≤_};
 ghost use lib.ListN.{length};
 ghost use Rattle.engine.specs.Dst.{Small};
-ghost use Rattle.engine.specs.Folded.{Place, Periodic, Leading, periodic, leading};
-
-// Features 2 and 3: the line repeats, there and back, and with the sign changed in every second stretch of q places.
-pub fn repeated(c: &[i32], q: usize, k: usize) -> i32
-    requires { ⌜ Periodic q k (now c) ⌝ }
-    ensures { λ r. ⌜ Place (now (c .entry)) (periodic q k) 94371840 r ⌝ }
-{
-    let u = (k + 1) % (2 * q);
-    let w = (k + 1) % q;
-    if w == 0 {
-        return 0;
-    }
-    let g = if w < q - w { w } else { q - w };
-    if u < q { c[g - 1] } else { negated(c[g - 1]) }
-}
+ghost use Rattle.engine.specs.Folded.{Place, Leading, leading};
 
 // Feature 1 where p is 3: a place past q is the sum of two.
 pub fn leading_3(a: &[i32], q: usize, k: usize) -> i32

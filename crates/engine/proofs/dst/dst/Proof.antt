@@ -1,6 +1,5 @@
 -- `dst::dst` meets its contract: each size by its own line. Assumes nothing.
 use borrow.Author.Needs.{needs}
-use native.Mathlib.Omega.{arith}
 use mathlib.Core.Path.{_≡_, refl, sym, ap, _∙_, subst}
 use mathlib.Core.Bool.{true}
 use mathlib.Core.List.{List}
@@ -12,12 +11,6 @@ use Rattle.meaning.proofs.Cases.{size-cases}
 use Rattle.engine.specs.Dst.{Core, dstLine}
 use Rattle.engine.proofs.dst.dst.Statement.{statement}
 use Rattle.engine.proofs.dst.dst.Tie as tie
-use Rattle.engine.proofs.dst.dst.Reads as reads
-use Rattle.engine.proofs.dst.dst.Lts as lts
-use Rattle.engine.proofs.dst.dst_16.Reads as dst-16-reads
-use Rattle.engine.proofs.dst.dst_32.Reads as dst-32-reads
-use Rattle.engine.proofs.dst.dst_4.Reads as dst-4-reads
-use Rattle.engine.proofs.dst.dst_8.Reads as dst-8-reads
 
 -- a size that is none of the others
 last : (n : ℕ) → isSize n ≡ true → (n ≡ 4 → ⊥) → (n ≡ 8 → ⊥) → (n ≡ 16 → ⊥) → n ≡ 32

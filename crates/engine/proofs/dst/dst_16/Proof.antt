@@ -1,17 +1,10 @@
 -- `dst::dst_16` meets its contract: the law at 16 points. Assumes nothing.
 use borrow.Author.Needs.{needs}
-use mathlib.Core.Path.{_≡_, refl, sym, _∙_}
+use mathlib.Core.Path.{_∙_}
 use Rattle.engine.proofs.Classes.{class-of, clear-of}
-use Rattle.engine.proofs.Folding.{Less, less, left-small, three, folds-16}
+use Rattle.engine.proofs.Folding.{less, left-small, three, folds-16}
 use Rattle.engine.proofs.dst.dst_16.Statement.{statement}
 use Rattle.engine.proofs.dst.dst_16.Tie as tie
-use Rattle.engine.proofs.dst.dst_16.Reads as reads
-use Rattle.engine.proofs.dst.dst_16.Lts as lts
-use Rattle.engine.proofs.dst.clear.clear.Reads as clear-reads
-use Rattle.engine.proofs.dst.front.front_1.Reads as front-1-reads
-use Rattle.engine.proofs.dst.front.front_11.Reads as front-11-reads
-use Rattle.engine.proofs.dst.front.front_5.Reads as front-5-reads
-use Rattle.engine.proofs.dst.spread.spread_16.Reads as spread-16-reads
 
 front-5-requires : tie.Need-front-5-requires
 front-5-requires c κs = class-of tt (c .before .pre .table) (c .before .pre .input)

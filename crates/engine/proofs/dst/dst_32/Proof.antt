@@ -1,17 +1,10 @@
 -- `dst::dst_32` meets its contract: the law at 32 points. Assumes nothing.
 use borrow.Author.Needs.{needs}
-use mathlib.Core.Path.{_≡_, refl, sym, _∙_}
+use mathlib.Core.Path.{_∙_}
 use Rattle.engine.proofs.Classes.{class-of, clear-of}
-use Rattle.engine.proofs.Folding.{Less, less, left-small, three, folds-32}
+use Rattle.engine.proofs.Folding.{less, left-small, three, folds-32}
 use Rattle.engine.proofs.dst.dst_32.Statement.{statement}
 use Rattle.engine.proofs.dst.dst_32.Tie as tie
-use Rattle.engine.proofs.dst.dst_32.Reads as reads
-use Rattle.engine.proofs.dst.dst_32.Lts as lts
-use Rattle.engine.proofs.dst.clear.clear.Reads as clear-reads
-use Rattle.engine.proofs.dst.front.front_2.Reads as front-2-reads
-use Rattle.engine.proofs.dst.front.front_26.Reads as front-26-reads
-use Rattle.engine.proofs.dst.front.front_6.Reads as front-6-reads
-use Rattle.engine.proofs.dst.spread.spread_32.Reads as spread-32-reads
 
 front-6-requires : tie.Need-front-6-requires
 front-6-requires c κs = class-of tt (c .before .pre .table) (c .before .pre .input)

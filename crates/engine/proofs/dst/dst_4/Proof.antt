@@ -1,16 +1,10 @@
 -- `dst::dst_4` meets its contract: the law at 4 points. Assumes nothing.
 use borrow.Author.Needs.{needs}
-use mathlib.Core.Path.{_≡_, refl, sym, _∙_}
+use mathlib.Core.Path.{refl, _∙_}
 use Rattle.engine.proofs.Classes.{class-of, clear-of}
-use Rattle.engine.proofs.Folding.{Less, less, left-small, two, folds-4}
+use Rattle.engine.proofs.Folding.{less, left-small, two, folds-4}
 use Rattle.engine.proofs.dst.dst_4.Statement.{statement}
 use Rattle.engine.proofs.dst.dst_4.Tie as tie
-use Rattle.engine.proofs.dst.dst_4.Reads as reads
-use Rattle.engine.proofs.dst.dst_4.Lts as lts
-use Rattle.engine.proofs.dst.clear.clear.Reads as clear-reads
-use Rattle.engine.proofs.dst.front.front_1.Reads as front-1-reads
-use Rattle.engine.proofs.dst.front.front_3.Reads as front-3-reads
-use Rattle.engine.proofs.dst.spread.spread_4.Reads as spread-4-reads
 
 front-1-requires : tie.Need-front-1-requires
 front-1-requires c κs = class-of tt (c .before .pre .table) (c .before .pre .input)

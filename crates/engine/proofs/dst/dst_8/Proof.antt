@@ -1,12 +1,10 @@
 -- `dst::dst_8` meets its contract: the full product, copied place by place. Assumes nothing.
 use borrow.Author.Needs.{needs}
 use native.Mathlib.Omega.{arith}
-use mathlib.Core.Path.{_≡_, refl, sym, ap, _∙_, subst}
+use mathlib.Core.Path.{_≡_, ap, _∙_, subst}
 use mathlib.Core.List.{List}
-use Prim.Native.Nat.{ℕ, _-_, _≤_, _<_}
+use Prim.Native.Nat.{ℕ, _-_, _≤_}
 use lib.IntN.{ℤ}
-use mir.Syntax.{w32}
-use mir.ValLaws.{toZ-ofZ}
 use Rattle.algebra.specs.Lists.{at}
 use Rattle.algebra.proofs.Lists.{Filled, fill-none, fill-first, filled, tab-at}
 use Rattle.engine.specs.Dst.{dstSum}
@@ -15,9 +13,6 @@ use Rattle.engine.proofs.Classes.{class-of}
 use Rattle.engine.proofs.Folding.{plain}
 use Rattle.engine.proofs.dst.dst_8.Statement.{statement}
 use Rattle.engine.proofs.dst.dst_8.Tie as tie
-use Rattle.engine.proofs.dst.dst_8.Reads as reads
-use Rattle.engine.proofs.dst.dst_8.Lts as lts
-use Rattle.engine.proofs.dst.front.front_8.Reads as front-8-reads
 
 abbrev Inv-loop : tie.InvT-loop
 Inv-loop t x r₀ a k₀ r k = (k ≤ 8) × Filled 0 k r r₀ (dstSum 8 (at x))

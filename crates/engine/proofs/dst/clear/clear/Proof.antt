@@ -1,13 +1,11 @@
 -- `dst::clear::clear` meets its contract: the inputs of the class before i are 0, the others are as they were. Assumes nothing.
 use borrow.Author.Needs.{needs}
 use native.Mathlib.Omega.{arith}
-use Prim.Native.Nat.{_+_, _-_, _≤_, _<_}
+use Prim.Native.Nat.{_-_, _<_}
 use lib.ListN.{length}
 use Rattle.engine.proofs.Classes.{Clearing, clear-none, clear-next, clear-all}
 use Rattle.engine.proofs.dst.clear.clear.Statement.{statement}
 use Rattle.engine.proofs.dst.clear.clear.Tie as tie
-use Rattle.engine.proofs.dst.clear.clear.Reads as reads
-use Rattle.engine.proofs.dst.clear.clear.Lts as lts
 
 abbrev Inv-loop : tie.InvT-loop
 Inv-loop x₀ first step i₀ x i = Clearing first step i x x₀

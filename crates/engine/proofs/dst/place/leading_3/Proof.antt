@@ -1,10 +1,10 @@
 -- `dst::place::leading_3` meets its contract. Assumes nothing.
 use borrow.Author.Needs.{needs}
 use native.Mathlib.Omega.{arith}
-use mathlib.Core.Path.{_≡_, sym, ap, _∙_, subst}
-use Prim.Native.Nat.{ℕ, _+_, _*_, _-_, _≤_, _<_}
+use mathlib.Core.Path.{_≡_, _∙_}
+use Prim.Native.Nat.{ℕ, _+_, _-_, _≤_, _<_}
 use lib.ListN.{length}
-use lib.IntN.{ℤ, negℤ, natAbs, _+ℤ_}
+use lib.IntN.{ℤ, natAbs, _+ℤ_}
 use mir.Syntax.{w32}
 use mir.Val.{toZ, ofZ}
 use mir.ValLaws.{toZ-ofZ}
@@ -13,9 +13,6 @@ use Rattle.engine.proofs.Adding.{read-back, read-small}
 use Rattle.engine.proofs.Places.{leading-self, leading-two, place-plus, place-two}
 use Rattle.engine.proofs.dst.place.leading_3.Statement.{statement}
 use Rattle.engine.proofs.dst.place.leading_3.Tie as tie
-use Rattle.engine.proofs.dst.place.leading_3.Reads as reads
-use Rattle.engine.proofs.dst.place.leading_3.Lts as lts
-use Rattle.engine.proofs.arith.plus.Reads as plus-reads
 
 fine : (c : tie.Start) (g : ℕ) → g < length (c .args .a .now) → natAbs (at (c .args .a .now) g) ≤ 94371840
 fine c g h = c .pre .sums .small g (omega (arith, c .pre .sums .long))

@@ -14,10 +14,6 @@ use Rattle.engine.proofs.Adding.{read-back, read-small}
 use Rattle.engine.proofs.Places.{leading-self, leading-four, place-plus, place-four}
 use Rattle.engine.proofs.dst.place.leading_5.Statement.{statement}
 use Rattle.engine.proofs.dst.place.leading_5.Tie as tie
-use Rattle.engine.proofs.dst.place.leading_5.Reads as reads
-use Rattle.engine.proofs.dst.place.leading_5.Lts as lts
-use Rattle.engine.proofs.arith.negated.Reads as negated-reads
-use Rattle.engine.proofs.arith.plus.Reads as plus-reads
 
 fine : (c : tie.Start) (g : ℕ) → g < length (c .args .a .now) → natAbs (at (c .args .a .now) g) ≤ 94371840
 fine c g h = c .pre .sums .small g (omega (arith, c .pre .sums .long))
