@@ -8,5 +8,6 @@ mod Writing
 mod Digits
 mod Signs
 mod Spaced
+mod Turns
 pub mod Fuel
 pub mod Printed

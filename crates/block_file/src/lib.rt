@@ -4,4 +4,5 @@
 mod bytes;
 pub mod cursor;
 mod field;
+pub mod run;
 mod text;
