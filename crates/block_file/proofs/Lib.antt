@@ -9,5 +9,8 @@ mod Digits
 mod Signs
 mod Spaced
 mod Turns
+mod Steps
 pub mod Fuel
+mod Loop
 pub mod Printed
+pub mod Numbers

@@ -1,14 +1,13 @@
 -- Turns of the run. Assumes nothing.
-use mathlib.Core.Path.{_≡_, refl, sym, ap, subst, _∙_}
-use mathlib.Core.Bool.{Bool, true, false, cond}
+use mathlib.Core.Path.{_≡_, ap, subst, _∙_}
+use mathlib.Core.Bool.{false}
 use mathlib.Core.List.{List, [], _∷_, _++_}
 use Prim.Native.Nat.{ℕ, zero, suc, _+_, _*_, _-_, _/_, _≤_}
 use borrow.Author.Tests.{eq-eqb, ne-eqb}
 use native.Mathlib.Omega.{arith}
-use lib.Dec.{eqb}
 use lib.IntN.{ℤ, pos}
 use lib.ListN.{length, take}
-use Rattle.algebra.specs.Lists.{at, tabulate}
+use Rattle.algebra.specs.Lists.{at}
 use Rattle.algebra.proofs.Lists.{tabulated, take-zeros, part-long, part-same}
 use Rattle.meaning.specs.declared.Shape.{Shape}
 use Rattle.meaning.specs.Answer.{Outcome}

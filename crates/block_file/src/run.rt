@@ -159,3 +159,53 @@ fn forward_turn(
         at,
     )
 }
+
+// The field at the cursor's place: a refusal, a shape, a block, or the end.
+fn turn(file: &[u8], cursor: Cursor, text: &mut [u8], at: usize) -> Done
+    requires { ⌜ (cursor .at ≤ 65536) × (at + 12323 ≤ length (now text)) ⌝ }
+    ensures { λ r. ⌜ Does (turnAt (now (file .entry)) cursor) 12323 at (now (text .entry)) (now (text .exit)) r × Follows (cursor .at) at r ⌝ }
+{
+    let step = cursor.step(file);
+    let number = step.number;
+    let tag = step.tag;
+    let next = step.next;
+    let offset = cursor.at;
+    let shape = cursor.shape;
+    if number != 0 {
+        return refused(number, offset, next, text, at);
+    }
+    if tag == 1 {
+        return Done {
+            at,
+            ends: false,
+            next,
+        };
+    }
+    if tag == 2 {
+        return inverse_turn(shape, cursor.body(file), offset, next, text, at);
+    }
+    if tag == 3 {
+        return forward_turn(shape, cursor.body(file), offset, next, text, at);
+    }
+    Done {
+        at,
+        ends: true,
+        next,
+    }
+}
+
+/// Puts what the file prints at the start of `text`, and returns its length. Any bytes.
+pub fn run(file: &[u8], text: &mut [u8; 524288]) -> usize
+    ensures { λ r. ⌜ _≡_ {A = ℕ × List ℕ} (r, now (text .exit)) (runOutcome (now (file .entry)) (now (text .entry))) ⌝ }
+{
+    let mut cursor = Cursor::new();
+    let mut at = 0;
+    let mut on = true;
+    while on {
+        let done = turn(file, cursor, text, at);
+        at = done.at;
+        on = !done.ends;
+        cursor = done.next;
+    }
+    at
+}
