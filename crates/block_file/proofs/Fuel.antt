@@ -119,3 +119,16 @@ fuel file k h = by (le-or-lt (length file) 65536)
         both-more zero b p q = absurd (omega arith)
         both-more (suc a) zero p q = absurd (omega arith)
         both-more (suc a) (suc b) p q = long-ends a b file l
+
+-- ---- a turn of the run, and then the rest: with as many fields as the file has bytes, at any place
+pub one-turn : (file : List ℕ) (c : Cursor) → printedFrom (length file) file c ≡ turnAt file c .text ++ cond (turnAt file c .ends) [] (printedFrom (length file) file (turnAt file c .next))
+unfolding printedFrom turnAt foundAt
+one-turn file c = by (le-or-lt (length file) 65536)
+  where
+    by : (length file ≤ 65536) ⊎ (65536 < length file) → printedFrom (length file) file c ≡ turnAt file c .text ++ cond (turnAt file c .ends) [] (printedFrom (length file) file (turnAt file c .next))
+    by (inl l) = enough (length file) (suc (length file)) file c l (omega arith) (omega arith)
+    by (inr l) = some (length file) (length file) (omega (arith, l))
+      where
+        some : (a b : ℕ) → 0 < a → printedFrom a file c ≡ turnAt file c .text ++ cond (turnAt file c .ends) [] (printedFrom b file (turnAt file c .next))
+        some zero b p = absurd (omega arith)
+        some (suc a) b p = rw (lt-ltb 65536 (length file) l)

@@ -8,5 +8,9 @@ mod Writing
 mod Digits
 mod Signs
 mod Spaced
+mod Turns
+mod Steps
 pub mod Fuel
+mod Loop
 pub mod Printed
+pub mod Numbers

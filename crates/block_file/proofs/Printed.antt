@@ -20,7 +20,10 @@ abbrev pub wholeCase : List ℕ
 wholeCase = 1 ∷ 0 ∷ 5 ∷ 4 ∷ 4 ∷ 1 ∷ 1 ∷ 10 ∷ 2 ∷ 0 ∷ 32 ∷ 0 ∷ 64 ∷ 0 ∷ 0 ∷ 0 ∷ 0 ∷ 0 ∷ 0 ∷ 0 ∷ 0 ∷ 0 ∷ 0 ∷ 0 ∷ 0 ∷ 0 ∷ 0 ∷ 0 ∷ 0 ∷ 0 ∷ 0 ∷ 0 ∷ 0 ∷ 0 ∷ 0 ∷ 0 ∷ 0 ∷ 0 ∷ 0 ∷ 0 ∷ 0 ∷ 0 ∷ 0 ∷ []
 
 -- "I 4 4 0 0 1 1 1 1 2 2 2 1 2 3 3 1 2 3 3"
-pub whole-case : printed wholeCase ≡ 73 ∷ 32 ∷ 52 ∷ 32 ∷ 52 ∷ 32 ∷ 48 ∷ 32 ∷ 48 ∷ 32 ∷ 49 ∷ 32 ∷ 49 ∷ 32 ∷ 49 ∷ 32 ∷ 49 ∷ 32 ∷ 50 ∷ 32 ∷ 50 ∷ 32 ∷ 50 ∷ 32 ∷ 49 ∷ 32 ∷ 50 ∷ 32 ∷ 51 ∷ 32 ∷ 51 ∷ 32 ∷ 49 ∷ 32 ∷ 50 ∷ 32 ∷ 51 ∷ 32 ∷ 51 ∷ 10 ∷ []
+abbrev pub wholeText : List ℕ
+wholeText = 73 ∷ 32 ∷ 52 ∷ 32 ∷ 52 ∷ 32 ∷ 48 ∷ 32 ∷ 48 ∷ 32 ∷ 49 ∷ 32 ∷ 49 ∷ 32 ∷ 49 ∷ 32 ∷ 49 ∷ 32 ∷ 50 ∷ 32 ∷ 50 ∷ 32 ∷ 50 ∷ 32 ∷ 49 ∷ 32 ∷ 50 ∷ 32 ∷ 51 ∷ 32 ∷ 51 ∷ 32 ∷ 49 ∷ 32 ∷ 50 ∷ 32 ∷ 51 ∷ 32 ∷ 51 ∷ 10 ∷ []
+
+pub whole-case : printed wholeCase ≡ wholeText
 unfolding printed printedFrom turnAt foundAt fieldAt fieldNumber shapeNumber signed16 digits decimal line isSize isKind isDepth keptColumns keptRows range lastShift first fold S C weight inverseSum columnSum middleAt rails rowSum residual inverseBlock sum sumℕ tabulate block firstAt
 whole-case = refl
 

@@ -19,7 +19,7 @@ one b at o h =
     }
 
 -- what is as it was from a place on is so from a later place on
-later : {A : Type 0} (p k r : ℕ) (o o₁ : List A) → r ≡ p + k → drop p o₁ ≡ drop p o → drop r o₁ ≡ drop r o
+pub later : {A : Type 0} (p k r : ℕ) (o o₁ : List A) → r ≡ p + k → drop p o₁ ≡ drop p o → drop r o₁ ≡ drop r o
 later p k r o o₁ e h = rw (e, ← drop-drop k p o₁, ← drop-drop k p o, h)
 
 -- one text after the other

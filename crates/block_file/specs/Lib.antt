@@ -4,3 +4,4 @@ pub mod Numbers
 pub mod Text
 pub mod Wrote
 pub mod Run
+pub mod Does

@@ -4,7 +4,7 @@ use mathlib.Core.List.{List, [], _++_}
 use Prim.Native.Nat.{ℕ, zero, suc, _*_}
 use lib.Dec.{eqb}
 use lib.IntN.{ℤ, pos}
-use lib.ListN.{length}
+use lib.ListN.{length, drop}
 use Rattle.algebra.specs.Lists.{tabulate}
 use Rattle.meaning.specs.declared.Shape.{Shape}
 use Rattle.meaning.specs.declared.Answer.{Answer}
@@ -68,3 +68,7 @@ printedFrom (suc k) file cursor =
 -- a file has no more fields than bytes (proofs/Fuel: any larger number prints the same). "An empty file prints nothing"
 unfoldable pub printed : List ℕ → List ℕ
 printed file = printedFrom (length file) file start
+
+-- what the run hands back, and what its buffer holds then: "lines printed" and, behind them, what it held
+abbrev pub runOutcome : List ℕ → List ℕ → ℕ × List ℕ
+runOutcome file text = (length (printed file), printed file ++ drop (length (printed file)) text)
