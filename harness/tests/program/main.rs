@@ -8,7 +8,7 @@ use std::io::Write;
 use std::process::{Command, Stdio};
 use std::thread;
 
-const FILES: usize = 400;
+const FILES: usize = 200;
 
 /// What the program prints for a file. A thread writes while this one reads: the pipes hold less than either text.
 fn printed(command_line: &str, file: &[u8]) -> String {
