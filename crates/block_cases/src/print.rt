@@ -1,5 +1,6 @@
 // The parts of a line, on standard output. Sums are taken modulo 2^64 and printed as the numbers from -2^63 on: those of
 // 1024 numbers of 32 bits, each times a place of at most 1024, are far inside.
+use crate::numbers::wide;
 use libc::STDOUT_FILENO;
 use meaning::Answer;
 use meaning::Shape;
@@ -9,7 +10,7 @@ ghost use mathlib.Core.Path.{_≡_};
 ghost use Prim.Native.Nat.{_≤_};
 ghost use lib.ListN.{length};
 
-fn text(t: &[u8]) {
+pub fn text(t: &[u8]) {
     io::write_all(STDOUT_FILENO, t);
 }
 
@@ -32,8 +33,22 @@ fn modular(v: i32) -> u64 {
     }
 }
 
-pub fn start(direction: &[u8], shape: Shape, input: usize, output: usize, block: &[u8]) {
-    text(direction);
+// What stands in a block, where that is two numbers.
+pub fn few(number: i16, place: usize, other: i16, next: usize) {
+    text(b"at");
+    signed(place as u64);
+    signed(modular(wide(number)));
+    text(b", at");
+    signed(next as u64);
+    signed(modular(wide(other)));
+}
+
+pub fn start(is_forward: bool, shape: Shape, input: usize, output: usize) {
+    if is_forward {
+        text(b": forward");
+    } else {
+        text(b": inverse");
+    }
     signed(shape.width as u64);
     signed(shape.height as u64);
     signed(shape.horizontal as u64);
@@ -43,8 +58,6 @@ pub fn start(direction: &[u8], shape: Shape, input: usize, output: usize, block:
     signed(input as u64);
     text(b" to");
     signed(output as u64);
-    text(b", ");
-    text(block);
     text(b":");
 }
 

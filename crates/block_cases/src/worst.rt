@@ -1,6 +1,7 @@
-// The largest numbers that a call takes, at every width, height and pair of kinds.
+// Blocks of the largest numbers that a call takes, at every width, height and pair of kinds.
 use crate::call::whole;
 use crate::numbers::filled;
+use crate::print::text;
 use meaning::Shape;
 
 fn side(k: u32) -> u32 {
@@ -18,9 +19,12 @@ fn side(k: u32) -> u32 {
 
 fn blocks(is_forward: bool, shape: Shape, kept: usize, high: i16, low: i16) {
     let w = shape.width;
-    whole(is_forward, shape, b"high", filled(w, kept, high, high));
-    whole(is_forward, shape, b"low", filled(w, kept, low, low));
-    whole(is_forward, shape, b"by turns", filled(w, kept, high, low));
+    text(b"high");
+    whole(is_forward, shape, filled(w, kept, high, high));
+    text(b"low");
+    whole(is_forward, shape, filled(w, kept, low, low));
+    text(b"by turns");
+    whole(is_forward, shape, filled(w, kept, high, low));
 }
 
 fn shapes(is_forward: bool, depth: u32, kept: usize, high: i16, low: i16) {
@@ -38,14 +42,16 @@ fn shapes(is_forward: bool, depth: u32, kept: usize, high: i16, low: i16) {
     }
 }
 
-// Every kept coefficient.
+// Every kept coefficient; the second half of item 8 before.
 pub fn inverse() {
+    blocks(false, Shape::new(4, 4, 1, 1, 10), 16, 32767, -32768);
     shapes(false, 8, 16, 32767, -32768);
     shapes(false, 12, 16, 32767, -32768);
 }
 
-// Every residual.
+// Every residual; item 5 before, and item 4 is the first of the others.
 pub fn forward() {
+    blocks(true, Shape::new(4, 4, 1, 1, 8), 32, 256, -256);
     shapes(true, 8, 32, 255, -255);
     shapes(true, 9, 32, 511, -511);
     shapes(true, 10, 32, 1023, -1023);

@@ -1,5 +1,5 @@
 //! Prints the file `crates/block_cases/stdout`: the lines of the program `block_cases`, with what the model gives.
-//! The cases stand here by the rules that the program's source has, in its order; its head says what a line holds.
+//! The cases stand here as in the program's source and in its order; its head says what a line holds.
 
 use hoengtila_harness::model::{forward, inverse, Answer, Shape};
 
@@ -49,37 +49,28 @@ fn filled(width: i64, kept: usize, turns: [i64; 2]) -> Vec<i64> {
     (0..ROOM).map(number).collect()
 }
 
-/// These numbers at these places, and zeros.
-fn only(numbers: &[(usize, i64)]) -> Vec<i64> {
-    let mut block = vec![0; ROOM];
-    for &(place, number) in numbers {
-        block[place] = number;
-    }
-    block
-}
+/// Width, height, both kinds, depth.
+type Sides = [i64; 5];
 
 /// Calls on the first `input` numbers of the block, with `output` marks for the output, and prints the line.
 fn line(
     direction: Direction,
-    shape: [i64; 5],
+    sides: Sides,
     what: &str,
     block: &[i64],
     [input, output]: [usize; 2],
 ) {
-    let [width, height, horizontal, vertical, depth] = shape;
+    let [width, height, horizontal, vertical, depth] = sides;
+    let shape = Shape::new(width, height, horizontal, vertical, depth);
     let before = filled(32, 32, MARKS)[..output].to_vec();
     let mut after = before.clone();
-    let answer = direction.run(
-        &Shape::new(width, height, horizontal, vertical, depth),
-        &block[..input],
-        &mut after,
-    );
+    let answer = direction.run(&shape, &block[..input], &mut after);
     let name = direction.name();
-    print!("{name} {width} {height} {horizontal} {vertical} {depth},");
-    print!(" {input} to {output}, {what}:");
-    print!(" {} {} {}", answer.number, answer.place, answer.rails);
+    print!("{what}: {name} {width} {height} {horizontal} {vertical} {depth},");
+    print!(" {input} to {output}:");
+    print!(" {} {} {},", answer.number, answer.place, answer.rails);
     let changed = (0..output).filter(|&k| before[k] != after[k]).count();
-    print!(", {changed} changed");
+    print!(" {changed} changed");
     print_numbers(&after);
     println!();
 }
@@ -94,148 +85,151 @@ fn print_numbers(numbers: &[i64]) {
     }
 }
 
-/// Calls with the lengths that the shape asks for.
-fn whole(direction: Direction, shape: [i64; 5], what: &str, block: &[i64]) {
-    let area = (shape[0] * shape[1]) as usize;
-    line(direction, shape, what, block, [area, area]);
-}
+/// A call of a block of which at most two numbers are not 0: its shape, the lengths of input and output, and the
+/// places of the first number and of the second, which is the one that stands where both are the same.
+type Row = (Sides, [usize; 2], [usize; 2]);
 
-fn forward_items() {
-    let shape = [4, 4, 1, 1, 8];
-    for (item, n) in [(4, 255), (4, -255), (5, 256)] {
-        let what = format!("item {item}, all {n}");
-        whole(Forward, shape, &what, &filled(4, 32, [n, n]));
-    }
-    whole(Forward, [5, 4, 0, 0, 7], "item 10", &only(&[]));
-}
+const ITEM_7: &[Row] = &[([4, 4, 1, 1, 10], [16, 16], [4, 8])];
 
-fn inverse_items() {
-    let shape = [4, 4, 1, 1, 10];
-    for n in [21063, 21064, 21066] {
-        let block = only(&[(4, 32767), (8, n)]);
-        whole(Inverse, shape, &format!("item 7, {n}"), &block);
-    }
-    whole(Inverse, shape, "item 8, the whole case", &only(&[(0, 64)]));
-    let block = filled(4, 16, [32767, 32767]);
-    whole(Inverse, shape, "item 8, all 32767", &block);
-    for place in [15, 16] {
-        let what = format!("item 9, 1000 at place {place}");
-        whole(Inverse, [32, 4, 1, 1, 8], &what, &only(&[(place, 1000)]));
-    }
-    whole(Inverse, [5, 4, 0, 0, 7], "item 10", &only(&[]));
-}
+const ITEM_8: &[Row] = &[([4, 4, 1, 1, 10], [16, 16], [0, 1])];
 
-/// 1 to 7, each alone.
-fn refusals_alone(direction: Direction) {
-    let alone: [([i64; 5], [usize; 2]); 20] = [
-        ([5, 4, 1, 1, 8], [20, 20]),
-        ([0, 4, 1, 1, 8], [0, 0]),
-        ([2, 4, 1, 1, 8], [8, 8]),
-        ([64, 4, 1, 1, 8], [256, 256]),
-        ([4294967295, 4, 1, 1, 8], [16, 16]),
-        ([4, 5, 1, 1, 8], [20, 20]),
-        ([4, 0, 1, 1, 8], [0, 0]),
-        ([4, 2, 1, 1, 8], [8, 8]),
-        ([4, 64, 1, 1, 8], [256, 256]),
-        ([4, 4294967295, 1, 1, 8], [16, 16]),
-        ([4, 4, 0, 1, 8], [16, 16]),
-        ([4, 4, 3, 1, 8], [16, 16]),
-        ([4, 4, 1, 0, 8], [16, 16]),
-        ([4, 4, 1, 3, 8], [16, 16]),
-        ([4, 4, 1, 1, 7], [16, 16]),
-        ([4, 4, 1, 1, 13], [16, 16]),
-        ([4, 4, 1, 1, 8], [15, 16]),
-        ([4, 4, 1, 1, 8], [17, 16]),
-        ([4, 4, 1, 1, 8], [16, 15]),
-        ([4, 4, 1, 1, 8], [16, 17]),
-    ];
-    for (shape, lengths) in alone {
-        line(direction, shape, "zeros", &only(&[]), lengths);
-    }
-}
+const ITEM_9: &[Row] = &[
+    ([32, 4, 1, 1, 8], [128, 128], [15, 15]),
+    ([32, 4, 1, 1, 8], [128, 128], [16, 16]),
+];
+
+const ITEM_10: &[Row] = &[([5, 4, 0, 0, 7], [20, 20], [0, 0])];
+
+/// 1 to 7: one thing is wrong in each.
+const ALONE: &[Row] = &[
+    ([5, 4, 1, 1, 8], [20, 20], [0, 0]),
+    ([0, 4, 1, 1, 8], [0, 0], [0, 0]),
+    ([2, 4, 1, 1, 8], [8, 8], [0, 0]),
+    ([64, 4, 1, 1, 8], [256, 256], [0, 0]),
+    ([4294967295, 4, 1, 1, 8], [16, 16], [0, 0]),
+    ([4, 5, 1, 1, 8], [20, 20], [0, 0]),
+    ([4, 0, 1, 1, 8], [0, 0], [0, 0]),
+    ([4, 2, 1, 1, 8], [8, 8], [0, 0]),
+    ([4, 64, 1, 1, 8], [256, 256], [0, 0]),
+    ([4, 4294967295, 1, 1, 8], [16, 16], [0, 0]),
+    ([4, 4, 0, 1, 8], [16, 16], [0, 0]),
+    ([4, 4, 3, 1, 8], [16, 16], [0, 0]),
+    ([4, 4, 1, 0, 8], [16, 16], [0, 0]),
+    ([4, 4, 1, 3, 8], [16, 16], [0, 0]),
+    ([4, 4, 1, 1, 7], [16, 16], [0, 0]),
+    ([4, 4, 1, 1, 13], [16, 16], [0, 0]),
+    ([4, 4, 1, 1, 8], [15, 16], [0, 0]),
+    ([4, 4, 1, 1, 8], [17, 16], [0, 0]),
+    ([4, 4, 1, 1, 8], [16, 15], [0, 0]),
+    ([4, 4, 1, 1, 8], [16, 17], [0, 0]),
+];
 
 /// Everything is wrong, then all but the width, and so on.
-fn refusals_in_order(direction: Direction) {
-    let block = only(&[(16, 4096)]);
-    let mut shape = [5, 5, 0, 3, 13];
-    let mut lengths = [17, 18];
-    let what = "4096 at place 16";
-    for (k, right) in [32, 4, 1, 2, 12].into_iter().enumerate() {
-        line(direction, shape, what, &block, lengths);
-        shape[k] = right;
-    }
-    for k in 0..2 {
-        line(direction, shape, what, &block, lengths);
-        lengths[k] = 128;
-    }
-    line(direction, shape, what, &block, lengths);
-}
+const ORDER: &[Row] = &[
+    ([5, 5, 0, 3, 13], [17, 18], [16, 16]),
+    ([32, 5, 0, 3, 13], [17, 18], [16, 16]),
+    ([32, 4, 0, 3, 13], [17, 18], [16, 16]),
+    ([32, 4, 1, 3, 13], [17, 18], [16, 16]),
+    ([32, 4, 1, 2, 13], [17, 18], [16, 16]),
+    ([32, 4, 1, 2, 12], [17, 18], [16, 16]),
+    ([32, 4, 1, 2, 12], [128, 18], [16, 16]),
+    ([32, 4, 1, 2, 12], [128, 128], [16, 16]),
+];
 
 /// The places of 8.
-fn outside() {
-    let case = |shape: [i64; 5], what: &str, numbers: &[(usize, i64)]| {
-        whole(Inverse, shape, what, &only(numbers));
-    };
-    let wide = [32, 4, 2, 1, 9];
-    case(wide, "1 at place 31", &[(31, 1)]);
-    case(wide, "-1 at places 117 and 50", &[(117, -1), (50, -1)]);
-    let high = [8, 32, 2, 1, 9];
-    case(high, "-32768 at place 127", &[(127, -32768)]);
-    case(high, "-32768 at place 128", &[(128, -32768)]);
-    let large = [32, 32, 1, 2, 10];
-    case(large, "1 at places 512 and 496", &[(512, 1), (496, 1)]);
-    case(large, "1 at places 1023 and 495", &[(1023, 1), (495, 1)]);
-}
+const OUTSIDE: &[Row] = &[
+    ([32, 4, 2, 1, 9], [128, 128], [31, 31]),
+    ([32, 4, 2, 1, 9], [128, 128], [117, 50]),
+    ([32, 4, 2, 1, 9], [128, 128], [111, 0]),
+    ([8, 32, 2, 1, 9], [256, 256], [128, 128]),
+    ([8, 32, 2, 1, 9], [256, 256], [255, 130]),
+    ([8, 32, 2, 1, 9], [256, 256], [127, 0]),
+    ([32, 32, 1, 2, 10], [1024, 1024], [512, 496]),
+    ([32, 32, 1, 2, 10], [1024, 1024], [1023, 495]),
+    ([32, 32, 1, 2, 10], [1024, 1024], [495, 0]),
+];
 
 /// The places of 9.
-fn too_large() {
-    let case = |shape: [i64; 5], what: &str, numbers: &[(usize, i64)]| {
-        whole(Forward, shape, what, &only(numbers));
-    };
-    let small = [4, 8, 1, 2, 8];
-    let what = "-255 at place 0, 256 at place 31";
-    case(small, what, &[(0, -255), (31, 256)]);
-    case(small, "-256 at places 30 and 7", &[(30, -256), (7, -256)]);
-    case(small, "-32768 at place 12", &[(12, -32768)]);
-    let large = [32, 32, 2, 2, 12];
-    let what = "-4095 at place 1000, 4095 at place 1023";
-    case(large, what, &[(1000, -4095), (1023, 4095)]);
-    let what = "4096 at places 1023 and 1000";
-    case(large, what, &[(1023, 4096), (1000, 4096)]);
+const SMALL: &[Row] = &[([4, 8, 1, 2, 8], [32, 32], [30, 7])];
+
+const LARGE: &[Row] = &[([32, 32, 2, 2, 12], [1024, 1024], [1023, 1000])];
+
+fn rows(direction: Direction, number: i64, other: i64, table: &[Row]) {
+    for &(sides, lengths, [place, next]) in table {
+        let mut block = vec![0; ROOM];
+        block[place] = number;
+        block[next] = other;
+        let what = format!("at {place} {number}, at {next} {other}");
+        line(direction, sides, &what, &block, lengths);
+    }
 }
 
-/// At this depth every width, height and pair of kinds: all high, all low, and by turns.
-fn worst(direction: Direction, depth: i64, kept: usize, [low, high]: [i64; 2]) {
-    let blocks = [
+fn items() {
+    for n in [21063, 21064, 21066] {
+        rows(Inverse, 32767, n, ITEM_7);
+    }
+    rows(Inverse, 64, 0, ITEM_8);
+    rows(Inverse, 1000, 1000, ITEM_9);
+    rows(Inverse, 0, 0, ITEM_10);
+    rows(Forward, 0, 0, ITEM_10);
+}
+
+fn refusals(direction: Direction) {
+    rows(direction, 0, 0, ALONE);
+    rows(direction, 4096, 4096, ORDER);
+}
+
+fn outside() {
+    rows(Inverse, 1, -1, OUTSIDE);
+    rows(Inverse, -32768, 32767, OUTSIDE);
+}
+
+fn too_large() {
+    for (number, other) in [(-256, 256), (256, -255), (-255, -32768), (255, -255)] {
+        rows(Forward, number, other, SMALL);
+    }
+    for (number, other) in [(4096, -4096), (-4096, 4095), (-4095, 4095)] {
+        rows(Forward, number, other, LARGE);
+    }
+}
+
+/// All high, all low, and by turns.
+fn blocks(direction: Direction, sides: Sides, kept: usize, [low, high]: [i64; 2]) {
+    let area = (sides[0] * sides[1]) as usize;
+    let every = [
         ("high", [high, high]),
         ("low", [low, low]),
         ("by turns", [high, low]),
     ];
-    let sides = SIDES.into_iter().flat_map(|w| SIDES.map(|h| [w, h]));
-    for [w, h] in sides {
+    for (what, turns) in every {
+        let block = filled(sides[0], kept, turns);
+        line(direction, sides, what, &block, [area, area]);
+    }
+}
+
+/// Every width, height and pair of kinds.
+fn shapes(direction: Direction, depth: i64, kept: usize, ends: [i64; 2]) {
+    for [w, h] in SIDES.into_iter().flat_map(|w| SIDES.map(|h| [w, h])) {
         for [x, y] in [[1, 1], [1, 2], [2, 1], [2, 2]] {
-            for (what, turns) in blocks {
-                let block = filled(w, kept, turns);
-                whole(direction, [w, h, x, y, depth], what, &block);
-            }
+            blocks(direction, [w, h, x, y, depth], kept, ends);
         }
     }
 }
 
 fn main() {
-    forward_items();
-    inverse_items();
-    refusals_alone(Inverse);
-    refusals_in_order(Inverse);
+    items();
+    refusals(Inverse);
     outside();
-    refusals_alone(Forward);
-    refusals_in_order(Forward);
+    refusals(Forward);
     too_large();
+    let ends = [-32768, 32767];
+    blocks(Inverse, [4, 4, 1, 1, 10], 16, ends);
     for depth in [8, 12] {
-        worst(Inverse, depth, 16, [-32768, 32767]);
+        shapes(Inverse, depth, 16, ends);
     }
+    blocks(Forward, [4, 4, 1, 1, 8], 32, [-256, 256]);
     for depth in 8..=12 {
         let largest = (1 << depth) - 1;
-        worst(Forward, depth, 32, [-largest, largest]);
+        shapes(Forward, depth, 32, [-largest, largest]);
     }
 }

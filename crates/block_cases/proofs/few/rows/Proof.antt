@@ -1,15 +1,15 @@
--- `refusals::rows` is safe, and ends. Assumes nothing.
+-- `few::rows` is safe, and ends. Assumes nothing.
 use borrow.Author.Needs.{needs}
 use Prim.Native.Nat.{_≤_, _-_}
 use lib.ListN.{length}
-use Rattle.block_cases.proofs.refusals.rows.Statement.{statement}
-use Rattle.block_cases.proofs.refusals.rows.Tie as tie
+use Rattle.block_cases.proofs.few.rows.Statement.{statement}
+use Rattle.block_cases.proofs.few.rows.Tie as tie
 
 abbrev Inv-loop : tie.InvT-loop
-Inv-loop is-forward block numbers table k₀ k = k ≤ length table
+Inv-loop is-forward number other table k₀ k = k ≤ length table
 
 abbrev μ-loop : tie.MeasureT-loop
-μ-loop is-forward block numbers table k₀ k = length table - k
+μ-loop is-forward number other table k₀ k = length table - k
 
 loop-holds : tie.Need-loop-holds Inv-loop μ-loop
 loop-holds c = search needs
