@@ -2,12 +2,12 @@
 use mathlib.Core.Path.{_≡_, refl, sym, ap, _∙_, subst}
 use mathlib.Core.List.{List, [], _∷_, _++_, append-assoc, append-nil}
 use Prim.Native.Nat.{ℕ, zero, suc, _+_, _*_, _-_, _/_, _%_, _≤_, _<_}
-use native.Mathlib.Nat.{div-add-mod', mod-lt, div-lt-iff-lt-mul, add-comm, not-suc-le-zero, mul-zero, mul-le-mul-right, suc-mul, add-mul, one-mul, zero-mul, zero-add, le-of-suc-le-suc}
+use native.Mathlib.Nat.{not-suc-le-zero, mul-le-mul-right, suc-mul, add-mul, one-mul, zero-mul, mul-zero, zero-add, add-comm, sub-zero, le-of-suc-le-suc, mod-lt, div-add-mod', div-lt-iff-lt-mul}
 use native.Mathlib.Numerals.{add-one}
 use native.Mathlib.Omega.{arith}
 use native.Mathlib.Decide.{ℕ-discrete}
-use lib.ListN.{length, take, drop, getD, set, length-append, length-set, length-drop, List·getD-append, drop-of-length-le}
-use lib.Arith.{digits-div, digits-mod}
+use lib.Arith.{digits-mod, digits-div}
+use lib.ListN.{length, take, drop, getD, set, replicate, length-append, length-set, length-drop, List·getD-append, drop-of-length-le}
 use lib.Seq.{ext-getD, getD-at, getD-append-add, getD-set-same, getD-set-other, take-at, drop-at, drop-drop, drop-cons, set-at, append-snoc, length-take-le}
 use lib.IntN.{ℤ, pos}
 use Rattle.algebra.specs.Lists.{at, tabulate, block, flat}
@@ -73,32 +73,35 @@ unfolding block
 block-cong w zero f g e = refl
 block-cong w (suc h) f g e = λ i. block-cong w h f g (λ x y p q. e x y p (omega arith)) i ++ tab-cong w (λ x. f x h) (λ x. g x h) (λ x p. e x h p (omega arith)) i
 
--- a place is in one column and one row
-pub place-column : {x i w : ℕ} (y j : ℕ) → x < w → i < w → x + y * w ≡ i + j * w → x ≡ i
-place-column {x} {i} {w} y j hx hi e =
-    sym (digits-mod y hx) ∙ ap (λ (k : ℕ). k % w) (add-comm (y * w) x ∙ e ∙ add-comm i (j * w)) ∙ digits-mod j hi
+-- column and row of a place; two columns share none
+pub column-of : {x w : ℕ} (y : ℕ) → x < w → (x + y * w) % w ≡ x
+column-of {x} {w} y h = ap (λ (k : ℕ). k % w) (add-comm x (y * w)) ∙ digits-mod y h
 
-pub place-row : {x i w : ℕ} (y j : ℕ) → x < w → i < w → x + y * w ≡ i + j * w → y ≡ j
-place-row {x} {i} {w} y j hx hi e =
-    sym (digits-div y hx) ∙ ap (λ (k : ℕ). k / w) (add-comm (y * w) x ∙ e ∙ add-comm i (j * w)) ∙ digits-div j hi
+pub row-of : {x w : ℕ} (y : ℕ) → x < w → (x + y * w) / w ≡ y
+row-of {x} {w} y h = ap (λ (k : ℕ). k / w) (add-comm x (y * w)) ∙ digits-div y h
 
--- a list of h rows of w is a block by what stands at each place
-pub block-ext : (w h : ℕ) (f : ℕ → ℕ → ℤ) (l : List ℤ) → length l ≡ h * w → ((x y : ℕ) → x < w → y < h → at l (x + y * w) ≡ f x y) → l ≡ block w h f
-block-ext w h f l n e = ext-getD (pos 0) l (block w h f) (n ∙ sym (block-length w h f)) (λ k p. one k (subst (λ (m : ℕ). k < m) n p))
+pub same-column : {x x′ w : ℕ} (y y′ : ℕ) → x < w → x′ < w → x + y * w ≡ x′ + y′ * w → x ≡ x′
+same-column {w = w} y y′ h h′ e = sym (column-of y h) ∙ ap (λ (k : ℕ). k % w) e ∙ column-of y′ h′
+
+pub same-row : {x x′ w : ℕ} (y y′ : ℕ) → x < w → x′ < w → x + y * w ≡ x′ + y′ * w → y ≡ y′
+same-row {w = w} y y′ h h′ e = sym (row-of y h) ∙ ap (λ (k : ℕ). k / w) e ∙ row-of y′ h′
+
+-- what holds of every column of every row holds of every place
+pub every-place : (w h : ℕ) (P : ℕ → Type 0) → ((x y : ℕ) → x < w → y < h → P (x + y * w)) → (k : ℕ) → k < h * w → P k
+every-place w h P p k l =
+    let s : 0 < w = some w l in
+    let e : k % w + k / w * w ≡ k = add-comm (k % w) (k / w * w) ∙ div-add-mod' k w in
+    subst P e (p (k % w) (k / w) (mod-lt k s) (div-lt-iff-lt-mul s .1 l))
   where
-    one : (k : ℕ) → k < h * w → at l k ≡ at (block w h f) k
-    one k p =
-        let some : 0 < w = positive w p in
-        let x = k % w in
-        let y = k / w in
-        let hx : x < w = mod-lt k some in
-        let hy : y < h = div-lt-iff-lt-mul some .1 p in
-        let q : k ≡ x + y * w = omega (arith, div-add-mod' k w) in
-        ap (at l) q ∙ e x y hx hy ∙ sym (block-at w h f x y hx hy) ∙ ap (at (block w h f)) (sym q)
-      where
-        positive : (w : ℕ) → k < h * w → 0 < w
-        positive zero p = absurd (omega (arith, mul-zero h))
-        positive (suc w) p = omega arith
+    some : (w : ℕ) → k < h * w → 0 < w
+    some zero l = absurd (omega (arith, mul-zero h))
+    some (suc w) l = omega arith
+
+-- a list is a block by its length and what stands in each column of each row
+pub block-ext : (w h : ℕ) (f : ℕ → ℕ → ℤ) (l : List ℤ) → length l ≡ h * w → ((x y : ℕ) → x < w → y < h → at l (x + y * w) ≡ f x y) → l ≡ block w h f
+block-ext w h f l n e =
+    ext-getD (pos 0) l (block w h f) (n ∙ sym (block-length w h f))
+    (λ k b. every-place w h (λ k. at l k ≡ at (block w h f) k) (λ x y p q. e x y p q ∙ sym (block-at w h f x y p q)) k (omega arith))
 
 -- ---- a loop that writes one value after another from place o on: what it wrote, and what is still as it was
 pub record Filled (o j : ℕ) (a a₀ : List ℤ) (f : ℕ → ℤ) : Type 0 where
@@ -137,6 +140,25 @@ filled {n} {a} {f = f} l p = tabulated n a f (p .long ∙ l) (λ k h. ap (at a) 
 pub part-back : {A : Type 0} (D o ys : List A) (a k e : ℕ) → length D ≡ a → e ≡ a + k
     → take a (D ++ drop a o) ++ (ys ++ drop k (drop a (D ++ drop a o))) ≡ (D ++ ys) ++ drop e o
 part-back D o ys a k e h q = rw (take-at D (drop a o) a h, drop-at D (drop a o) a h, drop-drop k a o, q) (sym (append-assoc D ys (drop (a + k) o)))
+
+-- the first n numbers of a list, lent as the part from 0 to n, and read again where they came back
+pub part-long : {A : Type 0} (n : ℕ) (l : List A) → n ≤ length l → length (take (n - 0) l) ≡ n
+part-long n l h = rw (sub-zero n) (length-take-le n l h)
+
+pub part-same : {A : Type 0} (n : ℕ) (l r : List A) → length l ≡ n → take (n - 0) (l ++ r) ≡ l
+part-same n l r h = rw (sub-zero n) (take-at l r n h)
+
+-- ---- zeros, and past the end too
+pub zeros-at : (n k : ℕ) → at (replicate n (pos 0)) k ≡ pos 0
+zeros-at zero k = refl
+zeros-at (suc n) zero = refl
+zeros-at (suc n) (suc k) = zeros-at n k
+
+pub take-zeros : (n : ℕ) (l : List ℤ) → ((k : ℕ) → at l k ≡ pos 0) → (k : ℕ) → at (take n l) k ≡ pos 0
+take-zeros zero l z k = refl
+take-zeros (suc n) [] z k = refl
+take-zeros (suc n) (x ∷ l) z zero = z 0
+take-zeros (suc n) (x ∷ l) z (suc k) = take-zeros n l (λ i. z (suc i)) k
 
 -- ---- rows joined
 pub flat-length : (n : ℕ) (rows : List (List ℤ)) → ((y : ℕ) → y < length rows → length (getD rows y []) ≡ n) → length (flat rows) ≡ length rows * n

@@ -131,6 +131,10 @@ pub parts-abs : (z : ℤ) (B : ℕ) → up z ≤ dn z + B → dn z ≤ up z + B 
 parts-abs (pos n) B h g = omega arith
 parts-abs (negsuc n) B h g = omega arith
 
+pub abs-zero : (z : ℤ) → natAbs z ≡ 0 → z ≡ pos 0
+abs-zero (pos n) e = ap pos e
+abs-zero (negsuc n) e = absurd (omega arith)
+
 pub parts-fit : (w : Width) (z : ℤ) → up z < dn z + 2 ^ hbits w → dn z ≤ up z + 2 ^ hbits w → SFits w z
 parts-fit w (pos n) h g = record { sfits = omega arith }
 parts-fit w (negsuc n) h g = record { sfits = omega arith }

@@ -3,11 +3,12 @@ use mathlib.Core.Path.{_≡_, refl, sym, ap, _∙_, subst}
 use mathlib.Core.List.{List, [], _∷_}
 use Prim.Native.Nat.{ℕ, zero, suc, _+_, _-_, _*_, _≤_, _<_}
 use native.Mathlib.Omega.{arith}
-use native.Mathlib.Nat.{mul-le-mul, le-trans, le-refl, mul-le-mul-left, mul-le-mul-right, add-mul, zero-mul, add-zero, add-suc, add-le-add}
+use native.Mathlib.Nat.{mul-le-mul, le-trans, le-refl, mul-le-mul-left, mul-le-mul-right, add-mul, zero-mul, add-zero, add-suc, add-le-add, not-suc-le-zero}
 use lib.IntN.{ℤ, pos, negsuc, negℤ, natAbs, _+ℤ_, _-ℤ_, _*ℤ_, +ℤ-idl, +ℤ-idr, +ℤ-assoc, +ℤ-comm, *ℤ-zero, negℤ-+ℤ}
 use Rattle.algebra.specs.Sum.{sum, sumℕ}
 use Rattle.algebra.proofs.Ring.{+ℤ-left-comm, *ℤ-add}
 use Rattle.algebra.proofs.Normal.{Expr, ν, κ, _⊕_, _⊖_, _⊗_, ⊝, ring}
+use Rattle.algebra.proofs.Table.{last}
 use Rattle.algebra.proofs.Order.{Within, abs-add, abs-mul}
 
 pub sum-suc : (n : ℕ) (f : ℕ → ℤ) → sum (suc n) f ≡ sum n f +ℤ f n
@@ -53,6 +54,11 @@ sum-swap zero n f = sym (sum-none n)
 sum-swap (suc m) n f = ap (λ (x : ℤ). x +ℤ sum n (f m)) (sum-swap m n f) ∙ sym (sum-add n (λ j. sum m (λ i. f i j)) (f m))
 
 -- ---- size
+pub sumℕ-cong : (n : ℕ) (f g : ℕ → ℕ) → ((i : ℕ) → i < n → f i ≡ g i) → sumℕ n f ≡ sumℕ n g
+unfolding sumℕ
+sumℕ-cong zero f g e = refl
+sumℕ-cong (suc n) f g e = λ t. sumℕ-cong n f g (λ i p. e i (omega arith)) t + e n (omega arith) t
+
 pub sumℕ-mono : (n : ℕ) (f g : ℕ → ℕ) → ((i : ℕ) → i < n → f i ≤ g i) → sumℕ n f ≤ sumℕ n g
 unfolding sumℕ
 sumℕ-mono zero f g h = omega arith
@@ -132,3 +138,14 @@ pub dot-below : (w : ℕ → ℤ) (i n M : ℕ) → i ≤ n → sumℕ i (λ j. 
 dot-below w i n M h =
     let e : i + (n - i) ≡ n = omega arith in
     mul-le-mul-right M (subst (λ (m : ℕ). sumℕ i (λ j. natAbs (w j)) ≤ sumℕ m (λ j. natAbs (w j))) e (sumℕ-le (n - i) i (λ j. natAbs (w j))))
+
+-- ---- a sum is 0 where each of its numbers is
+pub sum-zero : (n : ℕ) (f : ℕ → ℕ) → sumℕ n f ≡ 0 → (i : ℕ) → i < n → f i ≡ 0
+unfolding sumℕ
+sum-zero zero f e i h = absurd (not-suc-le-zero h)
+sum-zero (suc n) f e i h = last (λ (m : ℕ). f m ≡ 0) n i h (omega arith) (λ l. sum-zero n f (omega arith) i l)
+
+pub zero-sum : (n : ℕ) (f : ℕ → ℕ) → ((i : ℕ) → i < n → f i ≡ 0) → sumℕ n f ≡ 0
+unfolding sumℕ
+zero-sum zero f e = refl
+zero-sum (suc n) f e = omega (arith, zero-sum n f (λ i h. e i (omega arith)), e n (omega arith))

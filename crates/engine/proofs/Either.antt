@@ -8,7 +8,7 @@ use lib.IntN.{ℤ, pos, negℤ, natAbs}
 use borrow.Author.Tests.{eq-eqb, ne-eqb}
 use Rattle.meaning.specs.Weights.{weight, S, C, signed}
 use Rattle.meaning.specs.Shape.{isKind}
-use Rattle.engine.proofs.Bound as bound
+use Rattle.meaning.proofs.Sizes.{S-size}
 
 pub dst : (kind : ℕ) → kind ≡ 1 → (n i j : ℕ) → weight kind n i j ≡ S n i j
 unfolding weight
@@ -30,4 +30,4 @@ pub dct-even : (kind : ℕ) → (kind ≡ 1 → ⊥) → isKind kind ≡ true �
 dct-even kind d k n i j e = dct kind d k n i j ∙ rw (ne-eqb (i % 2) 1 e)
 
 pub abs-S : (n i j : ℕ) → natAbs (S n i j) ≤ 1000000000
-abs-S n i j = omega (arith, bound.abs-S n i j)
+abs-S n i j = omega (arith, S-size n i j)

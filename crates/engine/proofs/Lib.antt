@@ -1,4 +1,9 @@
-pub mod Stored
-pub mod Bound
 pub mod Either
 pub mod Sums
+pub mod Mirror
+pub mod Around
+pub mod Classes
+pub mod Adding
+pub mod Places
+pub mod Folding
+pub mod Stretches

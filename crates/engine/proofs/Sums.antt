@@ -18,11 +18,11 @@ use Rattle.meaning.specs.Weights.{weight}
 use Rattle.meaning.specs.Line.{forwardSum, inverseSum, forwardLine, inverseLine}
 use Rattle.engine.specs.Lines.{line}
 use Rattle.engine.specs.Product.{term, lineSum}
-use Rattle.engine.proofs.Bound.{abs-weight}
+use Rattle.meaning.proofs.Sizes.{weightSize}
 
 pub abs-term : (forward : Bool) (kind n k i : ℕ) → natAbs (term forward kind n k i) ≤ 90
-abs-term true kind n k i = abs-weight kind n k i
-abs-term false kind n k i = abs-weight kind n i k
+abs-term true kind n k i = weightSize kind n k i
+abs-term false kind n k i = weightSize kind n i k
 
 pub grown : (a w x : ℤ) (i : ℕ) → natAbs a ≤ i * 2949120 → natAbs w ≤ 90 → natAbs x ≤ 32768 → natAbs (a +ℤ w *ℤ x) ≤ (i + 1) * 2949120
 grown a w x i p q r =

@@ -9,7 +9,7 @@ use Rattle.algebra.specs.Sum.{sum}
 use Rattle.algebra.specs.Lists.{at, tabulate}
 use Rattle.meaning.specs.Weights.{S}
 use Rattle.meaning.specs.Shape.{isSize}
-use Rattle.engine.specs.Lines.{Table}
+use Rattle.tables.specs.Table.{Table}
 
 -- m numbers, of size at most B
 pub record Small (m B : ℕ) (a : List ℤ) : Type 0 where

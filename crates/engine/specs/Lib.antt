@@ -1,3 +1,5 @@
 pub mod Lines
 pub mod Product
 pub mod Dst
+pub mod Prepared
+pub mod Folded

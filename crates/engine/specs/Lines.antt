@@ -6,14 +6,9 @@ use Prim.Native.Nat.{ℕ, _+_, _*_, _≤_, _<_}
 use lib.ListN.{length}
 use lib.IntN.{ℤ}
 use Rattle.algebra.specs.Lists.{at}
-use Rattle.meaning.specs.Weights.{S}
+use Rattle.tables.specs.Table.{Table}
 use Rattle.meaning.specs.Line.{forwardLine, inverseLine}
 use Rattle.meaning.specs.Shape.{isSize, isKind}
-
--- the DST-VII weights of n points, row by row
-pub record Table (n : ℕ) (t : List ℤ) : Type 0 where
-  pub long : length t ≡ n * n
-  pub right : (i j : ℕ) → i < n → j < n → at t (i * n + j) ≡ S n i j
 
 -- a table with a place in it
 pub record Spot (n i j : ℕ) (t : List ℤ) : Type 0 where

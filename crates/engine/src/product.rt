@@ -7,7 +7,8 @@ ghost use mathlib.Core.Bool.{true};
 ghost use Prim.Native.Nat.{_≤_, _<_};
 ghost use Rattle.meaning.specs.Weights.{S, weight};
 ghost use Rattle.meaning.specs.Shape.{isKind};
-ghost use Rattle.engine.specs.Lines.{Table, Spot, Inside, Given, input, line};
+ghost use Rattle.engine.specs.Lines.{Spot, Inside, Given, input, line};
+ghost use Rattle.tables.specs.Table.{Table};
 ghost use Rattle.engine.specs.Product.{term, lineSum};
 
 fn stored(t: &[i16], n: usize, i: usize, j: usize) -> i32

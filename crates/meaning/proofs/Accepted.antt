@@ -1,5 +1,5 @@
--- What a block's call that hands back number 0 has passed: every test of its list (`inverse-accepted`, `forward-accepted`);
--- and what an inverse call that has passed them hands back (`inverse-done`).
+-- What a call that hands back number 0 has passed: every test of its list (`line-taken` of a line, `inverse-accepted` and
+-- `forward-accepted` of a block); and what an inverse call that has passed them hands back (`inverse-done`).
 use mathlib.Core.Path.{_≡_, refl}
 use mathlib.Core.Bool.{Bool, true, false, not, cond, _&&_}
 use mathlib.Core.List.{List, [], _∷_, _++_}
@@ -13,7 +13,7 @@ use Rattle.algebra.specs.Refusals.{Refusal, numberOf}
 use Rattle.algebra.proofs.Table.{and-left, and-right}
 use Rattle.meaning.specs.declared.Shape.{Shape}
 use Rattle.meaning.specs.Shape.{isSize, isKind, isDepth}
-use Rattle.meaning.specs.Answer.{Outcome, outcome, accepted, refused, test, shapeTests, lengthTests}
+use Rattle.meaning.specs.Answer.{Outcome, outcome, accepted, refused, test, shapeTests, lengthTests, lineTests}
 use Rattle.meaning.specs.Inverse.{rails, inverseBlock, firstOutside, inverseTests, inverseOutcome}
 use Rattle.meaning.specs.Forward.{firstTooLarge, forwardBlock, forwardTests, forwardOutcome}
 use Rattle.meaning.proofs.Taken.{Taken}
@@ -63,6 +63,25 @@ shape-taken sh e = taken-of (no-number (shapeTests sh) tt e)
           horizontal = not-false (isKind (sh .horizontal)) k;
           vertical = not-false (isKind (sh .vertical)) v;
           depth = not-false (isDepth (sh .depth)) d;
+        }
+
+-- 1, 3, 6 and 7 of a line
+pub record TakenLine (n kind input output : ℕ) : Type 0 where
+  pub size : isSize n ≡ true
+  pub known : isKind kind ≡ true
+  pub long : input ≡ n
+  pub room : output ≡ n
+
+pub line-taken : (n kind input output : ℕ) → numberOf (lineTests n kind input output) ≡ 0 → TakenLine n kind input output
+line-taken n kind input output e = taken-of (no-number (lineTests n kind input output) tt e)
+  where
+    taken-of : Clear (lineTests n kind input output) → TakenLine n kind input output
+    taken-of (s, (k, (i, (o, _)))) =
+        record {
+          size = not-false (isSize n) s;
+          known = not-false (isKind kind) k;
+          long = eqb-true input n (not-false (eqb input n) i);
+          room = eqb-true output n (not-false (eqb output n) o);
         }
 
 -- the tests that both directions share

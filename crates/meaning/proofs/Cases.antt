@@ -54,3 +54,9 @@ line-cases P s4 s8 s16 s32 c4 c8 c16 c32 kind n k s =
 -- no size is above 32
 pub size-in : (n : ℕ) → isSize n ≡ true → n ≤ 32
 size-in = size-cases (λ n. n ≤ 32) (omega arith) (omega arith) (omega arith) (omega arith)
+
+-- a size that is none of the three others
+pub thirty-two : (n : ℕ) → isSize n ≡ true → (n ≡ 4 → ⊥) → (n ≡ 8 → ⊥) → (n ≡ 16 → ⊥) → n ≡ 32
+thirty-two =
+    size-cases (λ n. (n ≡ 4 → ⊥) → (n ≡ 8 → ⊥) → (n ≡ 16 → ⊥) → n ≡ 32)
+    (λ a b c. absurd (a refl)) (λ a b c. absurd (b refl)) (λ a b c. absurd (c refl)) (λ a b c. refl)

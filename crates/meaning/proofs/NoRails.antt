@@ -2,19 +2,19 @@
 --   no-rails:        rails sh c ≡ 0 gives Inner sh c
 --   rails-no:        Inner sh c gives rails sh c ≡ 0
 --   inner-unaltered: Inner sh c gives Unaltered sh c
-use mathlib.Core.Path.{_≡_, refl, _∙_, subst}
+use mathlib.Core.Path.{_≡_, refl, _∙_}
 use mathlib.Core.Bool.{Bool, true, false, _||_}
 use mathlib.Core.List.{List}
-use Prim.Native.Nat.{ℕ, zero, suc, _<_}
-use native.Mathlib.Nat.{not-suc-le-zero}
+use Prim.Native.Nat.{ℕ, _<_}
 use native.Mathlib.Omega.{arith}
 use borrow.Author.Tests.{lt-ltb}
-use lib.Dec.{T, eqb-refl}
-use lib.IntN.{ℤ, pos, negsuc}
+use lib.Dec.{T}
+use lib.IntN.{ℤ}
 use Rattle.algebra.specs.Sum.{sumℕ}
 use Rattle.algebra.specs.Equal.{eqZ}
 use Rattle.algebra.specs.Clip.{Range}
-use Rattle.algebra.proofs.Table.{eqZ→eq, last}
+use Rattle.algebra.proofs.Sum.{sum-zero, zero-sum}
+use Rattle.algebra.proofs.Table.{eqZ→eq, eq→eqZ, or-left, or-right, or-none}
 use Rattle.algebra.proofs.Clip.{clip-inner}
 use Rattle.meaning.specs.declared.Shape.{Shape}
 use Rattle.meaning.specs.Shape.{keptColumns, range}
@@ -29,17 +29,7 @@ Inner sh c =
 abbrev pub Unaltered : Shape → List ℤ → Type 0
 Unaltered sh c = (x y : ℕ) → x < keptColumns sh → y < sh .height → middleAt sh c x y ≡ rounded (columnSum sh c x y)
 
--- ---- a sum is 0 where each of its numbers is
-sum-zero : (n : ℕ) (f : ℕ → ℕ) → sumℕ n f ≡ 0 → (i : ℕ) → i < n → f i ≡ 0
-unfolding sumℕ
-sum-zero zero f e i h = absurd (not-suc-le-zero h)
-sum-zero (suc n) f e i h = last (λ (m : ℕ). f m ≡ 0) n i h (omega arith) (λ l. sum-zero n f (omega arith) i l)
-
-zero-sum : (n : ℕ) (f : ℕ → ℕ) → ((i : ℕ) → i < n → f i ≡ 0) → sumℕ n f ≡ 0
-unfolding sumℕ
-zero-sum zero f e = refl
-zero-sum (suc n) f e = omega (arith, zero-sum n f (λ i h. e i (omega arith)), e n (omega arith))
-
+-- ---- what counts
 count-zero : (b : Bool) → count b ≡ 0 → T b → ⊥
 count-zero true e t = omega arith
 count-zero false e t = t
@@ -48,31 +38,11 @@ zero-count : (b : Bool) → (T b → ⊥) → count b ≡ 0
 zero-count true n = absurd (n tt)
 zero-count false n = refl
 
--- ---- what counts
-equal : (a b : ℤ) → a ≡ b → T (eqZ a b)
-equal a b e = subst (λ (z : ℤ). T (eqZ a z)) e (same a)
-  where
-    same : (a : ℤ) → T (eqZ a a)
-    same (pos n) = eqb-refl n
-    same (negsuc n) = eqb-refl n
-
-or-left : (a b : Bool) → T a → T (a || b)
-or-left true b t = tt
-or-left false b t = absurd t
-
-or-right : (a b : Bool) → T b → T (a || b)
-or-right true b t = tt
-or-right false b t = t
-
-or-none : (a b : Bool) → (T a → ⊥) → (T b → ⊥) → T (a || b) → ⊥
-or-none true b f g t = f tt
-or-none false b f g t = g t
-
 not-railed : (r : Range) (before after : ℤ) → (T (railed r before after) → ⊥) → (after ≡ r .low → ⊥) × (after ≡ r .high → ⊥)
 not-railed r b a n =
     let l = eqZ a (r .low) in
     let h = eqZ a (r .high) in
-    (λ e. n (or-left l h (equal a (r .low) e)), λ e. n (or-right l h (equal a (r .high) e)))
+    (λ e. n (or-left l h (eq→eqZ a (r .low) e)), λ e. n (or-right l h (eq→eqZ a (r .high) e)))
 
 railed-not : (r : Range) (before after : ℤ) → (after ≡ r .low → ⊥) × (after ≡ r .high → ⊥) → T (railed r before after) → ⊥
 railed-not r b a n = or-none (eqZ a (r .low)) (eqZ a (r .high)) (λ t. n .0 (eqZ→eq a (r .low) t)) (λ t. n .1 (eqZ→eq a (r .high) t))

@@ -125,7 +125,7 @@ first-tested n =
     let Passed : List ℕ → Type 0 = λ ss. T (noneAbove 90 ss) in
     pick Passed (eqb n 4) tt (pick Passed (eqb n 8) tt (pick Passed (eqb n 16) tt (pick Passed (eqb n 32) tt tt)))
 
-abs-signed : (b : Bool) (z : ℤ) → natAbs (signed b z) ≡ natAbs z
+pub abs-signed : (b : Bool) (z : ℤ) → natAbs (signed b z) ≡ natAbs z
 abs-signed true z = abs-neg z
 abs-signed false z = refl
 
@@ -135,7 +135,7 @@ fold-size l ss m t =
     let k = min (m % l) (l - m % l) in
     rw abs-signed (none-above 90 ss t k)
 
-S-size : (n i j : ℕ) → natAbs (S n i j) ≤ 90
+pub S-size : (n i j : ℕ) → natAbs (S n i j) ≤ 90
 unfolding S
 S-size n i j =
     let l = 2 * n + 1 in

@@ -1,8 +1,9 @@
 // What every call means: the structs that calls share, the definitions that their contracts cite (specs/, in the order of
 // the scope: Weights, Line, Shape, Answer, Inverse, Forward, Exact), and the theorems that follow from these alone (proofs/).
 ghost use mathlib.Core.Path.{_≡_};
+ghost use Prim.Native.Nat.{min};
 ghost use Rattle.algebra.specs.Refusals.{numberOf};
-ghost use Rattle.meaning.specs.Shape.{isSize, isKind, isDepth};
+ghost use Rattle.meaning.specs.Shape.{isSize, isKind, isDepth, keptColumns, keptRows};
 ghost use Rattle.meaning.specs.Answer.{shapeTests};
 
 /// What a block is: its sides, a kind for each direction, and its bit depth. Any numbers.
@@ -90,4 +91,23 @@ pub fn is_depth(d: u32) -> bool
         return false;
     }
     d <= 12
+}
+
+// "the first min(w,16), .. the first min(h,16)"
+fn kept(n: u32) -> usize
+    ensures { λ r. ⌜ r ≡ min n 16 ⌝ }
+{
+    if n < 16 { n as usize } else { 16 }
+}
+
+pub fn kept_columns(shape: Shape) -> usize
+    ensures { λ r. ⌜ r ≡ keptColumns shape ⌝ }
+{
+    kept(shape.width)
+}
+
+pub fn kept_rows(shape: Shape) -> usize
+    ensures { λ r. ⌜ r ≡ keptRows shape ⌝ }
+{
+    kept(shape.height)
 }

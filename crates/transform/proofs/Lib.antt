@@ -1,2 +1,6 @@
-pub mod Places
-pub mod TwoStages
+pub mod Lent
+pub mod ByValue
+pub mod Sixteen
+pub mod FourByFour
+pub mod Agreement
+pub mod Unique

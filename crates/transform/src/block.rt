@@ -1,14 +1,41 @@
-// Blocks in buffers that the caller lends.
-use crate::forward::run;
+// Blocks, in both directions.
+use crate::check::acceptance;
+use crate::check::block_refusal;
+use crate::check::refusal;
 use meaning::Answer;
 use meaning::Shape;
 ghost use mathlib.Core.Path.{_≡_};
 ghost use Rattle.meaning.specs.Answer.{Outcome};
 ghost use Rattle.meaning.specs.Forward.{forwardOutcome};
+ghost use Rattle.meaning.specs.Inverse.{inverseOutcome};
+
+/// The inverse of a block: residuals from coefficients, with the rail count. Any numbers, any buffers.
+pub fn inverse(shape: Shape, coefficients: &[i16], residuals: &mut [i32]) -> Answer
+    ensures { λ r. ⌜ _≡_ {A = Outcome} (r, now (residuals .exit)) (inverseOutcome shape (now (coefficients .entry)) (now (residuals .entry))) ⌝ }
+{
+    let number = block_refusal(shape, coefficients.len(), residuals.len());
+    if number != 0 {
+        return refusal(number, 0);
+    }
+    let place = inverse_block::inverse::hunt(shape, coefficients);
+    if place < coefficients.len() {
+        return refusal(8, place as u32);
+    }
+    acceptance(inverse_block::inverse::stages(shape, coefficients, residuals))
+}
 
 /// The forward block: residuals to coefficients. Refusals 1 to 7 and 9.
 pub fn forward(shape: Shape, residuals: &[i16], coefficients: &mut [i16]) -> Answer
     ensures { λ r. ⌜ _≡_ {A = Outcome} (r, now (coefficients .exit)) (forwardOutcome shape (now (residuals .entry)) (now (coefficients .entry))) ⌝ }
 {
-    run(shape, residuals, coefficients)
+    let number = block_refusal(shape, residuals.len(), coefficients.len());
+    if number != 0 {
+        return refusal(number, 0);
+    }
+    let place = forward_block::forward::first_too_large(shape, residuals);
+    if place < residuals.len() {
+        return refusal(9, place as u32);
+    }
+    forward_block::forward::stages(shape, residuals, coefficients);
+    acceptance(0)
 }

@@ -9,6 +9,19 @@ ghost use Prim.Native.Nat.{_*_};
 ghost use Rattle.algebra.specs.Refusals.{numberOf};
 ghost use Rattle.meaning.specs.Answer.{shapeTests, lengthTests, lineTests, refused, accepted};
 
+// 6 and 7, or 0.
+fn length_refusal(n: usize, input: usize, output: usize) -> u32
+    ensures { λ r. ⌜ r ≡ numberOf (lengthTests n input output) ⌝ }
+{
+    if input != n {
+        return 6;
+    }
+    if output != n {
+        return 7;
+    }
+    0
+}
+
 // 1, 3, 6 and 7 of a line, or 0.
 pub fn line_refusal(n: u32, kind: u32, input: usize, output: usize) -> u32
     ensures { λ r. ⌜ r ≡ numberOf (lineTests n kind input output) ⌝ }
@@ -19,13 +32,7 @@ pub fn line_refusal(n: u32, kind: u32, input: usize, output: usize) -> u32
     if !is_kind(kind) {
         return 3;
     }
-    if input != n as usize {
-        return 6;
-    }
-    if output != n as usize {
-        return 7;
-    }
-    0
+    length_refusal(n as usize, input, output)
 }
 
 // 1 to 7 of a block, or 0.
@@ -37,13 +44,7 @@ pub fn block_refusal(shape: Shape, input: usize, output: usize) -> u32
         return number;
     }
     let area = shape.width as usize * shape.height as usize;
-    if input != area {
-        return 6;
-    }
-    if output != area {
-        return 7;
-    }
-    0
+    length_refusal(area, input, output)
 }
 
 pub fn refusal(number: u32, place: u32) -> Answer

@@ -2,4 +2,5 @@
 // call stands in check, and the work behind them in the crate `engine`.
 pub mod block;
 mod check;
-mod forward;
+pub mod line;
+pub mod small;

@@ -1,0 +1,62 @@
+-- `worst::shapes` is safe, and ends. Assumes nothing.
+use borrow.Author.Needs.{needs}
+use Prim.Native.Nat.{_≤_, _-_}
+use Rattle.block_cases.proofs.worst.shapes.Statement.{statement}
+use Rattle.block_cases.proofs.worst.shapes.Tie as tie
+
+abbrev Inv-loop : tie.InvT-loop
+Inv-loop is-forward depth kept high low k₀ k = k ≤ 64
+
+abbrev μ-loop : tie.MeasureT-loop
+μ-loop is-forward depth kept high low k₀ k = 64 - k
+
+loop-holds : tie.Need-loop-holds Inv-loop μ-loop
+loop-holds c = search needs
+
+side-requires : tie.Need-side-requires Inv-loop μ-loop
+side-requires c κs = search needs
+
+side-requires-2 : tie.Need-side-requires-2 Inv-loop μ-loop
+side-requires-2 c κs = search needs
+
+add-new : tie.Need-add-new Inv-loop μ-loop
+add-new c = search needs
+
+add-new-2 : tie.Need-add-new-2 Inv-loop μ-loop
+add-new-2 c = search needs
+
+new-requires : tie.Need-new-requires Inv-loop μ-loop
+new-requires c κs = search needs
+
+blocks-requires : tie.Need-blocks-requires Inv-loop μ-loop
+blocks-requires c κs = search needs
+
+add-k : tie.Need-add-k Inv-loop μ-loop
+add-k c = search needs
+
+loop-less : tie.Need-loop-less Inv-loop μ-loop
+loop-less c = search needs
+
+loop-again : tie.Need-loop-again Inv-loop μ-loop
+loop-again c = search needs
+
+returns : tie.Need-returns Inv-loop μ-loop
+returns c = search needs
+
+pub shapes-spec : {M : Type 1} → statement M
+shapes-spec =
+    tie.close
+    (tie.spec
+    Inv-loop
+    μ-loop
+    loop-holds
+    side-requires
+    side-requires-2
+    add-new
+    add-new-2
+    new-requires
+    blocks-requires
+    add-k
+    loop-less
+    loop-again
+    returns)

@@ -1,0 +1,74 @@
+// What stands in a block, and what an output holds before a call. Every buffer has room for the largest block.
+ghost use mathlib.Core.Path.{_≡_};
+ghost use lib.ListN.{length};
+
+fn zeros() -> [i16; 1024]
+    ensures { λ r. ⌜ 1024 ≡ length r ⌝ }
+{
+    [0; 1024]
+}
+
+fn wide_zeros() -> [i32; 1024]
+    ensures { λ r. ⌜ 1024 ≡ length r ⌝ }
+{
+    [0; 1024]
+}
+
+// A number at one place, then a number at another, and zeros.
+pub fn only(place: usize, number: i16, next: usize, other: i16) -> [i16; 1024] {
+    let mut a = zeros();
+    if 1024 <= place {
+        return a;
+    }
+    if 1024 <= next {
+        return a;
+    }
+    a[place] = number;
+    a[next] = other;
+    a
+}
+
+// The number at place k of rows of w: the two by turns in each row and column of the first `kept`, and 0 elsewhere.
+fn by_turns(k: usize, w: usize, kept: usize, even: i16, odd: i16) -> i16 {
+    if w == 0 {
+        return 0;
+    }
+    let x = k % w;
+    let y = k / w;
+    if kept <= x {
+        return 0;
+    }
+    if kept <= y {
+        return 0;
+    }
+    if x % 2 == y % 2 { even } else { odd }
+}
+
+pub fn filled(w: u32, kept: usize, even: i16, odd: i16) -> [i16; 1024] {
+    let mut a = zeros();
+    let mut k: usize = 0;
+    while k < 1024 {
+        a[k] = by_turns(k, w as usize, kept, even, odd);
+        k += 1;
+    }
+    a
+}
+
+// What an output holds before a call.
+pub fn marks() -> [i16; 1024] {
+    filled(32, 32, 1234, -4321)
+}
+
+pub fn wide(v: i16) -> i32 {
+    v as i32
+}
+
+pub fn widened(from: [i16; 1024]) -> [i32; 1024] {
+    let mut to = wide_zeros();
+    let mut k: usize = 0;
+    while k < 1024 {
+        to[k] = wide(from[k]);
+        k += 1;
+    }
+    to
+}

@@ -1,0 +1,26 @@
+-- What each public contract allows is one outcome: for any cursor, any bytes and any buffer, two results that it allows are equal.
+-- Assumes nothing.
+use mathlib.Core.Path.{_≡_}
+use mathlib.Core.List.{List}
+use Prim.Native.Nat.{ℕ}
+use Rattle.algebra.proofs.Unique.{one}
+use Rattle.block_file.specs.declared.cursor.Cursor.{Cursor}
+use Rattle.block_file.specs.declared.cursor.Step.{Step}
+use Rattle.block_file.specs.Cursor.{start, stepOf, bodyOf}
+use Rattle.block_file.specs.Run.{runOutcome}
+
+-- `Cursor::new`
+pub one-new : {x y : Cursor} → x ≡ start → y ≡ start → x ≡ y
+one-new p q = one p q
+
+-- `step`: the number, the tag, the next place and the shape
+pub one-step : (file : List ℕ) (cursor : Cursor) {x y : Step} → x ≡ stepOf file cursor → y ≡ stepOf file cursor → x ≡ y
+one-step file cursor p q = one p q
+
+-- `body`: where it lies, and its bytes
+pub one-body : (place : ℕ × ℕ) (file : List ℕ) (cursor : Cursor) {x y : (ℕ × ℕ) × List ℕ} → x ≡ bodyOf place file cursor → y ≡ bodyOf place file cursor → x ≡ y
+one-body place file cursor p q = one p q
+
+-- `run`: the length, and every byte of the buffer
+pub one-run : (file text : List ℕ) {x y : ℕ × List ℕ} → x ≡ runOutcome file text → y ≡ runOutcome file text → x ≡ y
+one-run file text p q = one p q

@@ -1,0 +1,13 @@
+-- `step` meets its contract. Assumes nothing.
+use borrow.Author.Needs.{needs}
+use Rattle.block_file.proofs.cursor.Cursor.step.Statement.{statement}
+use Rattle.block_file.proofs.cursor.Cursor.step.Tie as tie
+
+found-requires : tie.Need-found-requires
+found-requires c κs = search needs
+
+returns : tie.Need-returns
+returns c = rw (c .before .found .ensures)
+
+pub step-spec : {M : Type 1} → statement M
+step-spec = tie.close (tie.spec found-requires returns)

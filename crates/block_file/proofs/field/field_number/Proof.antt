@@ -1,0 +1,125 @@
+-- `field_number` meets its contract. Assumes nothing.
+use mathlib.Core.Bool.{cond}
+use mathlib.Core.Path.{_≡_, sym, ap, _∙_}
+use Prim.Native.Nat.{ℕ, _+_, _≤_, _<_}
+use native.Mathlib.Omega.{arith}
+use borrow.Author.Tests.{eq-eqb, ne-eqb, lt-ltb, le-ltb}
+use borrow.Author.Needs.{needs}
+use lib.Dec.{eqb, ltb}
+use lib.ListN.{length}
+use denote.Ref.{now}
+use Rattle.block_file.specs.Field.{fieldNumber, byteAt, lengthAt, shapeAt, shapeNumber, headerNumber}
+use Rattle.block_file.proofs.Tests.{or-zero}
+use Rattle.block_file.proofs.Whole.{ofHeader, ofBody, in-order, header-five}
+use Rattle.block_file.proofs.field.field_number.Statement.{statement}
+use Rattle.block_file.proofs.field.field_number.Tie as tie
+
+-- the number, for the arguments of the call
+abbrev Is : tie.Start → ℕ → Type 0
+Is s n = fieldNumber (now (s .args .file)) (s .args .at) (s .args .shape) ≡ n
+
+-- what the header's tests come to, and what the others do
+abbrev header : tie.Start → ℕ
+header s = ofHeader (now (s .args .file)) (s .args .at) (s .args .shape)
+
+abbrev body : tie.Start → ℕ
+body s = ofBody (now (s .args .file)) (s .args .at) (s .args .shape)
+
+abbrev behind : tie.Start → ℕ
+behind s = cond (ltb (length (now (s .args .file))) (s .args .at + 3 + lengthAt (now (s .args .file)) (s .args .at))) 10 (body s)
+
+known : (c : tie.After-header-number) → c .header-number .result ≡ header (c .before .before .before .before .before)
+known c =
+    let s = c .before .before .before .before .before .args in
+    c .header-number .ensures ∙ ap (λ (n : ℕ). headerNumber (byteAt (now (s .file)) (s .at)) n (s .shape)) (c .before .length-at .ensures .0)
+
+-- each test that is passed leaves the others
+past1 : (c : tie.Else1) → Is (c .before .before) (cond (eqb (header (c .before .before)) 0) (behind (c .before .before)) (header (c .before .before)))
+past1 c =
+    let s = c .before .before .args in
+    in-order (now (s .file)) (s .at) (s .shape) ∙ rw (le-ltb (length (now (s .file))) (s .at + 3) (c .if1 .left))
+
+past2 : (c : tie.Else2) → Is (c .before .before .before .before .before .before) (behind (c .before .before .before .before .before .before))
+past2 c = past1 (c .before .before .before .before) ∙ rw (eq-eqb _ 0 (sym (known (c .before)) ∙ c .if2 .left))
+
+past3 : (c : tie.Else3) → Is (c .before .before .before .before .before .before .before) (body (c .before .before .before .before .before .before .before))
+past3 c =
+    let s = c .before .before .before .before .before .before .before .args in
+    let h : s .at + 3 + lengthAt (now (s .file)) (s .at) ≤ length (now (s .file)) = omega (arith, c .before .before .before .length-at .ensures .0, c .if3 .left) in
+    past2 (c .before) ∙ rw (le-ltb _ _ h)
+
+add-if1 : tie.Need-add-if1
+add-if1 c = search needs
+
+returns : tie.Need-returns
+returns c =
+    let s = c .before .before .args in
+    rw (in-order (now (s .file)) (s .at) (s .shape), lt-ltb _ _ (c .if1 .taken))
+
+shared-slice-read-tag : tie.Need-shared-slice-read-tag
+shared-slice-read-tag c = search needs
+
+length-at-requires : tie.Need-length-at-requires
+length-at-requires c κs = search needs
+
+header-number-requires : tie.Need-header-number-requires
+header-number-requires c κs = search needs
+
+returns-2 : tie.Need-returns-2
+returns-2 c =
+    let e = known (c .before) in
+    rw (past1 (c .before .before .before .before), ne-eqb _ 0 (λ p. c .if2 .taken (e ∙ p))) e
+
+add-if3 : tie.Need-add-if3
+add-if3 c = search needs
+
+add-if3-2 : tie.Need-add-if3-2
+add-if3-2 c = search needs
+
+returns-3 : tie.Need-returns-3
+returns-3 c =
+    let s = c .before .before .before .before .before .before .before .args in
+    let h : length (now (s .file)) < s .at + 3 + lengthAt (now (s .file)) (s .at) = omega (arith, c .before .before .before .length-at .ensures .0, c .if3 .taken) in
+    rw (past2 (c .before), lt-ltb _ _ h)
+
+add-shape-at : tie.Need-add-shape-at
+add-shape-at c = search needs
+
+shape-at-requires : tie.Need-shape-at-requires
+shape-at-requires c κs =
+    let s = c .before .before .before .before .before .before .before .before .args in
+    let five = header-five _ _ (s .shape) (sym (c .before .before .before .header-number .ensures) ∙ c .before .before .if2 .left) (c .if4 .taken) in
+    omega (arith, five, c .before .if3 .left)
+
+shape-number-requires : tie.Need-shape-number-requires
+shape-number-requires c κs = search needs
+
+returns-4 : tie.Need-returns-4
+returns-4 c =
+    let s = c .before .before .before .before .before .before .before .before .before .before .args in
+    let shape = shapeAt (now (s .file)) (s .at + 3) in
+    rw (past3 (c .before .before .before), eq-eqb (byteAt (now (s .file)) (s .at)) 1 (c .before .before .if4 .taken), or-zero (shapeNumber shape)) (c .shape-number .ensures ∙ ap shapeNumber (c .before .shape-at .ensures))
+
+returns-5 : tie.Need-returns-5
+returns-5 c =
+    let s = c .before .before .before .before .before .before .before .before .args in
+    rw (past3 (c .before), ne-eqb (byteAt (now (s .file)) (s .at)) 1 (c .if4 .left))
+
+pub field-number-spec : {M : Type 1} → statement M
+field-number-spec =
+    tie.close
+    (tie.spec
+    add-if1
+    returns
+    shared-slice-read-tag
+    length-at-requires
+    header-number-requires
+    returns-2
+    add-if3
+    add-if3-2
+    returns-3
+    add-shape-at
+    shape-at-requires
+    shape-number-requires
+    returns-4
+    returns-5)

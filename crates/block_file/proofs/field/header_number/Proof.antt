@@ -1,0 +1,44 @@
+-- `header_number` meets its contract. Assumes nothing.
+use borrow.Author.Tests.{ne-eqb}
+use borrow.Author.Needs.{needs}
+use Rattle.block_file.specs.Field.{headerNumber}
+use Rattle.block_file.proofs.field.header_number.Statement.{statement}
+use Rattle.block_file.proofs.field.header_number.Tie as tie
+
+returns : tie.Need-returns
+unfolding headerNumber
+returns c = simp (c .before .if1 .taken, c .if2 .taken)
+
+returns-2 : tie.Need-returns-2
+unfolding headerNumber
+returns-2 c = simp (c .before .if1 .taken, ne-eqb _ _ (c .if2 .left))
+
+data-number-requires : tie.Need-data-number-requires
+data-number-requires c κs = search needs
+
+returns-3 : tie.Need-returns-3
+unfolding headerNumber
+returns-3 c = rw (c .before .if3 .taken) (c .data-number .ensures)
+
+data-number-requires-2 : tie.Need-data-number-requires-2
+data-number-requires-2 c κs = search needs
+
+returns-4 : tie.Need-returns-4
+unfolding headerNumber
+returns-4 c = rw (c .before .if4 .taken) (c .data-number2 .ensures)
+
+returns-5 : tie.Need-returns-5
+unfolding headerNumber
+returns-5 c = simp (ne-eqb _ _ (c .before .before .if1 .left), ne-eqb _ _ (c .before .if3 .left), ne-eqb _ _ (c .if4 .left))
+
+pub header-number-spec : {M : Type 1} → statement M
+header-number-spec =
+    tie.close
+    (tie.spec
+    returns
+    returns-2
+    data-number-requires
+    returns-3
+    data-number-requires-2
+    returns-4
+    returns-5)

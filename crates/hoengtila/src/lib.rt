@@ -1,0 +1,77 @@
+// The library for C and Rust: each public function of `transform` under the name and with the arguments that
+// include/hoengtila.h declares. A wrapper is one call and has the contract of what it calls; none has a `requires`, so
+// whatever numbers and lengths a caller hands over, the contract says what comes back.
+use meaning::Answer;
+use meaning::Shape;
+ghost use mathlib.Core.Path.{_≡_};
+ghost use Rattle.meaning.specs.Answer.{Outcome, forwardLineOutcome, inverseLineOutcome};
+ghost use Rattle.meaning.specs.Inverse.{inverseOutcome};
+ghost use Rattle.meaning.specs.Forward.{forwardOutcome};
+ghost use Rattle.transform.specs.Line.{weightOrZero};
+
+#[no_mangle]
+pub extern "C" fn hoengtila_weight(kind: u32, n: u32, i: u32, j: u32) -> i32
+    ensures { λ r. ⌜ r ≡ weightOrZero kind n i j ⌝ }
+{
+    transform::line::weight(kind, n, i, j)
+}
+
+#[no_mangle]
+pub extern "C" fn hoengtila_line_forward(n: u32, kind: u32, x: &[i16], y: &mut [i32]) -> Answer
+    ensures { λ r. ⌜ _≡_ {A = Outcome} (r, now (y .exit)) (forwardLineOutcome n kind (now (x .entry)) (now (y .entry))) ⌝ }
+{
+    transform::line::forward(n, kind, x, y)
+}
+
+#[no_mangle]
+pub extern "C" fn hoengtila_line_inverse(n: u32, kind: u32, x: &[i16], y: &mut [i32]) -> Answer
+    ensures { λ r. ⌜ _≡_ {A = Outcome} (r, now (y .exit)) (inverseLineOutcome n kind (now (x .entry)) (now (y .entry))) ⌝ }
+{
+    transform::line::inverse(n, kind, x, y)
+}
+
+#[no_mangle]
+pub extern "C" fn hoengtila_line_forward_product(
+    n: u32,
+    kind: u32,
+    x: &[i16],
+    y: &mut [i32],
+) -> Answer
+    ensures { λ r. ⌜ _≡_ {A = Outcome} (r, now (y .exit)) (forwardLineOutcome n kind (now (x .entry)) (now (y .entry))) ⌝ }
+{
+    transform::line::forward_product(n, kind, x, y)
+}
+
+#[no_mangle]
+pub extern "C" fn hoengtila_line_inverse_product(
+    n: u32,
+    kind: u32,
+    x: &[i16],
+    y: &mut [i32],
+) -> Answer
+    ensures { λ r. ⌜ _≡_ {A = Outcome} (r, now (y .exit)) (inverseLineOutcome n kind (now (x .entry)) (now (y .entry))) ⌝ }
+{
+    transform::line::inverse_product(n, kind, x, y)
+}
+
+#[no_mangle]
+pub extern "C" fn hoengtila_block_inverse(
+    shape: Shape,
+    coefficients: &[i16],
+    residuals: &mut [i32],
+) -> Answer
+    ensures { λ r. ⌜ _≡_ {A = Outcome} (r, now (residuals .exit)) (inverseOutcome shape (now (coefficients .entry)) (now (residuals .entry))) ⌝ }
+{
+    transform::block::inverse(shape, coefficients, residuals)
+}
+
+#[no_mangle]
+pub extern "C" fn hoengtila_block_forward(
+    shape: Shape,
+    residuals: &[i16],
+    coefficients: &mut [i16],
+) -> Answer
+    ensures { λ r. ⌜ _≡_ {A = Outcome} (r, now (coefficients .exit)) (forwardOutcome shape (now (residuals .entry)) (now (coefficients .entry))) ⌝ }
+{
+    transform::block::forward(shape, residuals, coefficients)
+}

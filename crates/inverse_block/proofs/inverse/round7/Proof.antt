@@ -1,0 +1,14 @@
+-- `inverse::round7` meets its contract. Assumes nothing.
+use mir.Syntax.{w32}
+use Rattle.algebra.proofs.Machine.{arg≤, lit, add, shr, add-fits, val}
+use Rattle.inverse_block.proofs.inverse.round7.Statement.{statement}
+use Rattle.inverse_block.proofs.inverse.round7.Tie as tie
+
+add-result : tie.Need-add-result
+add-result c = add-fits (arg≤ (c .fits .e) (c .pre)) (lit w32 64) tt
+
+returns : tie.Need-returns
+returns c = val (shr (add (arg≤ (c .fits .e) (c .pre)) (lit w32 64) tt) 128 tt)
+
+pub round7-spec : {M : Type 1} → statement M
+round7-spec = tie.close (tie.spec add-result returns)

@@ -1,0 +1,3 @@
+// Internal: the work behind `transform::block::inverse`, for calls that its tests have passed, so with a `requires`: the hunt
+// for refusal 8, then columns into middle values, then rows into residuals. Nothing but `transform` depends on it.
+pub mod inverse;

@@ -1,0 +1,15 @@
+-- `kept_columns` meets its contract. Assumes nothing.
+use borrow.Author.Needs.{needs}
+use Rattle.meaning.specs.Shape.{keptColumns}
+use Rattle.meaning.proofs.kept_columns.Statement.{statement}
+use Rattle.meaning.proofs.kept_columns.Tie as tie
+
+kept-requires : tie.Need-kept-requires
+kept-requires c κs = search needs
+
+returns : tie.Need-returns
+unfolding keptColumns
+returns c = c .kept .ensures
+
+pub kept-columns-spec : {M : Type 1} → statement M
+kept-columns-spec = tie.close (tie.spec kept-requires returns)

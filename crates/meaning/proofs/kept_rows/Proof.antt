@@ -1,0 +1,15 @@
+-- `kept_rows` meets its contract. Assumes nothing.
+use borrow.Author.Needs.{needs}
+use Rattle.meaning.specs.Shape.{keptRows}
+use Rattle.meaning.proofs.kept_rows.Statement.{statement}
+use Rattle.meaning.proofs.kept_rows.Tie as tie
+
+kept-requires : tie.Need-kept-requires
+kept-requires c κs = search needs
+
+returns : tie.Need-returns
+unfolding keptRows
+returns c = c .kept .ensures
+
+pub kept-rows-spec : {M : Type 1} → statement M
+kept-rows-spec = tie.close (tie.spec kept-requires returns)

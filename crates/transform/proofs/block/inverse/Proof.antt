@@ -1,0 +1,113 @@
+-- `block::inverse` meets its contract: the refusals in their order, then the stages. Assumes nothing.
+use borrow.Author.Needs.{needs}
+use native.Mathlib.Omega.{arith}
+use mathlib.Core.Path.{_≡_, sym, ap, _∙_}
+use mathlib.Core.Bool.{true, false}
+use mathlib.Core.List.{List, [], _∷_, _++_}
+use Prim.Native.Nat.{ℕ, _*_, _≤_}
+use native.Mathlib.Nat.{mul-le-mul}
+use borrow.Author.Tests.{lt-ltb, le-ltb}
+use lib.Dec.{ltb}
+use lib.ListN.{length}
+use Rattle.algebra.specs.Refusals.{Refusal, firstOf, numberOf}
+use Rattle.algebra.proofs.Refusals.{refused-first, passed-first}
+use Rattle.meaning.specs.declared.Answer.{Answer}
+use Rattle.meaning.specs.Answer.{Outcome, refused, accepted, shapeTests, lengthTests}
+use Rattle.meaning.specs.Inverse.{rails, inverseBlock, firstOutside, inverseOutcome}
+use Rattle.meaning.proofs.Cases.{size-in}
+use Rattle.meaning.proofs.Accepted.{Whole, whole-of}
+use Rattle.transform.proofs.block.inverse.Statement.{statement}
+use Rattle.transform.proofs.block.inverse.Tie as tie
+
+-- 1 to 7, 8, and what a call hands back at either end
+abbrev seven : tie.Start → List Refusal
+seven s = shapeTests (s .args .shape) ++ lengthTests (s .args .shape .width * s .args .shape .height) (length (s .args .coefficients .now)) (length (s .args .residuals .now))
+
+abbrev place : tie.Start → ℕ
+place s = firstOutside (s .args .shape) (s .args .coefficients .now)
+
+abbrev eight : tie.Start → List Refusal
+eight s = record { applies = ltb (place s) (length (s .args .coefficients .now)); number = 8; place = place s } ∷ []
+
+abbrev refuse : tie.Start → ℕ → ℕ → Outcome
+refuse s number place = (refused number place, s .args .residuals .now)
+
+abbrev done : tie.Start → Outcome
+done s = (accepted (rails (s .args .shape) (s .args .coefficients .now)), inverseBlock (s .args .shape) (s .args .coefficients .now))
+
+passed : (c : tie.Else1) → numberOf (seven (c .before .before)) ≡ 0
+passed c = sym (c .before .block-refusal .ensures) ∙ c .if1 .left
+
+past : (c : tie.Else1) → let s = c .before .before in inverseOutcome (s .args .shape) (s .args .coefficients .now) (s .args .residuals .now) ≡ firstOf (eight s) (refuse s) (done s)
+past c = let s = c .before .before in passed-first (eight s) (refuse s) (done s) (seven s) tt (passed c)
+
+taken : (c : tie.Else1) → let s = c .before .before in Whole (s .args .shape) (s .args .coefficients .now) (s .args .residuals .now)
+taken c = let s = c .before .before in whole-of (s .args .shape) (s .args .coefficients .now) (s .args .residuals .now) (passed c)
+
+block-refusal-requires : tie.Need-block-refusal-requires
+block-refusal-requires c κs = search needs
+
+refusal-requires : tie.Need-refusal-requires
+refusal-requires c κs = search needs
+
+returns : tie.Need-returns
+returns c =
+    let s = c .before .before .before in
+    let n = c .before .before .block-refusal .ensures in
+    ap (λ (a : Answer). (a, s .args .residuals .now)) (c .refusal .ensures) ∙ ap (λ (n : ℕ). refuse s n 0) n
+    ∙ sym (refused-first (eight s) (refuse s) (done s) (seven s) tt (λ e. c .before .if1 .taken (n ∙ e)))
+
+hunt-requires : tie.Need-hunt-requires
+hunt-requires c κs = taken c .long
+
+cast-refusal : tie.Need-cast-refusal
+cast-refusal c =
+    let s = c .before .before .before .before in
+    let w = taken (c .before .before) in
+    let m : s .args .shape .width * s .args .shape .height ≤ 32 * 32 = mul-le-mul (size-in (s .args .shape .width) (w .taken .width)) (size-in (s .args .shape .height) (w .taken .height)) in
+    omega (arith, c .if2 .taken, w .long)
+
+refusal-requires-2 : tie.Need-refusal-requires-2
+refusal-requires-2 c κs = search needs
+
+returns-2 : tie.Need-returns-2
+returns-2 c =
+    let s = c .before .before .before .before .before in
+    let h = c .before .before .hunt .ensures .0 in
+    let l : ltb (place s) (length (s .args .coefficients .now)) ≡ true = lt-ltb (place s) (length (s .args .coefficients .now)) (omega (arith, h, c .before .if2 .taken)) in
+    ap (λ (a : Answer). (a, s .args .residuals .now)) (c .refusal2 .ensures) ∙ ap (λ (n : ℕ). refuse s 8 n) h
+    ∙ sym (past (c .before .before .before) ∙ rw l)
+
+stages-requires : tie.Need-stages-requires
+stages-requires c κs = (taken (c .before .before .before), c .before .before .hunt .ensures .1 (c .before .if2 .left))
+
+acceptance-requires : tie.Need-acceptance-requires
+acceptance-requires c κs = search needs
+
+same-length : tie.Need-same-length
+same-length c = search needs
+
+returns-3 : tie.Need-returns-3
+returns-3 c =
+    let s = c .before .before .before .before .before .before .before .before in
+    let h = c .before .before .before .before .before .hunt .ensures .0 in
+    let l : ltb (place s) (length (s .args .coefficients .now)) ≡ false = le-ltb (place s) (length (s .args .coefficients .now)) (omega (arith, h, c .before .before .before .before .if2 .left)) in
+    let e = c .before .before .stages .ensures in
+    (λ i. (c .acceptance .ensures i, e .1 i)) ∙ ap (λ (n : ℕ). (accepted n, inverseBlock (s .args .shape) (s .args .coefficients .now))) (e .0)
+    ∙ sym (past (c .before .before .before .before .before .before) ∙ rw l)
+
+pub inverse-spec : {M : Type 1} → statement M
+inverse-spec =
+    tie.close
+    (tie.spec
+    block-refusal-requires
+    refusal-requires
+    returns
+    hunt-requires
+    cast-refusal
+    refusal-requires-2
+    returns-2
+    stages-requires
+    acceptance-requires
+    same-length
+    returns-3)

@@ -1,0 +1,173 @@
+// Lines: the weights one by one, and lines of 4, 8, 16 and 32 points. `forward` and `inverse` go the fast path,
+// `forward_product` and `inverse_product` the full product; the two of a direction have one contract.
+use crate::check::acceptance;
+use crate::check::line_refusal;
+use crate::check::refusal;
+use engine::fast::fast;
+use engine::product::entry;
+use engine::product::product;
+use meaning::Answer;
+use meaning::is_kind;
+use meaning::is_size;
+use tables::weights_4;
+use tables::weights_8;
+use tables::weights_16;
+use tables::weights_32;
+ghost use mathlib.Core.Path.{_≡_};
+ghost use mathlib.Core.Bool.{true};
+ghost use lib.ListN.{length};
+ghost use Rattle.algebra.specs.Lists.{at};
+ghost use Rattle.algebra.specs.Refusals.{numberOf};
+ghost use Rattle.meaning.specs.Weights.{weight};
+ghost use Rattle.meaning.specs.Answer.{Outcome, lineTests, forwardLineOutcome, inverseLineOutcome};
+ghost use Rattle.engine.specs.Lines.{Given, line};
+ghost use Rattle.transform.specs.Line.{isPlace, weightOrZero, lineOutcome};
+
+fn is_place(kind: u32, n: u32, i: u32, j: u32) -> bool
+    ensures { λ r. ⌜ r ≡ isPlace kind n i j ⌝ }
+{
+    if !is_kind(kind) {
+        return false;
+    }
+    if !is_size(n) {
+        return false;
+    }
+    if i >= n {
+        return false;
+    }
+    j < n
+}
+
+// The weight from the one table of n points.
+fn known_weight(kind: u32, n: u32, i: u32, j: u32) -> i32
+    requires { ⌜ isPlace kind n i j ≡ true ⌝ }
+    ensures { λ r. ⌜ r ≡ weight kind n i j ⌝ }
+{
+    if n == 4 {
+        let t = weights_4();
+        return entry(&t, 4, kind, i as usize, j as usize);
+    }
+    if n == 8 {
+        let t = weights_8();
+        return entry(&t, 8, kind, i as usize, j as usize);
+    }
+    if n == 16 {
+        let t = weights_16();
+        return entry(&t, 16, kind, i as usize, j as usize);
+    }
+    let t = weights_32();
+    entry(&t, 32, kind, i as usize, j as usize)
+}
+
+/// The weight in row i and column j of the matrix of n points; 0 where there is no such kind, size, row or column.
+pub fn weight(kind: u32, n: u32, i: u32, j: u32) -> i32
+    ensures { λ r. ⌜ r ≡ weightOrZero kind n i j ⌝ }
+{
+    if !is_place(kind, n, i, j) {
+        return 0;
+    }
+    known_weight(kind, n, i, j)
+}
+
+// All n inputs, on a table lent to it.
+fn run(t: &[i16], n: usize, kind: u32, forward: bool, quick: bool, x: &[i16], y: &mut [i32])
+    requires { ⌜ Given n kind forward n 0 1 (now t) (now x) (now y) ⌝ }
+    ensures { λ _. ⌜ now (y .exit) ≡ line forward kind n n (at (now (x .entry))) ⌝ }
+{
+    if quick {
+        fast(t, n, kind, forward, x, 0, 1, n, y);
+    } else {
+        product(t, n, kind, forward, x, 0, 1, n, y);
+    }
+}
+
+// A line that was accepted: the one table of its size is lent to it.
+fn accepted_line(n: u32, kind: u32, forward: bool, quick: bool, x: &[i16], y: &mut [i32])
+    requires { ⌜ numberOf (lineTests n kind (length (now x)) (length (now y))) ≡ 0 ⌝ }
+    ensures { λ _. ⌜ now (y .exit) ≡ line forward kind n n (at (now (x .entry))) ⌝ }
+{
+    if n == 4 {
+        let t = weights_4();
+        run(&t, 4, kind, forward, quick, x, y);
+        return;
+    }
+    if n == 8 {
+        let t = weights_8();
+        run(&t, 8, kind, forward, quick, x, y);
+        return;
+    }
+    if n == 16 {
+        let t = weights_16();
+        run(&t, 16, kind, forward, quick, x, y);
+        return;
+    }
+    let t = weights_32();
+    run(&t, 32, kind, forward, quick, x, y);
+}
+
+// Any numbers and any buffers: the first refusal that applies, or the line.
+fn total(n: u32, kind: u32, forward: bool, quick: bool, x: &[i16], y: &mut [i32]) -> Answer
+    ensures { λ r. ⌜ _≡_ {A = Outcome} (r, now (y .exit)) (lineOutcome forward n kind (now (x .entry)) (now (y .entry))) ⌝ }
+{
+    let number = line_refusal(n, kind, x.len(), y.len());
+    if number != 0 {
+        return refusal(number, 0);
+    }
+    accepted_line(n, kind, forward, quick, x, y);
+    acceptance(0)
+}
+
+/// The forward line by the fast path.
+pub fn forward(n: u32, kind: u32, x: &[i16], y: &mut [i32]) -> Answer
+    ensures { λ r. ⌜ _≡_ {A = Outcome} (r, now (y .exit)) (forwardLineOutcome n kind (now (x .entry)) (now (y .entry))) ⌝ }
+{
+    total(n, kind, true, true, x, y)
+}
+
+/// The forward line by the full product.
+pub fn forward_product(n: u32, kind: u32, x: &[i16], y: &mut [i32]) -> Answer
+    ensures { λ r. ⌜ _≡_ {A = Outcome} (r, now (y .exit)) (forwardLineOutcome n kind (now (x .entry)) (now (y .entry))) ⌝ }
+{
+    total(n, kind, true, false, x, y)
+}
+
+/// The inverse line by the fast path.
+pub fn inverse(n: u32, kind: u32, x: &[i16], y: &mut [i32]) -> Answer
+    ensures { λ r. ⌜ _≡_ {A = Outcome} (r, now (y .exit)) (inverseLineOutcome n kind (now (x .entry)) (now (y .entry))) ⌝ }
+{
+    total(n, kind, false, true, x, y)
+}
+
+/// The inverse line by the full product.
+pub fn inverse_product(n: u32, kind: u32, x: &[i16], y: &mut [i32]) -> Answer
+    ensures { λ r. ⌜ _≡_ {A = Outcome} (r, now (y .exit)) (inverseLineOutcome n kind (now (x .entry)) (now (y .entry))) ⌝ }
+{
+    total(n, kind, false, false, x, y)
+}
+
+/// What both paths of a direction hand back.
+#[repr(C)]
+pub struct Both {
+    pub fast: Answer,
+    pub full: Answer,
+}
+
+/// The forward line by both paths, each into its own buffer: equal buffers come back equal, with equal answers.
+pub fn forward_both(n: u32, kind: u32, x: &[i16], y: &mut [i32], z: &mut [i32]) -> Both
+    ensures { λ r. ⌜ _≡_ {A = Outcome × Outcome} ((r .fast, now (y .exit)), (r .full, now (z .exit))) (forwardLineOutcome n kind (now (x .entry)) (now (y .entry)), forwardLineOutcome n kind (now (x .entry)) (now (z .entry))) ⌝ }
+    ensures agree { λ r. ⌜ (now (y .entry) ≡ now (z .entry) → _≡_ {A = Outcome} (r .fast, now (y .exit)) (r .full, now (z .exit))) ⌝ }
+{
+    let fast = forward(n, kind, x, y);
+    let full = forward_product(n, kind, x, z);
+    Both { fast, full }
+}
+
+/// The inverse line by both paths, likewise.
+pub fn inverse_both(n: u32, kind: u32, x: &[i16], y: &mut [i32], z: &mut [i32]) -> Both
+    ensures { λ r. ⌜ _≡_ {A = Outcome × Outcome} ((r .fast, now (y .exit)), (r .full, now (z .exit))) (inverseLineOutcome n kind (now (x .entry)) (now (y .entry)), inverseLineOutcome n kind (now (x .entry)) (now (z .entry))) ⌝ }
+    ensures agree { λ r. ⌜ (now (y .entry) ≡ now (z .entry) → _≡_ {A = Outcome} (r .fast, now (y .exit)) (r .full, now (z .exit))) ⌝ }
+{
+    let fast = inverse(n, kind, x, y);
+    let full = inverse_product(n, kind, x, z);
+    Both { fast, full }
+}

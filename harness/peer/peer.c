@@ -1,0 +1,110 @@
+/* Runs the library for a test program on the other side of a pipe, so that a machine that cannot link the archive can
+ * still test it. A request is a call's name as one number and its arguments, a reply what the call hands back and what
+ * its output then holds; numbers as the machine has them, little end first on both sides. */
+#include "hoengtila.h"
+
+#include <stdio.h>
+#include <stdlib.h>
+
+enum { MOST = 4096 };
+enum { WEIGHT, LINE_FORWARD, LINE_INVERSE, LINE_FORWARD_PRODUCT, LINE_INVERSE_PRODUCT, BLOCK_INVERSE, BLOCK_FORWARD };
+
+/* an output has one number more than the library is told of, which is to stay as it is */
+enum { BEYOND = 0x5A5A };
+static int16_t in16[MOST];
+static int16_t out16[MOST + 1];
+static int32_t out32[MOST + 1];
+
+static void get(void *to, size_t size, size_t count) {
+    if (fread(to, size, count, stdin) != count) exit(1);
+}
+
+static uint32_t number(void) {
+    uint32_t n;
+    get(&n, sizeof n, 1);
+    return n;
+}
+
+static uint32_t length(void) {
+    uint32_t n = number();
+    if (n > MOST) exit(2);
+    return n;
+}
+
+/* Field by field and by name, as a caller does it: the order of the fields is the header's affair. */
+static hoengtila_shape shape(void) {
+    hoengtila_shape s;
+    s.width = number();
+    s.height = number();
+    s.horizontal = number();
+    s.vertical = number();
+    s.depth = number();
+    return s;
+}
+
+static void put(const void *from, size_t size, size_t count) {
+    if (fwrite(from, size, count, stdout) != count) exit(1);
+}
+
+static void put_answer(hoengtila_answer a) {
+    put(&a.number, sizeof a.number, 1);
+    put(&a.place, sizeof a.place, 1);
+    put(&a.rails, sizeof a.rails, 1);
+}
+
+static void weight(void) {
+    uint32_t kind = number(), n = number(), i = number(), j = number();
+    int32_t w = hoengtila_weight(kind, n, i, j);
+    put(&w, sizeof w, 1);
+}
+
+static void line(uint32_t call) {
+    uint32_t n = number(), kind = number(), in = length(), out = length();
+    hoengtila_answer a;
+    get(in16, sizeof *in16, in);
+    get(out32, sizeof *out32, out);
+    out32[out] = BEYOND;
+    switch (call) {
+    case LINE_FORWARD: a = hoengtila_line_forward(n, kind, in16, in, out32, out); break;
+    case LINE_INVERSE: a = hoengtila_line_inverse(n, kind, in16, in, out32, out); break;
+    case LINE_FORWARD_PRODUCT: a = hoengtila_line_forward_product(n, kind, in16, in, out32, out); break;
+    default: a = hoengtila_line_inverse_product(n, kind, in16, in, out32, out); break;
+    }
+    if (out32[out] != BEYOND) exit(3);
+    put_answer(a);
+    put(out32, sizeof *out32, out);
+}
+
+static void block(uint32_t call) {
+    hoengtila_shape s = shape();
+    uint32_t in = length(), out = length();
+    hoengtila_answer a;
+    get(in16, sizeof *in16, in);
+    if (call == BLOCK_INVERSE) {
+        get(out32, sizeof *out32, out);
+        out32[out] = BEYOND;
+        a = hoengtila_block_inverse(s, in16, in, out32, out);
+        if (out32[out] != BEYOND) exit(3);
+        put_answer(a);
+        put(out32, sizeof *out32, out);
+    } else {
+        get(out16, sizeof *out16, out);
+        out16[out] = BEYOND;
+        a = hoengtila_block_forward(s, in16, in, out16, out);
+        if (out16[out] != BEYOND) exit(3);
+        put_answer(a);
+        put(out16, sizeof *out16, out);
+    }
+}
+
+int main(void) {
+    uint32_t call;
+    while (fread(&call, sizeof call, 1, stdin) == 1) {
+        if (call == WEIGHT) weight();
+        else if (call <= LINE_INVERSE_PRODUCT) line(call);
+        else if (call <= BLOCK_FORWARD) block(call);
+        else return 2;
+        fflush(stdout);
+    }
+    return 0;
+}

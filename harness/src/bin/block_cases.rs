@@ -1,0 +1,235 @@
+//! Prints the file `crates/block_cases/stdout`: the lines of the program `block_cases`, with what the model gives.
+//! The cases stand here as in the program's source and in its order; its head says what a line holds.
+
+use hoengtila_harness::model::{forward, inverse, Answer, Shape};
+
+/// What every buffer has room for.
+const ROOM: usize = 1024;
+
+/// What an output holds before a call: these two by turns.
+const MARKS: [i64; 2] = [1234, -4321];
+
+const SIDES: [i64; 4] = [4, 8, 16, 32];
+
+#[derive(Clone, Copy)]
+enum Direction {
+    Inverse,
+    Forward,
+}
+
+use Direction::{Forward, Inverse};
+
+impl Direction {
+    fn name(self) -> &'static str {
+        match self {
+            Inverse => "inverse",
+            Forward => "forward",
+        }
+    }
+
+    fn run(self, shape: &Shape, input: &[i64], output: &mut [i64]) -> Answer {
+        match self {
+            Inverse => inverse(shape, input, output),
+            Forward => forward(shape, input, output),
+        }
+    }
+}
+
+/// The two numbers by turns in each row and column of the first `kept`, and 0 elsewhere.
+fn filled(width: i64, kept: usize, turns: [i64; 2]) -> Vec<i64> {
+    let width = width as usize;
+    let number = |place| {
+        let (x, y) = (place % width, place / width);
+        if x < kept && y < kept {
+            turns[(x + y) % 2]
+        } else {
+            0
+        }
+    };
+    (0..ROOM).map(number).collect()
+}
+
+/// Width, height, both kinds, depth.
+type Sides = [i64; 5];
+
+/// Calls on the first `input` numbers of the block, with `output` marks for the output, and prints the line.
+fn line(
+    direction: Direction,
+    sides: Sides,
+    what: &str,
+    block: &[i64],
+    [input, output]: [usize; 2],
+) {
+    let [width, height, horizontal, vertical, depth] = sides;
+    let shape = Shape::new(width, height, horizontal, vertical, depth);
+    let before = filled(32, 32, MARKS)[..output].to_vec();
+    let mut after = before.clone();
+    let answer = direction.run(&shape, &block[..input], &mut after);
+    let name = direction.name();
+    print!("{what}: {name} {width} {height} {horizontal} {vertical} {depth},");
+    print!(" {input} to {output}:");
+    print!(" {} {} {},", answer.number, answer.place, answer.rails);
+    let changed = (0..output).filter(|&k| before[k] != after[k]).count();
+    print!(" {changed} changed");
+    print_numbers(&after);
+    println!();
+}
+
+fn print_numbers(numbers: &[i64]) {
+    let sum: i64 = numbers.iter().sum();
+    let placed: i64 = (1..).zip(numbers).map(|(place, n)| place * n).sum();
+    print!(" {sum} {placed}");
+    if numbers.len() == 16 {
+        print!(" all");
+        numbers.iter().for_each(|n| print!(" {n}"));
+    }
+}
+
+/// A call of a block of which at most two numbers are not 0: its shape, the lengths of input and output, and the
+/// places of the first number and of the second, which is the one that stands where both are the same.
+type Row = (Sides, [usize; 2], [usize; 2]);
+
+const ITEM_7: &[Row] = &[([4, 4, 1, 1, 10], [16, 16], [4, 8])];
+
+const ITEM_8: &[Row] = &[([4, 4, 1, 1, 10], [16, 16], [0, 1])];
+
+const ITEM_9: &[Row] = &[
+    ([32, 4, 1, 1, 8], [128, 128], [15, 15]),
+    ([32, 4, 1, 1, 8], [128, 128], [16, 16]),
+];
+
+const ITEM_10: &[Row] = &[([5, 4, 0, 0, 7], [20, 20], [0, 0])];
+
+/// 1 to 7: one thing is wrong in each.
+const ALONE: &[Row] = &[
+    ([5, 4, 1, 1, 8], [20, 20], [0, 0]),
+    ([0, 4, 1, 1, 8], [0, 0], [0, 0]),
+    ([2, 4, 1, 1, 8], [8, 8], [0, 0]),
+    ([64, 4, 1, 1, 8], [256, 256], [0, 0]),
+    ([4294967295, 4, 1, 1, 8], [16, 16], [0, 0]),
+    ([4, 5, 1, 1, 8], [20, 20], [0, 0]),
+    ([4, 0, 1, 1, 8], [0, 0], [0, 0]),
+    ([4, 2, 1, 1, 8], [8, 8], [0, 0]),
+    ([4, 64, 1, 1, 8], [256, 256], [0, 0]),
+    ([4, 4294967295, 1, 1, 8], [16, 16], [0, 0]),
+    ([4, 4, 0, 1, 8], [16, 16], [0, 0]),
+    ([4, 4, 3, 1, 8], [16, 16], [0, 0]),
+    ([4, 4, 1, 0, 8], [16, 16], [0, 0]),
+    ([4, 4, 1, 3, 8], [16, 16], [0, 0]),
+    ([4, 4, 1, 1, 7], [16, 16], [0, 0]),
+    ([4, 4, 1, 1, 13], [16, 16], [0, 0]),
+    ([4, 4, 1, 1, 8], [15, 16], [0, 0]),
+    ([4, 4, 1, 1, 8], [17, 16], [0, 0]),
+    ([4, 4, 1, 1, 8], [16, 15], [0, 0]),
+    ([4, 4, 1, 1, 8], [16, 17], [0, 0]),
+];
+
+/// Everything is wrong, then all but the width, and so on.
+const ORDER: &[Row] = &[
+    ([5, 5, 0, 3, 13], [17, 18], [16, 16]),
+    ([32, 5, 0, 3, 13], [17, 18], [16, 16]),
+    ([32, 4, 0, 3, 13], [17, 18], [16, 16]),
+    ([32, 4, 1, 3, 13], [17, 18], [16, 16]),
+    ([32, 4, 1, 2, 13], [17, 18], [16, 16]),
+    ([32, 4, 1, 2, 12], [17, 18], [16, 16]),
+    ([32, 4, 1, 2, 12], [128, 18], [16, 16]),
+    ([32, 4, 1, 2, 12], [128, 128], [16, 16]),
+];
+
+/// The places of 8.
+const OUTSIDE: &[Row] = &[
+    ([32, 4, 2, 1, 9], [128, 128], [31, 31]),
+    ([32, 4, 2, 1, 9], [128, 128], [117, 50]),
+    ([32, 4, 2, 1, 9], [128, 128], [111, 0]),
+    ([8, 32, 2, 1, 9], [256, 256], [128, 128]),
+    ([8, 32, 2, 1, 9], [256, 256], [255, 130]),
+    ([8, 32, 2, 1, 9], [256, 256], [127, 0]),
+    ([32, 32, 1, 2, 10], [1024, 1024], [512, 496]),
+    ([32, 32, 1, 2, 10], [1024, 1024], [1023, 495]),
+    ([32, 32, 1, 2, 10], [1024, 1024], [495, 0]),
+];
+
+/// The places of 9.
+const SMALL: &[Row] = &[([4, 8, 1, 2, 8], [32, 32], [30, 7])];
+
+const LARGE: &[Row] = &[([32, 32, 2, 2, 12], [1024, 1024], [1023, 1000])];
+
+fn rows(direction: Direction, number: i64, other: i64, table: &[Row]) {
+    for &(sides, lengths, [place, next]) in table {
+        let mut block = vec![0; ROOM];
+        block[place] = number;
+        block[next] = other;
+        let what = format!("at {place} {number}, at {next} {other}");
+        line(direction, sides, &what, &block, lengths);
+    }
+}
+
+fn items() {
+    for n in [21063, 21064, 21066] {
+        rows(Inverse, 32767, n, ITEM_7);
+    }
+    rows(Inverse, 64, 0, ITEM_8);
+    rows(Inverse, 1000, 1000, ITEM_9);
+    rows(Inverse, 0, 0, ITEM_10);
+    rows(Forward, 0, 0, ITEM_10);
+}
+
+fn refusals(direction: Direction) {
+    rows(direction, 0, 0, ALONE);
+    rows(direction, 4096, 4096, ORDER);
+}
+
+fn outside() {
+    rows(Inverse, 1, -1, OUTSIDE);
+    rows(Inverse, -32768, 32767, OUTSIDE);
+}
+
+fn too_large() {
+    for (number, other) in [(-256, 256), (256, -255), (-255, -32768), (255, -255)] {
+        rows(Forward, number, other, SMALL);
+    }
+    for (number, other) in [(4096, -4096), (-4096, 4095), (-4095, 4095)] {
+        rows(Forward, number, other, LARGE);
+    }
+}
+
+/// All high, all low, and by turns.
+fn blocks(direction: Direction, sides: Sides, kept: usize, [low, high]: [i64; 2]) {
+    let area = (sides[0] * sides[1]) as usize;
+    let every = [
+        ("high", [high, high]),
+        ("low", [low, low]),
+        ("by turns", [high, low]),
+    ];
+    for (what, turns) in every {
+        let block = filled(sides[0], kept, turns);
+        line(direction, sides, what, &block, [area, area]);
+    }
+}
+
+/// Every width, height and pair of kinds.
+fn shapes(direction: Direction, depth: i64, kept: usize, ends: [i64; 2]) {
+    for [w, h] in SIDES.into_iter().flat_map(|w| SIDES.map(|h| [w, h])) {
+        for [x, y] in [[1, 1], [1, 2], [2, 1], [2, 2]] {
+            blocks(direction, [w, h, x, y, depth], kept, ends);
+        }
+    }
+}
+
+fn main() {
+    items();
+    refusals(Inverse);
+    outside();
+    refusals(Forward);
+    too_large();
+    let ends = [-32768, 32767];
+    blocks(Inverse, [4, 4, 1, 1, 10], 16, ends);
+    for depth in [8, 12] {
+        shapes(Inverse, depth, 16, ends);
+    }
+    blocks(Forward, [4, 4, 1, 1, 8], 32, [-256, 256]);
+    for depth in 8..=12 {
+        let largest = (1 << depth) - 1;
+        shapes(Forward, depth, 32, [-largest, largest]);
+    }
+}

@@ -1,0 +1,427 @@
+//! Prints a file of theorems, one for each case: the definitions that contracts cite give what the
+//! model gives. `tests/definitions` has the checker prove them.
+//!
+//! Where the definitions and the model differ, a theorem is false and the checker refuses it.
+
+use hoengtila_harness::model::block::middle;
+use hoengtila_harness::model::weights::weight;
+use hoengtila_harness::model::{self, Answer, Shape};
+use hoengtila_harness::random::{seed, Random, SEED_VARIABLE};
+use hoengtila_harness::wrong::{Wrong, NO_DEPTH, NO_KIND, NO_SIZE};
+
+const SIZES: [i64; 4] = [4, 8, 16, 32];
+const SIXTEEN_BITS: [i64; 2] = [-32768, 32767];
+
+/// What the file needs of the definitions' own files.
+const HEAD: &str = "\
+use mathlib.Core.Path.{_≡_, refl}
+use mathlib.Core.List.{List, [], _∷_}
+use lib.IntN.{ℤ, pos, negsuc}
+use Rattle.algebra.specs.Sum.{sum, sumℕ}
+use Rattle.algebra.specs.Lists.{tabulate, block}
+use Rattle.algebra.specs.First.{firstAt}
+use Rattle.meaning.specs.Weights.{first, fold, S, C, weight}
+use Rattle.meaning.specs.Line.{forwardSum, inverseSum, forwardLine, inverseLine}
+use Rattle.meaning.specs.Shape.{isSize, isKind, isDepth, keptColumns, keptRows, range, lastShift}
+use Rattle.meaning.specs.Answer.{forwardLineOutcome, inverseLineOutcome}
+use Rattle.meaning.specs.Inverse.{columnSum, middle, middleAt, rails, rowSum, residual, inverseBlock, inverseOutcome}
+use Rattle.meaning.specs.Forward.{rowValue, columnValue, coefficient, forwardBlock, forwardOutcome}
+";
+
+/// The definitions that the checker opens only where a proof names them.
+const WEIGHTS: &str = "first fold S C weight tabulate block";
+const MIDDLE: &str = "range";
+const LINE: &str = "first fold S C weight sum tabulate isSize isKind \
+    forwardSum inverseSum forwardLine inverseLine";
+const BLOCK: &str = "first fold S C weight sum sumℕ tabulate block firstAt isSize isKind isDepth keptColumns keptRows \
+    range lastShift forwardSum inverseSum columnSum middleAt rails rowSum residual inverseBlock \
+    rowValue columnValue coefficient forwardBlock";
+
+// ---- writing terms
+
+fn integer(z: i64) -> String {
+    if z >= 0 {
+        format!("pos {z}")
+    } else {
+        format!("negsuc {}", -z - 1)
+    }
+}
+
+fn list(numbers: &[i64]) -> String {
+    let items: String = numbers.iter().map(|z| integer(*z) + " ∷ ").collect();
+    format!("({items}[])")
+}
+
+fn shape_term(shape: &Shape) -> String {
+    format!(
+        "(record {{ width = {}; height = {}; horizontal = {}; vertical = {}; depth = {} }})",
+        shape.width, shape.height, shape.horizontal, shape.vertical, shape.depth
+    )
+}
+
+fn outcome_term(answer: &Answer, output: &[i64]) -> String {
+    format!(
+        "(record {{ number = {}; place = {}; rails = {} }}, {})",
+        answer.number,
+        answer.place,
+        answer.rails,
+        list(output)
+    )
+}
+
+// ---- the file of theorems
+
+struct Theorems {
+    text: String,
+    count: usize,
+    random: Random,
+    /// how many cases have each number, 0 to 9, and how many have a rail count above 0
+    met: [usize; 10],
+    railed: usize,
+}
+
+impl Theorems {
+    fn new(seed: u64) -> Theorems {
+        Theorems {
+            text: String::new(),
+            count: 0,
+            random: Random::new(seed),
+            met: [0; 10],
+            railed: 0,
+        }
+    }
+
+    /// One theorem: both sides compute to the same.
+    fn state(&mut self, unfolding: &str, left: &str, right: &str) {
+        self.count += 1;
+        let name = format!("case{}", self.count);
+        self.text +=
+            &format!("\n{name} : {left} ≡ {right}\nunfolding {unfolding}\n{name} = refl\n");
+    }
+
+    /// One theorem of a call: its answer and what its output holds then.
+    fn state_outcome(&mut self, unfolding: &str, call: &str, answer: &Answer, output: &[i64]) {
+        self.met[answer.number as usize] += 1;
+        self.railed += usize::from(answer.rails > 0);
+        self.state(unfolding, call, &outcome_term(answer, output));
+    }
+
+    /// The cases of one kind, under a line that says how many there are.
+    fn section(&mut self, title: &str, cases: impl Fn(&mut Theorems)) {
+        let before = (self.count, std::mem::take(&mut self.text));
+        cases(self);
+        let count = self.count - before.0;
+        self.text = format!("{}\n-- {count} {title}\n{}", before.1, self.text);
+    }
+
+    /// How often each refusal was met. An answer that no case has would be compared by nothing.
+    fn met_line(&self) -> String {
+        assert!(self.met.iter().all(|count| *count > 0) && self.railed > 0);
+        let counts = self.met[1..].iter().map(|count| format!(" {count}"));
+        let counts: String = counts.collect();
+        format!(
+            "-- refused with 1 to 9:{counts}; rail count above 0: {}",
+            self.railed
+        )
+    }
+}
+
+// ---- one case of each kind
+
+#[derive(Clone, Copy)]
+enum Direction {
+    Forward,
+    Inverse,
+}
+use Direction::{Forward, Inverse};
+
+impl Direction {
+    fn word(self) -> &'static str {
+        match self {
+            Forward => "forward",
+            Inverse => "inverse",
+        }
+    }
+
+    /// The least and the largest number that a block of depth `d` takes in this direction.
+    fn ends(self, d: i64) -> [i64; 2] {
+        match self {
+            Forward => [1 - (1 << d), (1 << d) - 1],
+            Inverse => SIXTEEN_BITS,
+        }
+    }
+}
+
+/// Every weight of a kind and size, row by row.
+fn weights_case(t: &mut Theorems, kind: i64, n: i64) {
+    let points = n as usize;
+    let rows = (0..points).flat_map(|i| (0..points).map(move |j| weight(kind, points, i, j)));
+    let left = format!("block {n} {n} (λ j i. weight {kind} {n} i j)");
+    t.state(WEIGHTS, &left, &list(&rows.collect::<Vec<i64>>()));
+}
+
+/// The middle value of a sum e, at any shape.
+fn middle_case(t: &mut Theorems, e: i64) {
+    let shape = shape_term(&Shape::new(4, 4, 1, 1, 8));
+    let left = format!("middle (range {shape}) ({})", integer(e));
+    t.state(MIDDLE, &left, &integer(middle(e)));
+}
+
+/// A line's outcome, its output holding `held` before the call.
+fn line_case(t: &mut Theorems, direction: Direction, n: i64, kind: i64, x: &[i64], held: &[i64]) {
+    let mut y = held.to_vec();
+    let answer = match direction {
+        Forward => model::forward_line(n, kind, x, &mut y),
+        Inverse => model::inverse_line(n, kind, x, &mut y),
+    };
+    let call = format!("{}LineOutcome {n} {kind}", direction.word());
+    let left = format!("{call} {} {}", list(x), list(held));
+    t.state_outcome(LINE, &left, &answer, &y);
+}
+
+/// A block's outcome, its output holding `held` before the call.
+fn block_case(t: &mut Theorems, direction: Direction, shape: &Shape, input: &[i64], held: &[i64]) {
+    let mut output = held.to_vec();
+    let answer = match direction {
+        Forward => model::forward(shape, input, &mut output),
+        Inverse => model::inverse(shape, input, &mut output),
+    };
+    let call = format!("{}Outcome {}", direction.word(), shape_term(shape));
+    let left = format!("{call} {} {}", list(input), list(held));
+    t.state_outcome(BLOCK, &left, &answer, &output);
+}
+
+// ---- random numbers that calls take
+
+/// `count` numbers from `low` to `high`: small ones, any, or the ends mostly.
+fn numbers(random: &mut Random, count: usize, [low, high]: [i64; 2]) -> Vec<i64> {
+    match random.below(3) {
+        0 => random.numbers(count, -9, 9),
+        1 => random.numbers(count, low, high),
+        _ => extremes(random, count, [low, high]),
+    }
+}
+
+/// Both ends of a range and little else.
+fn extremes(random: &mut Random, count: usize, [low, high]: [i64; 2]) -> Vec<i64> {
+    let any = random.between(low, high);
+    (0..count)
+        .map(|_| random.choose(&[low, low, high, high, any]))
+        .collect()
+}
+
+/// What an output may hold before a call.
+fn held(random: &mut Random, count: usize) -> Vec<i64> {
+    random.numbers(count, -99, 99)
+}
+
+/// The k-th shape of its sides: kinds and depths take turns.
+fn shape_in_turn(k: usize, width: i64, height: i64) -> Shape {
+    let k = k as i64;
+    Shape::new(width, height, 1 + k % 2, 1 + k / 2 % 2, 8 + k % 5)
+}
+
+/// Zero in every place that is not kept.
+fn clear_outside(shape: &Shape, coefficients: &mut [i64]) {
+    while let Some(place) = model::block::first_outside(shape, coefficients) {
+        coefficients[place] = 0;
+    }
+}
+
+fn accepted_block(t: &mut Theorems, direction: Direction, shape: &Shape) {
+    let area = shape.area() as usize;
+    let mut input = numbers(&mut t.random, area, direction.ends(shape.depth));
+    if let Inverse = direction {
+        clear_outside(shape, &mut input);
+    }
+    let held = held(&mut t.random, area);
+    block_case(t, direction, shape, &input, &held);
+}
+
+// ---- random calls that are refused
+
+fn refused_line(t: &mut Theorems, direction: Direction, number: usize) {
+    let random = &mut t.random;
+    let wrong = Wrong::first(random, number);
+    let n = wrong.pick(random, 1, &SIZES, &NO_SIZE);
+    let kind = wrong.pick(random, 3, &[1, 2], &NO_KIND);
+    let length = if n <= 64 { n.max(1) } else { 4 };
+    let input = wrong.length(random, 6, length);
+    let output = wrong.length(random, 7, length);
+    let x = numbers(random, input, SIXTEEN_BITS);
+    let held = held(random, output);
+    line_case(t, direction, n, kind, &x, &held);
+}
+
+fn refused_block(t: &mut Theorems, direction: Direction, number: usize) {
+    let random = &mut t.random;
+    let wrong = Wrong::first(random, number);
+    // 8 needs a side with places outside the kept part
+    let width = wrong.pick(random, 1, &[if number == 8 { 32 } else { 8 }, 4], &NO_SIZE);
+    let tall = number == 8 && width < 32;
+    let height = wrong.pick(random, 2, &[if tall { 32 } else { 4 }], &NO_SIZE);
+    let shape = Shape::new(
+        width,
+        height,
+        wrong.pick(random, 3, &[1, 2], &NO_KIND),
+        wrong.pick(random, 4, &[1, 2], &NO_KIND),
+        wrong.pick(random, 5, &[8, 9, 10, 11, 12], &NO_DEPTH),
+    );
+    let area = if width.max(height) <= 64 {
+        shape.area().max(1)
+    } else {
+        16
+    };
+    let input = wrong.length(random, 6, area);
+    let output = wrong.length(random, 7, area);
+    // any 16-bit numbers: some are too large for a forward, and some outside the kept part are not 0
+    let [low, high] = SIXTEEN_BITS;
+    let x = random.numbers(input, low, high);
+    let held = held(random, output);
+    block_case(t, direction, &shape, &x, &held);
+}
+
+/// One bad number alone among good ones, at a random place: 8 or 9 with that place.
+fn lone_bad_number(t: &mut Theorems, direction: Direction, shape: &Shape) {
+    let area = shape.area() as usize;
+    let [low, high] = direction.ends(shape.depth);
+    let mut input = numbers(&mut t.random, area, [low, high]);
+    let place = match direction {
+        Forward => t.random.below(area),
+        Inverse => {
+            clear_outside(shape, &mut input);
+            let outside = |&p: &usize| p as i64 % shape.width > 15 || p as i64 / shape.width > 15;
+            let places: Vec<usize> = (0..area).filter(outside).collect();
+            t.random.choose(&places)
+        }
+    };
+    input[place] = match direction {
+        Forward => t.random.choose(&[high + 1, low - 1, 32767, -32768]),
+        Inverse => t.random.choose(&[1, -1, 256, -32768]),
+    };
+    let held = held(&mut t.random, area);
+    block_case(t, direction, shape, &input, &held);
+}
+
+// ---- all cases, kind by kind
+
+fn weights(t: &mut Theorems) {
+    for n in SIZES {
+        weights_case(t, 1, n);
+        weights_case(t, 2, n);
+    }
+}
+
+fn middles(t: &mut Theorems) {
+    // both sides of a rounding, and the sums at which a middle value reaches a rail or is clipped
+    for edge in [
+        0,
+        128,
+        -128,
+        32767 * 128,
+        32768 * 128,
+        -32767 * 128,
+        -32768 * 128,
+    ] {
+        for e in [edge - 65, edge - 64, edge + 63, edge + 64] {
+            middle_case(t, e);
+        }
+    }
+    for _ in 0..20 {
+        let e = t.random.between(-60_882_944, 60_882_944);
+        middle_case(t, e);
+    }
+}
+
+fn lines(t: &mut Theorems, direction: Direction) {
+    for (n, count) in [(4, 12), (8, 8), (16, 6), (32, 6)] {
+        for k in 0..count {
+            let x = numbers(&mut t.random, n, SIXTEEN_BITS);
+            let held = held(&mut t.random, n);
+            line_case(t, direction, n as i64, 1 + k % 2, &x, &held);
+        }
+    }
+}
+
+fn refused_lines(t: &mut Theorems) {
+    for number in [1, 3, 6, 7] {
+        for _ in 0..3 {
+            refused_line(t, Forward, number);
+            refused_line(t, Inverse, number);
+        }
+    }
+}
+
+/// Many small blocks, then one of each shape.
+fn blocks(t: &mut Theorems, direction: Direction) {
+    for (width, height, count) in [(4, 4, 20), (4, 8, 8), (8, 4, 8), (8, 8, 4)] {
+        for k in 0..count {
+            accepted_block(t, direction, &shape_in_turn(k, width, height));
+        }
+    }
+    for width in SIZES {
+        for height in SIZES {
+            let k = t.random.below(20);
+            accepted_block(t, direction, &shape_in_turn(k, width, height));
+        }
+    }
+}
+
+/// Coefficients so large that middle values reach the rails.
+fn railed_blocks(t: &mut Theorems) {
+    for (k, (width, height)) in [(4, 4), (4, 8), (8, 4), (8, 8), (16, 4), (4, 32)]
+        .into_iter()
+        .enumerate()
+    {
+        for turn in 0..3 {
+            let shape = shape_in_turn(k + turn, width, height);
+            let area = shape.area() as usize;
+            let mut input = extremes(&mut t.random, area, SIXTEEN_BITS);
+            clear_outside(&shape, &mut input);
+            block_case(t, Inverse, &shape, &input, &vec![0; area]);
+        }
+    }
+}
+
+/// "Numbers on both sides", 7: one short of the rail, at it, and clipped.
+fn at_the_rail(t: &mut Theorems) {
+    for third in [21063, 21064, 21066] {
+        let mut column = [0; 16];
+        column[4] = 32767;
+        column[8] = third;
+        block_case(t, Inverse, &Shape::new(4, 4, 1, 1, 10), &column, &[0; 16]);
+    }
+}
+
+fn refused_blocks(t: &mut Theorems, direction: Direction) {
+    let hunt = match direction {
+        Forward => 9,
+        Inverse => 8,
+    };
+    for number in (1..=7).chain([hunt]) {
+        for _ in 0..3 {
+            refused_block(t, direction, number);
+        }
+    }
+    for (k, (width, height)) in [(32, 4), (4, 32), (32, 8)].into_iter().enumerate() {
+        lone_bad_number(t, direction, &shape_in_turn(k, width, height));
+    }
+}
+
+fn main() {
+    let seed = seed();
+    let mut t = Theorems::new(seed);
+    t.section("tables of weights", weights);
+    t.section("middle values", middles);
+    t.section("forward lines", |t| lines(t, Forward));
+    t.section("inverse lines", |t| lines(t, Inverse));
+    t.section("refused lines", refused_lines);
+    t.section("forward blocks", |t| blocks(t, Forward));
+    t.section("inverse blocks", |t| blocks(t, Inverse));
+    t.section("inverse blocks with large coefficients", railed_blocks);
+    t.section("inverse blocks about the rail", at_the_rail);
+    t.section("refused forward blocks", |t| refused_blocks(t, Forward));
+    t.section("refused inverse blocks", |t| refused_blocks(t, Inverse));
+    println!("-- {SEED_VARIABLE}={seed}\n{HEAD}{}", t.text);
+    println!("{}", t.met_line());
+}

@@ -1,0 +1,20 @@
+//! The model: what every call of document 01 hands back and writes, worked out from its text.
+//!
+//! All numbers are 64-bit, so that nothing here can overflow and no type hides a rule: where a result
+//! has to fit 16 or 32 bits, that is for a test to find.
+
+pub mod block;
+pub mod call;
+pub mod file;
+pub mod line;
+pub mod small;
+pub mod weights;
+
+pub use block::{forward, inverse};
+pub use call::{Answer, Shape};
+pub use file::{run_file, Cursor, Step};
+pub use line::{forward_line, inverse_line};
+pub use small::{forward_4x4, inverse_4x4, Small};
+
+#[cfg(test)]
+mod numbers;

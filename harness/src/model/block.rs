@@ -1,0 +1,222 @@
+//! "Blocks": both directions, with the middle rounding, the clip, the rail count and the hunt.
+
+use super::call::{first_refusal, Answer, Shape};
+use super::line::{forward_sums, inverse_sums};
+
+/// Both ends of what a middle value may be.
+pub const RAILS: [i64; 2] = [-32768, 32767];
+
+/// The inverse of a block of coefficients.
+pub fn inverse(shape: &Shape, coefficients: &[i64], residuals: &mut [i64]) -> Answer {
+    let place = |shape: &Shape| first_outside(shape, coefficients);
+    if let Some(refusal) = refusal(shape, coefficients.len(), residuals.len(), 8, place) {
+        return refusal;
+    }
+    let middles = middles(shape, coefficients);
+    let rows = (0..shape.height).flat_map(|y| residual_row(shape, &middles, y));
+    residuals.copy_from_slice(&rows.collect::<Vec<i64>>());
+    Answer::accepted(rail_count(&middles))
+}
+
+/// The forward of a block of residuals.
+pub fn forward(shape: &Shape, residuals: &[i64], coefficients: &mut [i64]) -> Answer {
+    let place = |shape: &Shape| first_too_large(shape, residuals);
+    if let Some(refusal) = refusal(shape, residuals.len(), coefficients.len(), 9, place) {
+        return refusal;
+    }
+    let columns = forward_columns(shape, &forward_rows(shape, residuals));
+    for (place, coefficient) in coefficients.iter_mut().enumerate() {
+        let (x, y) = column_and_row(shape, place);
+        // "Coefficients outside the kept rows and columns are written 0."
+        *coefficient = if is_kept(shape, x, y) {
+            columns[x as usize][y as usize]
+        } else {
+            0
+        };
+    }
+    Answer::accepted(0)
+}
+
+/// 1 to 7, then the hunt's number with its place. The hunt runs only where 1 to 7 do not apply.
+fn refusal(
+    shape: &Shape,
+    input: usize,
+    output: usize,
+    number: i64,
+    hunt: impl Fn(&Shape) -> Option<usize>,
+) -> Option<Answer> {
+    shape
+        .refusal()
+        .or_else(|| {
+            first_refusal(&[
+                (6, input as i64 != shape.area()),
+                (7, output as i64 != shape.area()),
+            ])
+        })
+        .or_else(|| hunt(shape).map(|place| Answer::refused(number, place as i64)))
+}
+
+/// "Place x + y*w is column x, row y."
+fn column_and_row(shape: &Shape, place: usize) -> (i64, i64) {
+    let place = place as i64;
+    (place % shape.width, place / shape.width)
+}
+
+fn is_kept(shape: &Shape, x: i64, y: i64) -> bool {
+    x < shape.kept_columns() && y < shape.kept_rows()
+}
+
+/// 8: "a non-zero coefficient outside the kept part; place of the first, row by row".
+pub fn first_outside(shape: &Shape, coefficients: &[i64]) -> Option<usize> {
+    (0..coefficients.len()).find(|&place| {
+        let (x, y) = column_and_row(shape, place);
+        coefficients[place] != 0 && !is_kept(shape, x, y)
+    })
+}
+
+/// 9: "a residual of size above 2^d-1; place of the first".
+pub fn first_too_large(shape: &Shape, residuals: &[i64]) -> Option<usize> {
+    let largest = (1 << shape.depth) - 1;
+    residuals.iter().position(|r| r.abs() > largest)
+}
+
+/// "a >> n" is the floor of a over 2^n: `div_euclid` by a positive number is that floor.
+pub fn floor_shift(a: i64, n: i64) -> i64 {
+    a.div_euclid(1 << n)
+}
+
+/// (a + 2^(n-1)) >> n
+pub fn round_shift(a: i64, n: i64) -> i64 {
+    floor_shift(a + (1 << (n - 1)), n)
+}
+
+/// "The middle value is (e+64)>>7, clipped to -32768..32767."
+pub fn middle(e: i64) -> i64 {
+    floor_shift(e + 64, 7).clamp(RAILS[0], RAILS[1])
+}
+
+/// The h middle values of each kept column: "Each kept column goes through the vertical line over its
+/// kept rows, giving h sums e."
+fn middles(shape: &Shape, coefficients: &[i64]) -> Vec<Vec<i64>> {
+    let column = |x: i64| {
+        let kept = (0..shape.kept_rows()).map(|y| coefficients[(x + y * shape.width) as usize]);
+        let kept: Vec<i64> = kept.collect();
+        let sums = inverse_sums(shape.vertical, shape.height as usize, &kept);
+        sums.into_iter().map(middle).collect()
+    };
+    (0..shape.kept_columns()).map(column).collect()
+}
+
+/// "how many middle values of kept columns, over all h rows, are 32767 or -32768 after the clip"
+fn rail_count(middles: &[Vec<i64>]) -> i64 {
+    let railed = middles.iter().flatten().filter(|m| RAILS.contains(m));
+    railed.count() as i64
+}
+
+/// "Then each row goes through the horizontal line over its kept columns, giving r. The residual is
+/// (r + 2^(19-d)) >> (20-d)".
+fn residual_row(shape: &Shape, middles: &[Vec<i64>], y: i64) -> Vec<i64> {
+    let row: Vec<i64> = middles.iter().map(|column| column[y as usize]).collect();
+    let sums = inverse_sums(shape.horizontal, shape.width as usize, &row);
+    let residual = |r| floor_shift(r + (1 << (19 - shape.depth)), 20 - shape.depth);
+    sums.into_iter().map(residual).collect()
+}
+
+fn log2(n: i64) -> i64 {
+    i64::from(n.trailing_zeros())
+}
+
+/// "Rows first: (y + 2^(p-1)) >> p with p = log2(w)+d-9."
+fn forward_rows(shape: &Shape, residuals: &[i64]) -> Vec<Vec<i64>> {
+    let p = log2(shape.width) + shape.depth - 9;
+    let row = |row| {
+        let sums = forward_sums(shape.horizontal, row);
+        sums.into_iter().map(|y| round_shift(y, p)).collect()
+    };
+    residuals
+        .chunks_exact(shape.width as usize)
+        .map(row)
+        .collect()
+}
+
+/// "Then columns: (y + 2^(q-1)) >> q with q = log2(h)+6." Column by column.
+fn forward_columns(shape: &Shape, rows: &[Vec<i64>]) -> Vec<Vec<i64>> {
+    let q = log2(shape.height) + 6;
+    let column = |x: i64| {
+        let column: Vec<i64> = rows.iter().map(|row| row[x as usize]).collect();
+        let sums = forward_sums(shape.vertical, &column);
+        sums.into_iter().map(|y| round_shift(y, q)).collect()
+    };
+    (0..shape.width).map(column).collect()
+}
+
+#[cfg(test)]
+mod tests {
+    use super::*;
+    use crate::random::{self, Random};
+
+    fn random_shape(random: &mut Random) -> Shape {
+        Shape::new(
+            random.choose(&[4, 8, 16, 32]),
+            random.choose(&[4, 8, 16, 32]),
+            random.between(1, 2),
+            random.between(1, 2),
+            random.between(8, 12),
+        )
+    }
+
+    /// Forward: "Nothing is clipped, as nothing leaves 16 bits." Inverse: "a signed 32-bit number".
+    #[test]
+    fn answers_fit_their_types() {
+        let mut random = random::seeded();
+        for _ in 0..50 {
+            let shape = random_shape(&mut random);
+            let largest = (1 << shape.depth) - 1;
+            let area = shape.area() as usize;
+            let residuals: Vec<i64> = (0..area)
+                .map(|_| random.choose(&[-largest, largest]))
+                .collect();
+            let mut coefficients = vec![0; area];
+            assert_eq!(forward(&shape, &residuals, &mut coefficients).number, 0);
+            assert!(coefficients.iter().all(|&c| i16::try_from(c).is_ok()));
+            let mut back = vec![0; area];
+            assert_eq!(inverse(&shape, &coefficients, &mut back).number, 0);
+            assert!(back.iter().all(|&r| i32::try_from(r).is_ok()));
+        }
+    }
+
+    /// The hunt is met last, and gives the first bad place row by row.
+    #[test]
+    fn hunts_come_after_the_lengths() {
+        let shape = Shape::new(8, 32, 1, 2, 9);
+        let mut block = vec![0; 256];
+        block[16 * 8 + 3] = -1;
+        block[16 * 8 + 5] = 1;
+        let mut out = vec![5; 256];
+        assert_eq!(inverse(&shape, &block, &mut out), Answer::refused(8, 131));
+        assert_eq!(
+            inverse(&shape, &block, &mut out[1..]),
+            Answer::refused(7, 0)
+        );
+        assert_eq!(
+            inverse(&shape, &block[1..], &mut out),
+            Answer::refused(6, 0)
+        );
+        block[7] = 512;
+        assert_eq!(forward(&shape, &block, &mut out), Answer::refused(9, 7));
+        assert_eq!(out, vec![5; 256]);
+    }
+
+    #[test]
+    fn shapes_are_refused_in_order() {
+        let mut numbers = [5, 5, 0, 3, 13];
+        let right = [4, 4, 1, 1, 8];
+        for k in 0..5 {
+            let [w, h, horizontal, vertical, d] = numbers;
+            let shape = Shape::new(w, h, horizontal, vertical, d);
+            let answer = inverse(&shape, &[0; 3], &mut [0; 3]);
+            assert_eq!(answer, Answer::refused(k as i64 + 1, 0));
+            numbers[k] = right[k];
+        }
+    }
+}

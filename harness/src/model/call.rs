@@ -1,0 +1,95 @@
+//! "Numbers handed back when a call is turned down": what a call hands back, and the tests that calls share.
+
+/// A block's shape: any numbers, as a caller may hand over any.
+#[derive(Clone, Copy, Debug, PartialEq, Eq)]
+pub struct Shape {
+    pub width: i64,
+    pub height: i64,
+    pub horizontal: i64,
+    pub vertical: i64,
+    pub depth: i64,
+}
+
+impl Shape {
+    pub fn new(width: i64, height: i64, horizontal: i64, vertical: i64, depth: i64) -> Shape {
+        Shape {
+            width,
+            height,
+            horizontal,
+            vertical,
+            depth,
+        }
+    }
+
+    /// How many numbers a block has.
+    pub fn area(&self) -> i64 {
+        self.width * self.height
+    }
+
+    /// "Kept columns are the first min(w,16)".
+    pub fn kept_columns(&self) -> i64 {
+        self.width.min(16)
+    }
+
+    /// "kept rows the first min(h,16)".
+    pub fn kept_rows(&self) -> i64 {
+        self.height.min(16)
+    }
+
+    /// 1 to 5, the first that applies.
+    pub fn refusal(&self) -> Option<Answer> {
+        first_refusal(&[
+            (1, !is_size(self.width)),
+            (2, !is_size(self.height)),
+            (3, !is_kind(self.horizontal)),
+            (4, !is_kind(self.vertical)),
+            (5, !is_depth(self.depth)),
+        ])
+    }
+}
+
+/// What a call hands back beside its output.
+#[derive(Clone, Copy, Debug, PartialEq, Eq)]
+pub struct Answer {
+    pub number: i64,
+    pub place: i64,
+    pub rails: i64,
+}
+
+impl Answer {
+    /// "An accepted call hands back number 0 and place 0."
+    pub fn accepted(rails: i64) -> Answer {
+        Answer {
+            number: 0,
+            place: 0,
+            rails,
+        }
+    }
+
+    /// "rail count 0".
+    pub fn refused(number: i64, place: i64) -> Answer {
+        Answer {
+            number,
+            place,
+            rails: 0,
+        }
+    }
+}
+
+/// "Checked in this order; the first that applies is given", with place 0.
+pub fn first_refusal(tests: &[(i64, bool)]) -> Option<Answer> {
+    let (number, _) = tests.iter().find(|(_, applies)| *applies)?;
+    Some(Answer::refused(*number, 0))
+}
+
+pub fn is_size(n: i64) -> bool {
+    [4, 8, 16, 32].contains(&n)
+}
+
+pub fn is_kind(kind: i64) -> bool {
+    kind == 1 || kind == 2
+}
+
+pub fn is_depth(d: i64) -> bool {
+    (8..=12).contains(&d)
+}

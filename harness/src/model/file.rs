@@ -1,0 +1,315 @@
+//! "The block file and its program": the reader, one field at a time, and the text that a file prints.
+
+use super::block::{forward, inverse};
+use super::call::{Answer, Shape};
+
+pub const TAG_SHAPE: u8 = 1;
+pub const TAG_COEFFICIENTS: u8 = 2;
+pub const TAG_RESIDUALS: u8 = 3;
+
+/// 14 is for a file above this many bytes.
+pub const LARGEST_FILE: usize = 65_536;
+
+/// "a one-byte tag, a two-byte length of the body"
+const HEADER: usize = 3;
+
+/// The reader's place in the file and the shape it holds, if any.
+#[derive(Clone, Copy, Debug, PartialEq, Eq)]
+pub struct Cursor {
+    pub at: usize,
+    pub shape: Option<Shape>,
+}
+
+/// What the reader hands back: a number, itself at its next place, and the body.
+#[derive(Clone, Copy, Debug, PartialEq, Eq)]
+pub struct Step<'a> {
+    pub number: i64,
+    pub next: Cursor,
+    pub body: &'a [u8],
+}
+
+struct Field<'a> {
+    tag: u8,
+    body: &'a [u8],
+}
+
+impl Cursor {
+    pub fn new() -> Cursor {
+        Cursor { at: 0, shape: None }
+    }
+
+    /// "The reader moves a place through the file one field at a time". Order: 14, then the field's own.
+    pub fn step(self, file: &[u8]) -> Step<'_> {
+        if file.len() > LARGEST_FILE {
+            return self.stay(file, 14);
+        }
+        // "A place past the end counts as the end", and its number is 0
+        if self.at >= file.len() {
+            return self.stay(file, 0);
+        }
+        match self.field(file) {
+            Ok((field, shape)) => Step {
+                number: 0,
+                next: Cursor {
+                    at: self.at + HEADER + field.body.len(),
+                    shape,
+                },
+                body: field.body,
+            },
+            Err(number) => self.stay(file, number),
+        }
+    }
+
+    /// "its place and shape stay and it hands back the empty start of the file"
+    fn stay(self, file: &[u8], number: i64) -> Step<'_> {
+        Step {
+            number,
+            next: self,
+            body: &file[..0],
+        }
+    }
+
+    /// "a held shape that 1 to 5 would refuse counts as none"
+    fn held(self) -> Option<Shape> {
+        self.shape.filter(|shape| shape.refusal().is_none())
+    }
+
+    /// The field at the place and the shape that holds after it, or the number of its refusal.
+    fn field(self, file: &[u8]) -> Result<(Field<'_>, Option<Shape>), i64> {
+        let field = self.read(&file[self.at..])?;
+        if field.tag != TAG_SHAPE {
+            return Ok((field, self.shape));
+        }
+        let shape = shape_of(field.body);
+        match shape.refusal() {
+            Some(refusal) => Err(refusal.number),
+            None => Ok((field, Some(shape))),
+        }
+    }
+
+    /// "header present (10), tag (11), 12, 13, data length not 2*w*h (6), body present (10)"
+    fn read(self, rest: &[u8]) -> Result<Field<'_>, i64> {
+        let [tag, high, low, after @ ..] = rest else {
+            return Err(10);
+        };
+        let length = usize::from(*high) * 256 + usize::from(*low);
+        match *tag {
+            TAG_SHAPE if length != 5 => return Err(12),
+            TAG_SHAPE => (),
+            TAG_COEFFICIENTS | TAG_RESIDUALS => {
+                let shape = self.held().ok_or(13)?;
+                if length as i64 != 2 * shape.area() {
+                    return Err(6);
+                }
+            }
+            _ => return Err(11),
+        }
+        let body = after.get(..length).ok_or(10)?;
+        Ok(Field { tag: *tag, body })
+    }
+}
+
+impl Default for Cursor {
+    fn default() -> Cursor {
+        Cursor::new()
+    }
+}
+
+/// "width, height, horizontal kind, vertical kind, d", of a body of five bytes.
+fn shape_of(body: &[u8]) -> Shape {
+    let number = |k: usize| i64::from(body[k]);
+    Shape::new(number(0), number(1), number(2), number(3), number(4))
+}
+
+/// "High byte first throughout; data numbers are two's complement."
+pub fn numbers_of(body: &[u8]) -> Vec<i64> {
+    let number = |pair: &[u8]| {
+        let unsigned = i64::from(pair[0]) * 256 + i64::from(pair[1]);
+        if unsigned < 32768 {
+            unsigned
+        } else {
+            unsigned - 65536
+        }
+    };
+    body.chunks_exact(2).map(number).collect()
+}
+
+/// What the program prints of a file.
+pub fn run_file(file: &[u8]) -> String {
+    let mut text = String::new();
+    let mut cursor = Cursor::new();
+    loop {
+        let step = cursor.step(file);
+        if step.number == 0 && step.body.is_empty() {
+            return text;
+        }
+        match printed(step, file, cursor.at) {
+            Ok(line) => text.push_str(&line),
+            // "The first refusal ends the run; lines printed before it stand."
+            Err(number) => return text + &format!("R {number} {}\n", cursor.at),
+        }
+        cursor = step.next;
+    }
+}
+
+/// What the field at a place prints, or the number of its refusal.
+fn printed(step: Step<'_>, file: &[u8], at: usize) -> Result<String, i64> {
+    if step.number != 0 {
+        return Err(step.number);
+    }
+    match (file[at], step.next.shape) {
+        (TAG_COEFFICIENTS, Some(shape)) => inverse_line_of(&shape, step.body),
+        (TAG_RESIDUALS, Some(shape)) => forward_line_of(&shape, step.body),
+        _ => Ok(String::new()),
+    }
+}
+
+/// "An inverse prints "I w h railcount" and the residuals".
+fn inverse_line_of(shape: &Shape, body: &[u8]) -> Result<String, i64> {
+    let (answer, residuals) = run(shape, body, inverse)?;
+    let front = format!("I {} {} {}", shape.width, shape.height, answer.rails);
+    Ok(line_of(front, &residuals))
+}
+
+/// "a forward prints "F w h" and the coefficients".
+fn forward_line_of(shape: &Shape, body: &[u8]) -> Result<String, i64> {
+    let (_, coefficients) = run(shape, body, forward)?;
+    let front = format!("F {} {}", shape.width, shape.height);
+    Ok(line_of(front, &coefficients))
+}
+
+/// "8 and 9 are met when the block is run, not by the reader."
+fn run(
+    shape: &Shape,
+    body: &[u8],
+    direction: impl Fn(&Shape, &[i64], &mut [i64]) -> Answer,
+) -> Result<(Answer, Vec<i64>), i64> {
+    let mut out = vec![0; shape.area() as usize];
+    let answer = direction(shape, &numbers_of(body), &mut out);
+    match answer.number {
+        0 => Ok((answer, out)),
+        number => Err(number),
+    }
+}
+
+/// "one space between, one line each"
+fn line_of(front: String, numbers: &[i64]) -> String {
+    let numbers: String = numbers.iter().map(|z| format!(" {z}")).collect();
+    format!("{front}{numbers}\n")
+}
+
+#[cfg(test)]
+mod tests {
+    use super::*;
+
+    const SHAPE: [u8; 8] = [1, 0, 5, 4, 4, 1, 1, 10];
+
+    fn data(tag: u8, number: i16) -> Vec<u8> {
+        let mut field = vec![tag, 0, 32];
+        for _ in 0..16 {
+            field.extend(number.to_be_bytes());
+        }
+        field
+    }
+
+    #[test]
+    fn refusals_of_a_first_field() {
+        let cases: [(&[u8], &str); 10] = [
+            (&[], ""),
+            (&[9], "R 10 0\n"),
+            (&[9, 0, 0], "R 11 0\n"),
+            (&[0, 0, 0], "R 11 0\n"),
+            (&[1, 0, 6], "R 12 0\n"),
+            (&[1, 0, 5, 5, 4, 1, 1], "R 10 0\n"),
+            (&[1, 0, 5, 5, 4, 1, 1, 7], "R 1 0\n"),
+            (&[1, 0, 5, 4, 4, 1, 1, 13], "R 5 0\n"),
+            (&[2, 0, 1], "R 13 0\n"),
+            (&[3, 0, 32], "R 13 0\n"),
+        ];
+        for (file, text) in cases {
+            assert_eq!(run_file(file), text, "{file:?}");
+        }
+    }
+
+    #[test]
+    fn refusals_of_data() {
+        let after_shape = |field: &[u8]| run_file(&[&SHAPE, field].concat());
+        assert_eq!(after_shape(&[2, 0, 31]), "R 6 8\n");
+        assert_eq!(after_shape(&[3, 0, 32, 0]), "R 10 8\n");
+        assert_eq!(after_shape(&[3, 0]), "R 10 8\n");
+        assert_eq!(after_shape(&data(3, 1024)), "R 9 8\n");
+        let forward = data(3, -1);
+        let text = after_shape(&[&forward[..], &data(3, i16::MIN)].concat());
+        let lines: Vec<&str> = text.lines().collect();
+        assert!(lines[0].starts_with("F 4 4 -"), "{text}");
+        assert_eq!(lines[1..], ["R 9 43"]);
+    }
+
+    #[test]
+    fn a_shape_holds_until_the_next_and_a_coefficient_outside_is_refused() {
+        let mut wide = vec![2, 1, 0];
+        wide.extend([0; 256]);
+        wide[3 + 2 * 16 + 1] = 1;
+        let file = [&SHAPE[..], &data(2, 0), &[1, 0, 5, 32, 4, 2, 1, 8], &wide].concat();
+        let line = format!("I 4 4 0{}\n", " 0".repeat(16));
+        assert_eq!(run_file(&file), line + "R 8 51\n");
+    }
+
+    #[test]
+    fn the_largest_file_is_read_and_a_larger_one_refused() {
+        let mut file = vec![0; LARGEST_FILE + 1];
+        assert_eq!(run_file(&file), "R 14 0\n");
+        file.pop();
+        assert_eq!(run_file(&file), "R 11 0\n");
+        file[..8].copy_from_slice(&SHAPE);
+        assert_eq!(run_file(&file), "R 11 8\n");
+    }
+
+    #[test]
+    fn a_cursor_stays_at_the_end_and_at_a_refused_field() {
+        let stays = |cursor: Cursor, file: &[u8], number| {
+            let step = cursor.step(file);
+            assert_eq!((step.number, step.next), (number, cursor));
+            assert_eq!((step.body.as_ptr(), step.body.len()), (file.as_ptr(), 0));
+        };
+        stays(Cursor { at: 8, shape: None }, &SHAPE, 0);
+        stays(
+            Cursor {
+                at: 900,
+                shape: None,
+            },
+            &SHAPE,
+            0,
+        );
+        stays(Cursor { at: 1, shape: None }, &SHAPE, 11);
+        stays(
+            Cursor {
+                at: 900,
+                shape: None,
+            },
+            &[0; LARGEST_FILE + 1],
+            14,
+        );
+        let refused = Some(Shape::new(4, 4, 1, 3, 8));
+        stays(
+            Cursor {
+                at: 0,
+                shape: refused,
+            },
+            &data(2, 0),
+            13,
+        );
+    }
+
+    #[test]
+    fn a_body_is_the_stretch_of_the_file() {
+        let file = [&SHAPE[..], &data(2, 5)].concat();
+        let first = Cursor::new().step(&file);
+        assert_eq!(first.body.as_ptr(), file[3..].as_ptr());
+        assert_eq!(first.next.at, 8);
+        let second = first.next.step(&file);
+        assert_eq!(second.body.as_ptr(), file[11..].as_ptr());
+        assert_eq!(second.next.shape, Some(Shape::new(4, 4, 1, 1, 10)));
+        assert_eq!(second.next.at, file.len());
+    }
+}

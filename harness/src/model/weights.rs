@@ -1,0 +1,96 @@
+//! "The weights": the first rows, the fold rule, and the two kinds.
+
+pub const DST_VII: i64 = 1;
+pub const DCT_VIII: i64 = 2;
+
+/// "First rows s1..sN of DST-VII": s1 stands first.
+pub fn first_row(n: usize) -> &'static [i64] {
+    match n {
+        4 => &[29, 55, 74, 84],
+        8 => &[17, 32, 46, 60, 71, 78, 85, 86],
+        16 => &[
+            8, 17, 25, 33, 40, 48, 55, 62, 68, 73, 77, 81, 85, 87, 88, 88,
+        ],
+        32 => &[
+            4, 9, 13, 17, 21, 26, 30, 34, 38, 42, 45, 50, 53, 56, 60, 63, 66, 68, 72, 74, 77, 78,
+            80, 82, 84, 85, 86, 88, 88, 89, 90, 90,
+        ],
+        _ => panic!("no line has {n} points"),
+    }
+}
+
+/// "Fold rule": S[i][j], i and j from 0.
+pub fn dst_vii(n: usize, i: usize, j: usize) -> i64 {
+    let l = 2 * n + 1;
+    let m = (2 * i + 1) * (j + 1) % (2 * l);
+    let sign = if m > l { -1 } else { 1 };
+    let reduced = m % l;
+    match reduced.min(l - reduced) {
+        0 => 0,
+        index => sign * first_row(n)[index - 1],
+    }
+}
+
+/// "DCT-VIII: C[i][j] = (-1)^i * S[i][N-1-j]".
+pub fn dct_viii(n: usize, i: usize, j: usize) -> i64 {
+    let sign = if i % 2 == 1 { -1 } else { 1 };
+    sign * dst_vii(n, i, n - 1 - j)
+}
+
+/// T[i][j] of a kind.
+pub fn weight(kind: i64, n: usize, i: usize, j: usize) -> i64 {
+    match kind {
+        DST_VII => dst_vii(n, i, j),
+        DCT_VIII => dct_viii(n, i, j),
+        _ => panic!("{kind} is no kind"),
+    }
+}
+
+#[cfg(test)]
+mod tests {
+    use super::*;
+
+    const SIZES: [usize; 4] = [4, 8, 16, 32];
+
+    fn row_size(kind: i64, n: usize, i: usize) -> i64 {
+        (0..n).map(|j| weight(kind, n, i, j).abs()).sum()
+    }
+
+    /// "Biggest row sums of sizes: 242, 475, 935, 1858."
+    #[test]
+    fn biggest_row_sums() {
+        for (n, biggest) in SIZES.into_iter().zip([242, 475, 935, 1858]) {
+            for kind in [DST_VII, DCT_VIII] {
+                let found = (0..n).map(|i| row_size(kind, n, i)).max();
+                assert_eq!(found, Some(biggest), "kind {kind}, {n} points");
+            }
+        }
+    }
+
+    /// "Every S follows from its first row": row 0 of the fold rule gives that row back.
+    #[test]
+    fn the_fold_rule_gives_the_first_row() {
+        for n in SIZES {
+            let row: Vec<i64> = (0..n).map(|j| dst_vii(n, 0, j)).collect();
+            assert_eq!(row, first_row(n));
+        }
+    }
+
+    /// s of index `n`, counted from 1.
+    fn s(points: usize, n: usize) -> i64 {
+        first_row(points)[n - 1]
+    }
+
+    /// "Sharing between weights": the table of first rows has the sums that the scope names.
+    #[test]
+    fn sharing() {
+        assert_eq!(s(4, 1) + s(4, 2), s(4, 4));
+        for k in 1..=5 {
+            assert_eq!(s(16, k) + s(16, 11 - k), s(16, 11 + k));
+        }
+        for j in 1..=6 {
+            let left = s(32, j) + s(32, j + 26) + s(32, 13 - j);
+            assert_eq!(left, s(32, j + 13) + s(32, 26 - j));
+        }
+    }
+}

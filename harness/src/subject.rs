@@ -1,0 +1,85 @@
+//! What a test runs its calls on: the library where the build links it, or a peer that the environment names.
+
+use crate::call::{Call, Outcome};
+use crate::peer::{Peer, PEER_VARIABLE};
+
+pub enum Subject {
+    #[cfg(hoengtila_linked)]
+    Linked,
+    Peer(Peer),
+    /// The model in the library's place, for whoever works on the tests themselves: it tests no library.
+    Model,
+}
+
+/// The "command line" that asks for the model in the library's place.
+const MODEL: &str = "model";
+
+impl Subject {
+    /// What is there: the peer that the environment names, else the linked library.
+    pub fn open() -> Option<Subject> {
+        match std::env::var(PEER_VARIABLE) {
+            Ok(word) if word == MODEL => Some(Subject::Model),
+            Ok(command_line) => Some(Subject::Peer(Peer::start(&command_line))),
+            Err(_) => linked(),
+        }
+    }
+
+    /// How a report names it.
+    pub fn name(&self) -> &'static str {
+        match self {
+            #[cfg(hoengtila_linked)]
+            Subject::Linked => "library, linked",
+            Subject::Peer(_) => "library, through its peer",
+            Subject::Model => "MODEL ALONE, NO LIBRARY",
+        }
+    }
+
+    pub fn run(&mut self, calls: &[Call]) -> Vec<Outcome> {
+        match self {
+            #[cfg(hoengtila_linked)]
+            Subject::Linked => calls.iter().map(run_linked).collect(),
+            Subject::Peer(peer) => peer.run(calls),
+            Subject::Model => calls.iter().map(Call::by_model).collect(),
+        }
+    }
+}
+
+#[cfg(not(hoengtila_linked))]
+fn linked() -> Option<Subject> {
+    None
+}
+
+#[cfg(hoengtila_linked)]
+fn linked() -> Option<Subject> {
+    Some(Subject::Linked)
+}
+
+#[cfg(hoengtila_linked)]
+fn run_linked(call: &Call) -> Outcome {
+    use crate::call::{Path, What};
+    use crate::library;
+    let mut output = call.held.clone();
+    let input = &call.input;
+    let answer = match call.what {
+        What::Weight { kind, n, i, j } => {
+            return Outcome::of_weight(library::weight(kind, n, i, j));
+        }
+        What::Line { path, n, kind } => {
+            let line = match path {
+                Path::Forward => library::line_forward,
+                Path::Inverse => library::line_inverse,
+                Path::ForwardProduct => library::line_forward_product,
+                Path::InverseProduct => library::line_inverse_product,
+            };
+            line(n, kind, input, &mut output)
+        }
+        What::Inverse(shape) => library::block_inverse(shape, input, &mut output),
+        What::Forward(shape) => {
+            let mut short: Vec<i16> = output.iter().map(|z| *z as i16).collect();
+            let answer = library::block_forward(shape, input, &mut short);
+            output = short.into_iter().map(i32::from).collect();
+            answer
+        }
+    };
+    Outcome { answer, output }
+}

@@ -1,0 +1,67 @@
+//! Blocks that are taken: every shape with every layout of numbers, and middle values about the rails.
+
+use crate::calls::Direction::{self, Forward, Inverse};
+use crate::calls::{area, block_call, shapes};
+use hoengtila_harness::compare::Comparison;
+use hoengtila_harness::patterns::{block, block_about_the_rails, clear_outside, LAYOUTS};
+
+/// Every shape with every layout of numbers.
+fn blocks(c: &mut Comparison, direction: Direction) {
+    for shape in shapes() {
+        for layout in LAYOUTS {
+            let ends = direction.ends(shape.depth);
+            let mut input = block(&mut c.random, layout, &shape, ends);
+            if direction == Inverse {
+                clear_outside(&shape, &mut input);
+            }
+            let call = block_call(&mut c.random, direction, shape, &input, area(&shape));
+            c.add(call);
+        }
+    }
+}
+
+#[test]
+fn inverse_blocks() {
+    let Some(mut c) = Comparison::open("inverse blocks") else {
+        return;
+    };
+    for _ in 0..BLOCK_ROUNDS {
+        blocks(&mut c, Inverse);
+    }
+    let c = c.close();
+    assert_eq!(c.met[1..], [0; 9], "these blocks are taken");
+}
+
+#[test]
+fn forward_blocks() {
+    let Some(mut c) = Comparison::open("forward blocks") else {
+        return;
+    };
+    for _ in 0..BLOCK_ROUNDS {
+        blocks(&mut c, Forward);
+    }
+    let c = c.close();
+    assert_eq!(c.met[1..], [0; 9], "these blocks are taken");
+}
+
+/// How often every shape meets every layout: some ten million numbers in each direction.
+const BLOCK_ROUNDS: usize = 10;
+
+/// Middle values next to the rail, at it, and clipped to it.
+#[test]
+fn inverse_blocks_about_the_rails() {
+    let Some(mut c) = Comparison::open("inverse blocks about the rails") else {
+        return;
+    };
+    let mut unrailed = 0;
+    for shape in shapes().iter().cycle().take(320 * 10) {
+        let input = block_about_the_rails(&mut c.random, shape);
+        let call = block_call(&mut c.random, Inverse, *shape, &input, area(shape));
+        unrailed += usize::from(call.by_model().answer.rails == 0);
+        c.add(call);
+    }
+    let c = c.close();
+    // both sides of the rail are to be met
+    assert!(c.rails > 1000 && unrailed > 10);
+    eprintln!("{} values at a rail; {unrailed} blocks with none", c.rails);
+}

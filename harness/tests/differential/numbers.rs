@@ -1,0 +1,103 @@
+//! "Numbers on both sides": what the scope itself says that calls give, in its own numbers and not the model's.
+
+use hoengtila_harness::call::{Call, Outcome, Path, What};
+use hoengtila_harness::compare::Comparison;
+use hoengtila_harness::library::{Answer, Shape};
+
+fn shape(width: u32, height: u32, depth: u32) -> Shape {
+    Shape {
+        width,
+        height,
+        horizontal: 1,
+        vertical: 1,
+        depth,
+    }
+}
+
+/// What the library makes of a call whose output holds sevens.
+fn run(c: &mut Comparison, what: What, input: &[i16]) -> Outcome {
+    c.outcome(Call {
+        what,
+        input: input.to_vec(),
+        held: vec![7; input.len()],
+    })
+}
+
+fn refused(number: u32, place: u32, numbers: usize) -> Outcome {
+    let answer = Answer {
+        number,
+        place,
+        rails: 0,
+    };
+    Outcome {
+        answer,
+        output: vec![7; numbers],
+    }
+}
+
+/// Zeros but for some numbers.
+fn zeros_but(count: usize, numbers: &[(usize, i16)]) -> Vec<i16> {
+    let mut all = vec![0; count];
+    for (place, number) in numbers {
+        all[*place] = *number;
+    }
+    all
+}
+
+fn rails(c: &mut Comparison, input: &[i16]) -> u32 {
+    let Outcome { answer, .. } = run(c, What::Inverse(shape(4, 4, 10)), input);
+    assert_eq!((answer.number, answer.place), (0, 0));
+    answer.rails
+}
+
+#[test]
+fn numbers_on_both_sides() {
+    let Some(mut comparison) = Comparison::open("the scope's own numbers") else {
+        return;
+    };
+    let c = &mut comparison;
+    for (kind, sums) in [(1, [242, 74, 36, 16]), (2, [242, -74, 36, -16])] {
+        for path in [Path::Forward, Path::ForwardProduct] {
+            let line = What::Line { path, n: 4, kind };
+            assert_eq!(run(c, line, &[1; 4]).output, sums, "items 1 and 2");
+        }
+    }
+
+    let table = [
+        84, 74, 55, 29, 74, 0, -74, -74, 55, -74, -29, 84, 29, -74, 84, -55,
+    ];
+    for (place, weight) in (0..).zip(table) {
+        let call = Call::weight(2, 4, place / 4, place % 4);
+        assert_eq!(c.outcome(call).output, [weight], "item 3");
+    }
+
+    let forward = What::Forward(shape(4, 4, 8));
+    assert_eq!(run(c, forward, &[255; 16]).output[0], 29168, "item 4");
+    assert_eq!(run(c, forward, &[-255; 16]).output[0], -29168, "item 4");
+    assert_eq!(run(c, forward, &[256; 16]), refused(9, 0, 16), "item 5");
+
+    for (third, count) in [(21063, 0), (21064, 1), (21066, 1)] {
+        let column = zeros_but(16, &[(4, 32767), (8, third)]);
+        assert_eq!(rails(c, &column), count, "item 7, with {third}");
+    }
+    assert_eq!(rails(c, &[32767; 16]), 4, "item 8");
+    let whole = run(
+        c,
+        What::Inverse(shape(4, 4, 10)),
+        &zeros_but(16, &[(0, 64)]),
+    );
+    let residuals = [0, 1, 1, 1, 1, 2, 2, 2, 1, 2, 3, 3, 1, 2, 3, 3];
+    assert_eq!(whole.output, residuals, "item 8");
+
+    let wide = What::Inverse(shape(32, 4, 8));
+    let taken = run(c, wide, &zeros_but(128, &[(15, 1)]));
+    assert_eq!(taken.answer.number, 0, "item 9");
+    let outside = run(c, wide, &zeros_but(128, &[(16, 1)]));
+    assert_eq!(outside, refused(8, 16, 128), "item 9");
+
+    let mut several = shape(5, 4, 7);
+    several.horizontal = 0;
+    let turned_down = run(c, What::Inverse(several), &[0; 20]);
+    assert_eq!(turned_down, refused(1, 0, 20), "item 10");
+    comparison.close();
+}

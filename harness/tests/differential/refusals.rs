@@ -1,0 +1,158 @@
+//! Calls that are turned down: the number, the place, and the output as it was.
+
+use crate::calls::Direction::{self, Forward, Inverse};
+use crate::calls::{area, block_call, line_call, shapes_in_turn, DIRECTIONS, KINDS, SIZES};
+use hoengtila_harness::call::{Call, PATHS};
+use hoengtila_harness::compare::Comparison;
+use hoengtila_harness::library::Shape;
+use hoengtila_harness::patterns::{block, clear_outside, is_kept, LAYOUTS};
+use hoengtila_harness::random::Random;
+use hoengtila_harness::wrong::{Wrong, NO_DEPTH, NO_KIND, NO_SIZE};
+
+/// Every set of the tests that a line can meet.
+#[test]
+fn refused_lines() {
+    let Some(mut c) = Comparison::open("lines, refused for every set of reasons") else {
+        return;
+    };
+    for (bits, path) in (0..128).flat_map(|bits| PATHS.map(|path| (bits, path))) {
+        for _ in 0..5 {
+            let wrong = Wrong::among(bits);
+            let random = &mut c.random;
+            let n = wrong.pick(random, 1, &[4, 8, 16, 32], &NO_SIZE);
+            let kind = wrong.pick(random, 3, &[1, 2], &NO_KIND);
+            let right = if n <= 64 { n.max(1) } else { 4 };
+            let input = wrong.length(random, 6, right);
+            let output = wrong.length(random, 7, right);
+            let x = random.numbers(input, -32768, 32767);
+            let call = line_call(random, path, [n as u32, kind as u32], &x, output);
+            c.add(call);
+        }
+    }
+    let c = c.close();
+    assert!([0, 1, 3, 6, 7].iter().all(|number| c.met[*number] > 0));
+}
+
+/// Every set of the tests that a block can meet.
+#[test]
+fn refused_blocks() {
+    let Some(mut c) = Comparison::open("blocks, refused for every set of reasons") else {
+        return;
+    };
+    for (bits, direction) in (0..512).flat_map(|bits| DIRECTIONS.map(|d| (bits, d))) {
+        for _ in 0..5 {
+            let call = call_with(&mut c.random, direction, &Wrong::among(bits));
+            c.add(call);
+        }
+    }
+    let c = c.close();
+    assert!(c.met.iter().all(|count| *count > 0));
+}
+
+fn call_with(random: &mut Random, direction: Direction, wrong: &Wrong) -> Call {
+    let sizes = SIZES.map(i64::from);
+    let shape = Shape {
+        width: wrong.pick(random, 1, &sizes, &NO_SIZE) as u32,
+        height: wrong.pick(random, 2, &sizes, &NO_SIZE) as u32,
+        horizontal: wrong.pick(random, 3, &[1, 2], &NO_KIND) as u32,
+        vertical: wrong.pick(random, 4, &[1, 2], &NO_KIND) as u32,
+        depth: wrong.pick(random, 5, &[8, 9, 10, 11, 12], &NO_DEPTH) as u32,
+    };
+    // a length that the sides ask for, where the peer has room for twice as many numbers
+    let right = match u64::from(shape.width) * u64::from(shape.height) {
+        area @ 1..=2048 => area as i64,
+        _ => 16,
+    };
+    let input = wrong.length(random, 6, right);
+    let output = wrong.length(random, 7, right);
+    let mut numbers = random.numbers(input, -255, 255);
+    if direction == Inverse && shape.width > 0 {
+        clear_outside(&shape, &mut numbers);
+    }
+    if wrong.applies[direction.hunt()] && shape.width > 0 {
+        spoil(random, direction, &shape, &mut numbers);
+    }
+    block_call(random, direction, shape, &numbers, output)
+}
+
+/// Some numbers that the hunt stops at, where the shape has places for them.
+fn spoil(random: &mut Random, direction: Direction, shape: &Shape, numbers: &mut [i64]) {
+    let bad = |place: &usize| direction == Forward || !is_kept(shape, *place);
+    let places: Vec<usize> = (0..numbers.len()).filter(bad).collect();
+    for _ in 0..places.len().min(3) {
+        numbers[random.choose(&places)] = random.choose(&[-32768, 32767, -4096, 4096]);
+    }
+}
+
+/// Each place once as the only bad one, with the smallest numbers that are bad.
+#[test]
+fn one_bad_number_at_each_place() {
+    let Some(mut c) = Comparison::open("blocks with one bad number, at each place") else {
+        return;
+    };
+    for (shape, direction) in shapes_in_turn()
+        .iter()
+        .flat_map(|s| DIRECTIONS.map(|d| (s, d)))
+    {
+        let [low, high] = direction.ends(shape.depth);
+        for place in 0..area(shape) {
+            let mut input = block(&mut c.random, LAYOUTS[0], shape, [low, high]);
+            let bad = match direction {
+                Forward => [high + 1, low - 1, 32767, -32768],
+                Inverse => [1, -1, 256, -32768],
+            };
+            if direction == Inverse {
+                clear_outside(shape, &mut input);
+            }
+            input[place] = c.random.choose(&bad);
+            let call = block_call(&mut c.random, direction, *shape, &input, area(shape));
+            c.add(call);
+        }
+    }
+    let c = c.close();
+    assert!(c.met[8] > 0 && c.met[9] > 0);
+}
+
+/// Every pair of lengths of a line's buffers, from 0 to one too many.
+#[test]
+fn lengths_of_lines() {
+    let Some(mut c) = Comparison::open("lines of every length, 0 to one too many") else {
+        return;
+    };
+    for (n, path) in SIZES.iter().flat_map(|n| PATHS.map(|path| (*n, path))) {
+        let lengths = 0..=n as usize + 1;
+        for (input, output) in lengths
+            .clone()
+            .flat_map(|a| lengths.clone().map(move |b| (a, b)))
+        {
+            let kind = c.random.choose(&KINDS);
+            let x = c.random.numbers(input, -32768, 32767);
+            let call = line_call(&mut c.random, path, [n, kind], &x, output);
+            c.add(call);
+        }
+    }
+    c.close();
+}
+
+/// Each length of one of a block's buffers, from 0 to one too many, the other being right.
+#[test]
+fn lengths_of_blocks() {
+    let Some(mut c) = Comparison::open("blocks of every length, 0 to one too many") else {
+        return;
+    };
+    for (shape, direction) in shapes_in_turn()
+        .iter()
+        .flat_map(|s| DIRECTIONS.map(|d| (s, d)))
+    {
+        let right = area(shape);
+        for length in 0..=right + 1 {
+            for (input, output) in [(length, right), (right, length), (length, length)] {
+                let x = vec![0; input];
+                let call = block_call(&mut c.random, direction, *shape, &x, output);
+                c.add(call);
+            }
+        }
+    }
+    let c = c.close();
+    assert!(c.met[6] > 0 && c.met[7] > 0);
+}

@@ -1,0 +1,62 @@
+/* Hoengtila: DST-VII and DCT-VIII of VVC (H.266), forward and inverse, for C and C++ callers.
+ *
+ * Every function takes any numbers and any lengths. What the caller owes: each pointer points to as many elements as the
+ * length after it says (a length of 0 takes any pointer that is not null), and no output overlaps an input.
+ *
+ * A call that is turned down hands back one of these numbers, the first that applies; its output holds what it held, its
+ * rail count is 0, and its place is 0 but for 8 and 9. An accepted call hands back number 0 and place 0.
+ *
+ *   1  the width, or a line's length, is not 4, 8, 16 or 32
+ *   2  the height is not one of those
+ *   3  the horizontal kind, or a line's kind, is not 1 (DST-VII) or 2 (DCT-VIII)
+ *   4  the vertical kind is not 1 or 2
+ *   5  the depth is outside 8..12
+ *   6  the input's length is not width * height (line: n)
+ *   7  the output's length is not width * height (line: n)
+ *   8  inverse block: a coefficient other than 0 outside the kept part (the first 16 columns and rows); place of the first
+ *   9  forward block: a residual of size above 2^depth - 1; place of the first
+ */
+#ifndef HOENGTILA_H
+#define HOENGTILA_H
+
+#include <stddef.h>
+#include <stdint.h>
+
+#ifdef __cplusplus
+extern "C" {
+#endif
+
+typedef struct {
+    uint32_t width;
+    uint32_t height;
+    uint32_t horizontal; /* kind of the rows: 1 DST-VII, 2 DCT-VIII */
+    uint32_t vertical;   /* kind of the columns */
+    uint32_t depth;      /* bits of a sample, 8..12 */
+} hoengtila_shape;
+
+typedef struct {
+    uint32_t number; /* 0, or the number of the refusal */
+    uint32_t place;  /* of the number that 8 or 9 refuses: column + row * width */
+    uint32_t rails;  /* inverse block: values between the stages that stand at an end of their 16-bit range */
+} hoengtila_answer;
+
+/* The weight of row i in column j at n points; 0 outside. */
+int32_t hoengtila_weight(uint32_t kind, uint32_t n, uint32_t i, uint32_t j);
+
+/* Lines: n numbers of 16 bits in, n exact sums of 32 bits out, with no shift.
+ * The first two take the fast path, the others the full matrix product; they give the same. */
+hoengtila_answer hoengtila_line_forward(uint32_t n, uint32_t kind, const int16_t *x, size_t x_len, int32_t *y, size_t y_len);
+hoengtila_answer hoengtila_line_inverse(uint32_t n, uint32_t kind, const int16_t *x, size_t x_len, int32_t *y, size_t y_len);
+hoengtila_answer hoengtila_line_forward_product(uint32_t n, uint32_t kind, const int16_t *x, size_t x_len, int32_t *y, size_t y_len);
+hoengtila_answer hoengtila_line_inverse_product(uint32_t n, uint32_t kind, const int16_t *x, size_t x_len, int32_t *y, size_t y_len);
+
+/* Blocks: numbers stand row by row. The inverse takes coefficients and gives residuals, which are not clipped; the forward
+ * takes residuals and gives coefficients, 0 outside the kept part. */
+hoengtila_answer hoengtila_block_inverse(hoengtila_shape shape, const int16_t *coefficients, size_t coefficients_len, int32_t *residuals, size_t residuals_len);
+hoengtila_answer hoengtila_block_forward(hoengtila_shape shape, const int16_t *residuals, size_t residuals_len, int16_t *coefficients, size_t coefficients_len);
+
+#ifdef __cplusplus
+}
+#endif
+
+#endif

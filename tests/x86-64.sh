@@ -1,0 +1,47 @@
+# shellcheck shell=bash disable=SC2034
+# How a program for x86-64 is compiled and run here, for the scripts that source this: the archive is for x86-64 alone.
+# On such a machine that takes a C compiler; on any other a cross compiler, static programs and an emulator.
+#   find_x86_64 NAME   sets the words cc and cxx (which is empty where there is no C++) to compile and link with, and run
+#                      to run what comes of it; where something is missing it says so in a line that starts with NAME,
+#                      and fails
+
+# The kit has an emulator beside its other tools.
+find_emulator() {
+    local kit emulator
+    kit=$(dirname "$(dirname "$(readlink -f "$(command -v rt)")")")
+    emulator=$kit/on/$(uname -m)/toolchain/bin/qemu-x86_64
+    if [ -x "$emulator" ]; then echo "$emulator"; else command -v qemu-x86_64; fi
+}
+
+# Asked for by CI or by HOENGTILA_INSTALL=1, and possible as root where there is apt-get.
+install_cross_compilers() {
+    [ -n "${CI:-}${HOENGTILA_INSTALL:-}" ] && [ "$(id -u)" = 0 ] && command -v apt-get >/dev/null || return 0
+    { apt-get update -q && apt-get install -y -q gcc-x86-64-linux-gnu g++-x86-64-linux-gnu; } >/dev/null 2>&1 || true
+}
+
+find_x86_64() {
+    cc=() cxx=() run=()
+    if [ "$(uname -m)" = x86_64 ]; then
+        find_native "$1"
+    else
+        find_cross "$1"
+    fi
+}
+
+find_native() {
+    command -v "${CC:-cc}" >/dev/null || { echo "$1: a C compiler is missing here, so nothing was run"; return 1; }
+    cc=("${CC:-cc}")
+    if command -v "${CXX:-c++}" >/dev/null; then cxx=("${CXX:-c++}"); fi
+}
+
+find_cross() {
+    local c=x86_64-linux-gnu-gcc emulator
+    command -v "$c" >/dev/null || install_cross_compilers
+    command -v "$c" >/dev/null || { echo "$1: a C compiler for x86-64 is missing here, so nothing was run"; return 1; }
+    emulator=$(find_emulator) || { echo "$1: an emulator of x86-64 is missing here, so nothing was run"; return 1; }
+    # a static program needs no library of the machine that it is for
+    cc=("$c" -static)
+    # gcc compiles C++ too; g++ would add -lm, of which Debian's cross packages have no static form that links
+    if command -v x86_64-linux-gnu-g++ >/dev/null; then cxx=("$c" -static); fi
+    run=("$emulator")
+}
