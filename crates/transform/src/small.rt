@@ -4,7 +4,8 @@ use crate::block::inverse;
 use meaning::Answer;
 use meaning::Shape;
 ghost use mathlib.Core.Path.{_≡_};
-ghost use Rattle.algebra.specs.Lists.{flat};
+ghost use Prim.Native.Nat.{_+_, _≤_};
+ghost use Rattle.algebra.specs.Lists.{at, tabulate, flat};
 ghost use Rattle.meaning.specs.Answer.{Outcome};
 ghost use Rattle.transform.specs.Small.{smallForward, smallInverse};
 
@@ -50,70 +51,64 @@ pub fn residuals_of(r: SmallResiduals) -> [[i32; 4]; 4]
 fn joined(b: [[i16; 4]; 4]) -> [i16; 16]
     ensures { λ r. ⌜ r ≡ flat b ⌝ }
 {
-    [
-        b[0][0],
-        b[0][1],
-        b[0][2],
-        b[0][3],
-        b[1][0],
-        b[1][1],
-        b[1][2],
-        b[1][3],
-        b[2][0],
-        b[2][1],
-        b[2][2],
-        b[2][3],
-        b[3][0],
-        b[3][1],
-        b[3][2],
-        b[3][3],
-    ]
+    let mut out = [0i16; 16];
+    let mut i = 0;
+    while i < 16 {
+        let y = i / 4;
+        let x = i % 4;
+        out[i] = b[y][x];
+        i += 1;
+    }
+    out
 }
 
-fn joined_residuals(b: [[i32; 4]; 4]) -> [i32; 16]
-    ensures { λ r. ⌜ r ≡ flat b ⌝ }
+fn joined_residuals(r: [[i32; 4]; 4]) -> [i32; 16]
+    ensures { λ s. ⌜ s ≡ flat r ⌝ }
 {
-    [
-        b[0][0],
-        b[0][1],
-        b[0][2],
-        b[0][3],
-        b[1][0],
-        b[1][1],
-        b[1][2],
-        b[1][3],
-        b[2][0],
-        b[2][1],
-        b[2][2],
-        b[2][3],
-        b[3][0],
-        b[3][1],
-        b[3][2],
-        b[3][3],
-    ]
+    let mut out = [0i32; 16];
+    let mut i = 0;
+    while i < 16 {
+        let y = i / 4;
+        let x = i % 4;
+        out[i] = r[y][x];
+        i += 1;
+    }
+    out
 }
 
-// .. and back.
+// .. and back: the line that starts at a place, and the four of them.
+fn coefficient_line(c: [i16; 16], from: usize) -> [i16; 4]
+    requires { ⌜ from ≤ 12 ⌝ }
+    ensures { λ r. ⌜ r ≡ tabulate 4 (λ k. at c (from + k)) ⌝ }
+{
+    [c[from], c[from + 1], c[from + 2], c[from + 3]]
+}
+
 fn coefficient_lines(c: [i16; 16]) -> [[i16; 4]; 4]
     ensures { λ r. ⌜ flat r ≡ c ⌝ }
 {
-    [
-        [c[0], c[1], c[2], c[3]],
-        [c[4], c[5], c[6], c[7]],
-        [c[8], c[9], c[10], c[11]],
-        [c[12], c[13], c[14], c[15]],
-    ]
+    let first = coefficient_line(c, 0);
+    let second = coefficient_line(c, 4);
+    let third = coefficient_line(c, 8);
+    let fourth = coefficient_line(c, 12);
+    [first, second, third, fourth]
+}
+
+fn residual_line(r: [i32; 16], from: usize) -> [i32; 4]
+    requires { ⌜ from ≤ 12 ⌝ }
+    ensures { λ s. ⌜ s ≡ tabulate 4 (λ k. at r (from + k)) ⌝ }
+{
+    [r[from], r[from + 1], r[from + 2], r[from + 3]]
 }
 
 fn residual_lines(r: [i32; 16]) -> [[i32; 4]; 4]
     ensures { λ s. ⌜ flat s ≡ r ⌝ }
 {
-    [
-        [r[0], r[1], r[2], r[3]],
-        [r[4], r[5], r[6], r[7]],
-        [r[8], r[9], r[10], r[11]],
-        [r[12], r[13], r[14], r[15]],
-    ]
+    let first = residual_line(r, 0);
+    let second = residual_line(r, 4);
+    let third = residual_line(r, 8);
+    let fourth = residual_line(r, 12);
+    [first, second, third, fourth]
 }
 
 /// The forward block of 4 by 4 residuals. Refusals 3, 4, 5 and 9.
