@@ -2,16 +2,13 @@
 // and output; the places of the first number and of the second, which is the one that stands where both are the same.
 
 // Document 01, "Numbers on both sides".
-pub const ITEM_7: [[u32; 9]; 1] = [[4, 4, 1, 1, 10, 16, 16, 4, 8]];
+pub const ITEM_7: [u32; 9] = [4, 4, 1, 1, 10, 16, 16, 4, 8];
 
-pub const ITEM_8: [[u32; 9]; 1] = [[4, 4, 1, 1, 10, 16, 16, 0, 1]];
+pub const ITEM_8: [u32; 9] = [4, 4, 1, 1, 10, 16, 16, 0, 1];
 
-pub const ITEM_9: [[u32; 9]; 2] = [
-    [32, 4, 1, 1, 8, 128, 128, 15, 15],
-    [32, 4, 1, 1, 8, 128, 128, 16, 16],
-];
+pub const ITEM_9: [u32; 9] = [32, 4, 1, 1, 8, 128, 128, 15, 16];
 
-pub const ITEM_10: [[u32; 9]; 1] = [[5, 4, 0, 0, 7, 20, 20, 0, 0]];
+pub const ITEM_10: [u32; 9] = [5, 4, 0, 0, 7, 20, 20, 0, 0];
 
 // 1 to 7: one thing is wrong in each.
 pub const ALONE: [[u32; 9]; 20] = [
@@ -63,6 +60,6 @@ pub const OUTSIDE: [[u32; 9]; 9] = [
 ];
 
 // The places of 9.
-pub const SMALL: [[u32; 9]; 1] = [[4, 8, 1, 2, 8, 32, 32, 30, 7]];
+pub const SMALL: [u32; 9] = [4, 8, 1, 2, 8, 32, 32, 30, 7];
 
-pub const LARGE: [[u32; 9]; 1] = [[32, 32, 2, 2, 12, 1024, 1024, 1023, 1000]];
+pub const LARGE: [u32; 9] = [32, 32, 2, 2, 12, 1024, 1024, 1023, 1000];

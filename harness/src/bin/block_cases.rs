@@ -62,15 +62,15 @@ fn line(
 ) {
     let [width, height, horizontal, vertical, depth] = sides;
     let shape = Shape::new(width, height, horizontal, vertical, depth);
-    let before = filled(32, 32, MARKS)[..output].to_vec();
+    let before: Vec<i64> = (0..output).map(|k| MARKS[k % 2]).collect();
     let mut after = before.clone();
     let answer = direction.run(&shape, &block[..input], &mut after);
     let name = direction.name();
-    print!("{what}: {name} {width} {height} {horizontal} {vertical} {depth},");
-    print!(" {input} to {output}:");
-    print!(" {} {} {},", answer.number, answer.place, answer.rails);
+    print!("{what}: {name} {width} {height} {horizontal} {vertical} {depth}");
+    print!(" {input} {output}:");
+    print!(" {} {} {}", answer.number, answer.place, answer.rails);
     let changed = (0..output).filter(|&k| before[k] != after[k]).count();
-    print!(" {changed} changed");
+    print!(" changed {changed}");
     print_numbers(&after);
     println!();
 }
@@ -93,10 +93,7 @@ const ITEM_7: &[Row] = &[([4, 4, 1, 1, 10], [16, 16], [4, 8])];
 
 const ITEM_8: &[Row] = &[([4, 4, 1, 1, 10], [16, 16], [0, 1])];
 
-const ITEM_9: &[Row] = &[
-    ([32, 4, 1, 1, 8], [128, 128], [15, 15]),
-    ([32, 4, 1, 1, 8], [128, 128], [16, 16]),
-];
+const ITEM_9: &[Row] = &[([32, 4, 1, 1, 8], [128, 128], [15, 16])];
 
 const ITEM_10: &[Row] = &[([5, 4, 0, 0, 7], [20, 20], [0, 0])];
 
@@ -159,7 +156,7 @@ fn rows(direction: Direction, number: i64, other: i64, table: &[Row]) {
         let mut block = vec![0; ROOM];
         block[place] = number;
         block[next] = other;
-        let what = format!("at {place} {number}, at {next} {other}");
+        let what = format!("at {place} {number} {next} {other}");
         line(direction, sides, &what, &block, lengths);
     }
 }
@@ -169,7 +166,8 @@ fn items() {
         rows(Inverse, 32767, n, ITEM_7);
     }
     rows(Inverse, 64, 0, ITEM_8);
-    rows(Inverse, 1000, 1000, ITEM_9);
+    rows(Inverse, 1000, 0, ITEM_9);
+    rows(Inverse, 0, 1000, ITEM_9);
     rows(Inverse, 0, 0, ITEM_10);
     rows(Forward, 0, 0, ITEM_10);
 }
