@@ -75,7 +75,6 @@ fn every(a: &[i32]) {
     if a.len() != 16 {
         return;
     }
-    text(b" all");
     let mut k: usize = 0;
     while k < a.len() {
         signed(modular(a[k]));
@@ -93,11 +92,6 @@ pub fn outcome(shape: Shape, input: usize, output: usize, answer: Answer) {
             shape.depth as u64,
             input as u64,
             output as u64,
-        ],
-    );
-    text(b":");
-    list(
-        &[
             answer.number as u64,
             answer.place as u64,
             answer.rails as u64,
@@ -110,7 +104,7 @@ pub fn end(room: [i32; 1024], count: usize)
     requires { ⌜ count ≤ 1024 ⌝ }
 {
     let output = &room[0..count];
-    text(b" changed");
+    text(b" changes");
     sums(output);
     every(output);
     text(b"\n");

@@ -4,19 +4,6 @@ use crate::numbers::filled;
 use crate::print::text;
 use meaning::Shape;
 
-fn side(k: u32) -> u32 {
-    if k == 0 {
-        return 4;
-    }
-    if k == 1 {
-        return 8;
-    }
-    if k == 2 {
-        return 16;
-    }
-    32
-}
-
 fn blocks(is_forward: bool, shape: Shape, kept: usize, high: i16, low: i16) {
     let w = shape.width;
     text(b"high");
@@ -31,8 +18,8 @@ fn shapes(is_forward: bool, depth: u32, kept: usize, high: i16, low: i16) {
     let mut k: u32 = 0;
     while k < 64 {
         let shape = Shape::new(
-            side(k / 16),
-            side(k / 4 % 4),
+            4 << (k / 16),
+            4 << (k / 4 % 4),
             1 + k / 2 % 2,
             1 + k % 2,
             depth,

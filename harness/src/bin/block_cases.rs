@@ -67,10 +67,10 @@ fn line(
     let answer = direction.run(&shape, &block[..input], &mut after);
     let name = direction.name();
     print!("{what}: {name} {width} {height} {horizontal} {vertical} {depth}");
-    print!(" {input} {output}:");
+    print!(" {input} {output}");
     print!(" {} {} {}", answer.number, answer.place, answer.rails);
     let changed = (0..output).filter(|&k| before[k] != after[k]).count();
-    print!(" changed {changed}");
+    print!(" changes {changed}");
     print_numbers(&after);
     println!();
 }
@@ -80,7 +80,6 @@ fn print_numbers(numbers: &[i64]) {
     let placed: i64 = (1..).zip(numbers).map(|(place, n)| place * n).sum();
     print!(" {sum} {placed}");
     if numbers.len() == 16 {
-        print!(" all");
         numbers.iter().for_each(|n| print!(" {n}"));
     }
 }
@@ -101,14 +100,9 @@ const ITEM_10: &[Row] = &[([5, 4, 0, 0, 7], [20, 20], [0, 0])];
 const ALONE: &[Row] = &[
     ([5, 4, 1, 1, 8], [20, 20], [0, 0]),
     ([0, 4, 1, 1, 8], [0, 0], [0, 0]),
-    ([2, 4, 1, 1, 8], [8, 8], [0, 0]),
-    ([64, 4, 1, 1, 8], [256, 256], [0, 0]),
     ([4294967295, 4, 1, 1, 8], [16, 16], [0, 0]),
-    ([4, 5, 1, 1, 8], [20, 20], [0, 0]),
-    ([4, 0, 1, 1, 8], [0, 0], [0, 0]),
     ([4, 2, 1, 1, 8], [8, 8], [0, 0]),
     ([4, 64, 1, 1, 8], [256, 256], [0, 0]),
-    ([4, 4294967295, 1, 1, 8], [16, 16], [0, 0]),
     ([4, 4, 0, 1, 8], [16, 16], [0, 0]),
     ([4, 4, 3, 1, 8], [16, 16], [0, 0]),
     ([4, 4, 1, 0, 8], [16, 16], [0, 0]),

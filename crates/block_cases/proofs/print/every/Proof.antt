@@ -14,12 +14,6 @@ abbrev μ-loop : tie.MeasureT-loop
 returns : tie.Need-returns Inv-loop μ-loop
 returns c = search needs
 
-slice-aggregate-text : tie.Need-slice-aggregate-text Inv-loop μ-loop
-slice-aggregate-text c = search needs
-
-text-requires : tie.Need-text-requires Inv-loop μ-loop
-text-requires c κs = search needs
-
 loop-holds : tie.Need-loop-holds Inv-loop μ-loop
 loop-holds c = search needs
 
@@ -54,8 +48,6 @@ every-spec =
     Inv-loop
     μ-loop
     returns
-    slice-aggregate-text
-    text-requires
     loop-holds
     mul-modular
     shared-slice-copy-out-modular

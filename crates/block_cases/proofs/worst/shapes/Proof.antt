@@ -13,11 +13,11 @@ abbrev μ-loop : tie.MeasureT-loop
 loop-holds : tie.Need-loop-holds Inv-loop μ-loop
 loop-holds c = search needs
 
-side-requires : tie.Need-side-requires Inv-loop μ-loop
-side-requires c κs = search needs
+shl-new : tie.Need-shl-new Inv-loop μ-loop
+shl-new c = search needs
 
-side-requires-2 : tie.Need-side-requires-2 Inv-loop μ-loop
-side-requires-2 c κs = search needs
+shl-new-2 : tie.Need-shl-new-2 Inv-loop μ-loop
+shl-new-2 c = search needs
 
 add-new : tie.Need-add-new Inv-loop μ-loop
 add-new c = search needs
@@ -50,8 +50,8 @@ shapes-spec =
     Inv-loop
     μ-loop
     loop-holds
-    side-requires
-    side-requires-2
+    shl-new
+    shl-new-2
     add-new
     add-new-2
     new-requires
