@@ -2,7 +2,6 @@
 use crate::numbers::marks;
 use crate::numbers::widened;
 use crate::print::end;
-use crate::print::outcome;
 use crate::print::text;
 use meaning::Shape;
 ghost use Prim.Native.Nat.{_≤_};
@@ -13,8 +12,7 @@ fn inverse(shape: Shape, numbers: [i16; 1024], input: usize, output: usize)
     text(b": inverse");
     let mut out = widened(marks());
     let answer = transform::block::inverse(shape, &numbers[0..input], &mut out[0..output]);
-    outcome(shape, input, output, answer);
-    end(out, output);
+    end(shape, input, answer, out, output);
 }
 
 fn forward(shape: Shape, numbers: [i16; 1024], input: usize, output: usize)
@@ -23,8 +21,7 @@ fn forward(shape: Shape, numbers: [i16; 1024], input: usize, output: usize)
     text(b": forward");
     let mut out = marks();
     let answer = transform::block::forward(shape, &numbers[0..input], &mut out[0..output]);
-    outcome(shape, input, output, answer);
-    end(widened(out), output);
+    end(shape, input, answer, widened(out), output);
 }
 
 pub fn line(is_forward: bool, shape: Shape, numbers: [i16; 1024], input: usize, output: usize) {
@@ -39,18 +36,4 @@ pub fn line(is_forward: bool, shape: Shape, numbers: [i16; 1024], input: usize, 
     } else {
         inverse(shape, numbers, input, output);
     }
-}
-
-// A line with the lengths that the shape asks for.
-pub fn whole(is_forward: bool, shape: Shape, numbers: [i16; 1024]) {
-    let w = shape.width;
-    let h = shape.height;
-    if 32 < w {
-        return;
-    }
-    if 32 < h {
-        return;
-    }
-    let area = (w * h) as usize;
-    line(is_forward, shape, numbers, area, area);
 }

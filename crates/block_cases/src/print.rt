@@ -82,7 +82,7 @@ fn every(a: &[i32]) {
     }
 }
 
-pub fn outcome(shape: Shape, input: usize, output: usize, answer: Answer) {
+fn outcome(shape: Shape, input: usize, output: usize, answer: Answer) {
     list(
         &[
             shape.width as u64,
@@ -100,10 +100,11 @@ pub fn outcome(shape: Shape, input: usize, output: usize, answer: Answer) {
 }
 
 // The first `count` numbers are those of the output.
-pub fn end(room: [i32; 1024], count: usize)
+pub fn end(shape: Shape, input: usize, answer: Answer, room: [i32; 1024], count: usize)
     requires { ⌜ count ≤ 1024 ⌝ }
 {
     let output = &room[0..count];
+    outcome(shape, input, count, answer);
     text(b" changes");
     sums(output);
     every(output);

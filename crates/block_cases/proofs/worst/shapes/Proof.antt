@@ -28,6 +28,15 @@ add-new-2 c = search needs
 new-requires : tie.Need-new-requires Inv-loop μ-loop
 new-requires c κs = search needs
 
+add-blocks : tie.Need-add-blocks Inv-loop μ-loop
+add-blocks c = search needs
+
+cast-blocks : tie.Need-cast-blocks Inv-loop μ-loop
+cast-blocks c = search needs
+
+shl-blocks : tie.Need-shl-blocks Inv-loop μ-loop
+shl-blocks c = search needs
+
 blocks-requires : tie.Need-blocks-requires Inv-loop μ-loop
 blocks-requires c κs = search needs
 
@@ -55,6 +64,9 @@ shapes-spec =
     add-new
     add-new-2
     new-requires
+    add-blocks
+    cast-blocks
+    shl-blocks
     blocks-requires
     add-k
     loop-less
