@@ -1,7 +1,7 @@
 // Runs a table of block calls and prints a line for each; the file stdout has the lines that the model gives
 // (harness/src/bin/block_cases.rs). A line: what stands in the block; the direction, the shape, the lengths of input and
-// output; then number, place and rail count, how many numbers of the output the call changed, the output's sum, and its
-// sum with each number times its place from 1; an output of sixteen numbers stands there whole.
+// output; number, place and rail count; how many numbers of the output the call changed, the output's sum, and its sum
+// with each number times its place from 1; and an output of sixteen numbers whole.
 mod call;
 mod few;
 mod numbers;
