@@ -43,3 +43,12 @@ first-before p (z ∷ l) k i h b = here (p k z) refl (λ i. first-before p l (su
     here false e on (suc i) h b =
         let q : k + suc i ≡ suc k + i = omega arith in
         rw q (on i (le-of-suc-le-suc h) (omega arith))
+
+-- where every place fails the test, the search runs past the end; l stands from place k on
+pub first-past : (p : ℕ → ℤ → Bool) (l : List ℤ) (k : ℕ) → ((i : ℕ) → i < length l → p (k + i) (at l i) ≡ false) → firstAt p k l ≡ k + length l
+unfolding firstAt
+first-past p [] k e = sym (add-zero k)
+first-past p (z ∷ l) k e =
+    let here : p k z ≡ false = ap (λ (m : ℕ). p m z) (sym (add-zero k)) ∙ e 0 (omega arith) in
+    let more : (i : ℕ) → suc k + i ≡ k + suc i = λ i. omega arith in
+    rw here (first-past p l (suc k) (λ i h. ap (λ (m : ℕ). p m (at l i)) (more i) ∙ e (suc i) (omega arith)) ∙ omega arith)

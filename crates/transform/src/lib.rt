@@ -3,3 +3,4 @@
 pub mod block;
 mod check;
 pub mod line;
+pub mod small;
