@@ -71,7 +71,7 @@ fn sums(a: &[i32]) {
 }
 
 // All numbers, where they are sixteen.
-fn every(a: &[i32]) {
+pub fn every(a: &[i32]) {
     if a.len() != 16 {
         return;
     }
@@ -92,6 +92,21 @@ fn outcome(shape: Shape, input: usize, output: usize, answer: Answer) {
             shape.depth as u64,
             input as u64,
             output as u64,
+            answer.number as u64,
+            answer.place as u64,
+            answer.rails as u64,
+        ],
+    );
+}
+
+// What a call on a block by value was given and handed back.
+pub fn answer(lead: &[u8], r: [u32; 3], answer: Answer) {
+    text(lead);
+    list(
+        &[
+            r[0] as u64,
+            r[1] as u64,
+            r[2] as u64,
             answer.number as u64,
             answer.place as u64,
             answer.rails as u64,

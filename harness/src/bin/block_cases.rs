@@ -1,7 +1,7 @@
 //! Prints the file `crates/block_cases/stdout`: the lines of the program `block_cases`, with what the model gives.
 //! The cases stand here as in the program's source and in its order; its head says what a line holds.
 
-use hoengtila_harness::model::{forward, inverse, Answer, Shape};
+use hoengtila_harness::model::{forward, forward_4x4, inverse, inverse_4x4, Answer, Shape};
 
 /// What every buffer has room for.
 const ROOM: usize = 1024;
@@ -208,6 +208,63 @@ fn shapes(direction: Direction, depth: i64, kept: usize, ends: [i64; 2]) {
     }
 }
 
+/// The two numbers by turns in four lines of four, but for the last line.
+fn lines([even, odd]: [i64; 2]) -> [[i64; 4]; 4] {
+    [
+        [even, odd, even, odd],
+        [odd, even, odd, even],
+        [even, odd, even, odd],
+        [odd, odd, even, even],
+    ]
+}
+
+/// A block by value, and the same lent, with zeros in its output.
+fn by_value(direction: Direction, turns: [i64; 2], [horizontal, vertical, depth]: [i64; 3]) {
+    let block = lines(turns);
+    let small = match direction {
+        Inverse => inverse_4x4(block, horizontal, vertical, depth),
+        Forward => forward_4x4(block, horizontal, vertical, depth),
+    };
+    let mut lent = [0; 16];
+    let shape = Shape::new(4, 4, horizontal, vertical, depth);
+    let answer = direction.run(&shape, &block.concat(), &mut lent);
+    let part = |answer: Answer, numbers: &[i64]| {
+        let mut all = vec![
+            horizontal,
+            vertical,
+            depth,
+            answer.number,
+            answer.place,
+            answer.rails,
+        ];
+        all.extend(numbers);
+        let words: Vec<String> = all.iter().map(i64::to_string).collect();
+        words.join(" ")
+    };
+    println!(
+        "by value: {} {} lent {}",
+        direction.name(),
+        part(small.answer, &small.block.concat()),
+        part(answer, &lent)
+    );
+}
+
+/// Every pair of kinds at two depths, and one refusal each of 3, 4 and 5.
+fn all_by_value() {
+    let pairs = [[1, 1], [1, 2], [2, 1], [2, 2]];
+    let taken = [8, 12]
+        .into_iter()
+        .flat_map(|d| pairs.map(|[h, v]| [h, v, d]));
+    for numbers in taken.chain([[0, 3, 7], [1, 3, 7], [1, 2, 13]]) {
+        for turns in [[32767, -32768], [-32768, -32768], [64, -3]] {
+            by_value(Inverse, turns, numbers);
+        }
+        for turns in [[255, -255], [4095, -4095], [-256, 255]] {
+            by_value(Forward, turns, numbers);
+        }
+    }
+}
+
 fn main() {
     items();
     refusals(Inverse);
@@ -224,4 +281,5 @@ fn main() {
         let largest = (1 << depth) - 1;
         shapes(Forward, depth, 32, [-largest, largest]);
     }
+    all_by_value();
 }
