@@ -2,8 +2,8 @@
 # How a program for x86-64 is compiled and run here, for the scripts that source this: the archive is for x86-64 alone.
 # On such a machine that takes a C compiler; on any other a cross compiler, static programs and an emulator.
 #   find_x86_64 NAME   sets the words cc and cxx (which is empty where there is no C++) to compile and link with, and run
-#                      to run what comes of it; where something is missing it says so in a line that starts with NAME,
-#                      and fails
+#                      to run what comes of it, and the words load to run a program that the kit linked; where something
+#                      is missing it says so in a line that starts with NAME, and fails
 
 # The kit has an emulator beside its other tools.
 find_emulator() {
@@ -20,7 +20,7 @@ install_cross_compilers() {
 }
 
 find_x86_64() {
-    cc=() cxx=() run=()
+    cc=() cxx=() run=() load=()
     if [ "$(uname -m)" = x86_64 ]; then
         find_native "$1"
     else
@@ -44,4 +44,15 @@ find_cross() {
     # gcc compiles C++ too; g++ would add -lm, of which Debian's cross packages have no static form that links
     if command -v x86_64-linux-gnu-g++ >/dev/null; then cxx=("$c" -static); fi
     run=("$emulator")
+    load=("$emulator")
+    find_loader
+}
+
+# A program that the kit linked needs the C library of x86-64, which the kit has beside its emulator.
+find_loader() {
+    local tools
+    tools=$(dirname "$(dirname "$(readlink -f "$(command -v rt)")")")/on/$(uname -m)/toolchain
+    if [ -x "$tools/lib/ld-linux-x86-64.so.2" ]; then
+        load+=("$tools/lib/ld-linux-x86-64.so.2" --library-path "$tools/lib")
+    fi
 }

@@ -2,26 +2,26 @@
 use crate::numbers::marks;
 use crate::numbers::widened;
 use crate::print::end;
-use crate::print::start;
+use crate::print::text;
 use meaning::Shape;
 ghost use Prim.Native.Nat.{_≤_};
 
 fn inverse(shape: Shape, numbers: [i16; 1024], input: usize, output: usize)
     requires { ⌜ (input ≤ 1024) × (output ≤ 1024) ⌝ }
 {
-    let before = widened(marks());
-    let mut after = before;
-    let answer = transform::block::inverse(shape, &numbers[0..input], &mut after[0..output]);
-    end(answer, before, after, output);
+    text(b": inverse");
+    let mut out = widened(marks());
+    let answer = transform::block::inverse(shape, &numbers[0..input], &mut out[0..output]);
+    end(shape, input, answer, out, output);
 }
 
 fn forward(shape: Shape, numbers: [i16; 1024], input: usize, output: usize)
     requires { ⌜ (input ≤ 1024) × (output ≤ 1024) ⌝ }
 {
-    let before = marks();
-    let mut after = before;
-    let answer = transform::block::forward(shape, &numbers[0..input], &mut after[0..output]);
-    end(answer, widened(before), widened(after), output);
+    text(b": forward");
+    let mut out = marks();
+    let answer = transform::block::forward(shape, &numbers[0..input], &mut out[0..output]);
+    end(shape, input, answer, widened(out), output);
 }
 
 pub fn line(is_forward: bool, shape: Shape, numbers: [i16; 1024], input: usize, output: usize) {
@@ -31,24 +31,9 @@ pub fn line(is_forward: bool, shape: Shape, numbers: [i16; 1024], input: usize, 
     if 1024 < output {
         return;
     }
-    start(is_forward, shape, input, output);
     if is_forward {
         forward(shape, numbers, input, output);
     } else {
         inverse(shape, numbers, input, output);
     }
-}
-
-// A line with the lengths that the shape asks for.
-pub fn whole(is_forward: bool, shape: Shape, numbers: [i16; 1024]) {
-    let w = shape.width;
-    let h = shape.height;
-    if 32 < w {
-        return;
-    }
-    if 32 < h {
-        return;
-    }
-    let area = (w * h) as usize;
-    line(is_forward, shape, numbers, area, area);
 }

@@ -8,7 +8,7 @@ use meaning::Shape;
 fn row(is_forward: bool, number: i16, other: i16, r: [u32; 9]) {
     let place = r[7] as usize;
     let next = r[8] as usize;
-    few(number, place, other, next);
+    few(place, number, next, other);
     let shape = Shape::new(r[0], r[1], r[2], r[3], r[4]);
     let numbers = only(place, number, next, other);
     line(is_forward, shape, numbers, r[5] as usize, r[6] as usize);
@@ -24,17 +24,14 @@ fn rows(is_forward: bool, number: i16, other: i16, table: &[[u32; 9]]) {
 
 // Items 7 to 10; 4, 5 and the second half of 8 are among the worst cases.
 pub fn items() {
-    let item_7 = tables::ITEM_7;
-    rows(false, 32767, 21063, &item_7);
-    rows(false, 32767, 21064, &item_7);
-    rows(false, 32767, 21066, &item_7);
-    let item_8 = tables::ITEM_8;
-    rows(false, 64, 0, &item_8);
-    let item_9 = tables::ITEM_9;
-    rows(false, 1000, 1000, &item_9);
-    let item_10 = tables::ITEM_10;
-    rows(false, 0, 0, &item_10);
-    rows(true, 0, 0, &item_10);
+    row(false, 32767, 21063, tables::ITEM_7);
+    row(false, 32767, 21064, tables::ITEM_7);
+    row(false, 32767, 21066, tables::ITEM_7);
+    row(false, 64, 0, tables::ITEM_8);
+    row(false, 1000, 0, tables::ITEM_9);
+    row(false, 0, 1000, tables::ITEM_9);
+    row(false, 0, 0, tables::ITEM_10);
+    row(true, 0, 0, tables::ITEM_10);
 }
 
 // 1 to 7 alone, and the order of all: 4096 at place 16 is 8's for the inverse and 9's for the forward.
@@ -52,13 +49,11 @@ pub fn outside() {
 }
 
 pub fn too_large() {
-    let small = tables::SMALL;
-    rows(true, -256, 256, &small);
-    rows(true, 256, -255, &small);
-    rows(true, -255, -32768, &small);
-    rows(true, 255, -255, &small);
-    let large = tables::LARGE;
-    rows(true, 4096, -4096, &large);
-    rows(true, -4096, 4095, &large);
-    rows(true, -4095, 4095, &large);
+    row(true, -256, 256, tables::SMALL);
+    row(true, 256, -255, tables::SMALL);
+    row(true, -255, -32768, tables::SMALL);
+    row(true, 255, -255, tables::SMALL);
+    row(true, 4096, -4096, tables::LARGE);
+    row(true, -4096, 4095, tables::LARGE);
+    row(true, -4095, 4095, tables::LARGE);
 }

@@ -54,9 +54,13 @@ pub fn filled(w: u32, kept: usize, even: i16, odd: i16) -> [i16; 1024] {
     a
 }
 
-// What an output holds before a call.
+// What place k of an output holds before a call.
+pub fn mark(k: usize) -> i32 {
+    if k % 2 == 0 { 1234 } else { -4321 }
+}
+
 pub fn marks() -> [i16; 1024] {
-    filled(32, 32, 1234, -4321)
+    filled(1024, 1024, 1234, -4321)
 }
 
 pub fn wide(v: i16) -> i32 {

@@ -1,57 +1,40 @@
 // Blocks of the largest numbers that a call takes, at every width, height and pair of kinds.
-use crate::call::whole;
+use crate::call::line;
 use crate::numbers::filled;
 use crate::print::text;
 use meaning::Shape;
 
-fn side(k: u32) -> u32 {
-    if k == 0 {
-        return 4;
-    }
-    if k == 1 {
-        return 8;
-    }
-    if k == 2 {
-        return 16;
-    }
-    32
-}
-
-fn blocks(is_forward: bool, shape: Shape, kept: usize, high: i16, low: i16) {
+fn blocks(is_forward: bool, shape: Shape, area: usize, kept: usize, high: i16, low: i16) {
     let w = shape.width;
     text(b"high");
-    whole(is_forward, shape, filled(w, kept, high, high));
+    line(is_forward, shape, filled(w, kept, high, high), area, area);
     text(b"low");
-    whole(is_forward, shape, filled(w, kept, low, low));
+    line(is_forward, shape, filled(w, kept, low, low), area, area);
     text(b"by turns");
-    whole(is_forward, shape, filled(w, kept, high, low));
+    line(is_forward, shape, filled(w, kept, high, low), area, area);
 }
 
 fn shapes(is_forward: bool, depth: u32, kept: usize, high: i16, low: i16) {
     let mut k: u32 = 0;
     while k < 64 {
-        let shape = Shape::new(
-            side(k / 16),
-            side(k / 4 % 4),
-            1 + k / 2 % 2,
-            1 + k % 2,
-            depth,
-        );
-        blocks(is_forward, shape, kept, high, low);
+        let x = k / 16;
+        let y = k / 4 % 4;
+        let shape = Shape::new(4 << x, 4 << y, 1 + k / 2 % 2, 1 + k % 2, depth);
+        blocks(is_forward, shape, 16 << (x + y), kept, high, low);
         k += 1;
     }
 }
 
 // Every kept coefficient; the second half of item 8 before.
 pub fn inverse() {
-    blocks(false, Shape::new(4, 4, 1, 1, 10), 16, 32767, -32768);
+    blocks(false, Shape::new(4, 4, 1, 1, 10), 16, 16, 32767, -32768);
     shapes(false, 8, 16, 32767, -32768);
     shapes(false, 12, 16, 32767, -32768);
 }
 
 // Every residual; item 5 before, and item 4 is the first of the others.
 pub fn forward() {
-    blocks(true, Shape::new(4, 4, 1, 1, 8), 32, 256, -256);
+    blocks(true, Shape::new(4, 4, 1, 1, 8), 16, 32, 256, -256);
     shapes(true, 8, 32, 255, -255);
     shapes(true, 9, 32, 511, -511);
     shapes(true, 10, 32, 1023, -1023);

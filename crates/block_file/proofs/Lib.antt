@@ -11,6 +11,7 @@ mod Spaced
 mod Turns
 mod Steps
 pub mod Fuel
+pub mod Counted
 mod Loop
 pub mod Printed
 pub mod Numbers

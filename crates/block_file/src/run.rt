@@ -16,10 +16,10 @@ ghost use Rattle.block_file.specs.Run.{blank, refusedTurn, inverseTurn, 
 ghost use Rattle.block_file.specs.Does.{Fits, Does, Follows};
 
 // What a turn hands back: the place behind its text, whether the run ends with it, and the next cursor.
-pub struct Done {
-    pub at: usize,
-    pub ends: bool,
-    pub next: Cursor,
+struct Done {
+    at: usize,
+    ends: bool,
+    next: Cursor,
 }
 
 // "The first refusal ends the run".

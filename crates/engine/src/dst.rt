@@ -1,12 +1,12 @@
 // The inverse DST-VII line by the law of folding (proofs/Folding.antt). L = 2n+1 is a product p * q at 4, 16 and 32 points. The
 // rows come in three classes: those where p divides 2i+1 (feature 2), those where q does (feature 3), and the others
 // (feature 1). Each class is summed over its first places only, and the other places follow from those.
-pub mod clear;
-pub mod front;
-pub mod place;
-pub mod row;
-pub mod spread;
-pub mod stretch;
+mod clear;
+mod front;
+mod place;
+mod row;
+mod spread;
+mod stretch;
 
 use crate::dst::clear::clear;
 use crate::dst::front::front_1;

@@ -1,7 +1,7 @@
 //! Prints the file `crates/block_cases/stdout`: the lines of the program `block_cases`, with what the model gives.
 //! The cases stand here as in the program's source and in its order; its head says what a line holds.
 
-use hoengtila_harness::model::{forward, inverse, Answer, Shape};
+use hoengtila_harness::model::{forward, forward_4x4, inverse, inverse_4x4, Answer, Shape};
 
 /// What every buffer has room for.
 const ROOM: usize = 1024;
@@ -62,15 +62,15 @@ fn line(
 ) {
     let [width, height, horizontal, vertical, depth] = sides;
     let shape = Shape::new(width, height, horizontal, vertical, depth);
-    let before = filled(32, 32, MARKS)[..output].to_vec();
+    let before: Vec<i64> = (0..output).map(|k| MARKS[k % 2]).collect();
     let mut after = before.clone();
     let answer = direction.run(&shape, &block[..input], &mut after);
     let name = direction.name();
-    print!("{what}: {name} {width} {height} {horizontal} {vertical} {depth},");
-    print!(" {input} to {output}:");
-    print!(" {} {} {},", answer.number, answer.place, answer.rails);
+    print!("{what}: {name} {width} {height} {horizontal} {vertical} {depth}");
+    print!(" {input} {output}");
+    print!(" {} {} {}", answer.number, answer.place, answer.rails);
     let changed = (0..output).filter(|&k| before[k] != after[k]).count();
-    print!(" {changed} changed");
+    print!(" changes {changed}");
     print_numbers(&after);
     println!();
 }
@@ -80,7 +80,6 @@ fn print_numbers(numbers: &[i64]) {
     let placed: i64 = (1..).zip(numbers).map(|(place, n)| place * n).sum();
     print!(" {sum} {placed}");
     if numbers.len() == 16 {
-        print!(" all");
         numbers.iter().for_each(|n| print!(" {n}"));
     }
 }
@@ -93,10 +92,7 @@ const ITEM_7: &[Row] = &[([4, 4, 1, 1, 10], [16, 16], [4, 8])];
 
 const ITEM_8: &[Row] = &[([4, 4, 1, 1, 10], [16, 16], [0, 1])];
 
-const ITEM_9: &[Row] = &[
-    ([32, 4, 1, 1, 8], [128, 128], [15, 15]),
-    ([32, 4, 1, 1, 8], [128, 128], [16, 16]),
-];
+const ITEM_9: &[Row] = &[([32, 4, 1, 1, 8], [128, 128], [15, 16])];
 
 const ITEM_10: &[Row] = &[([5, 4, 0, 0, 7], [20, 20], [0, 0])];
 
@@ -104,14 +100,9 @@ const ITEM_10: &[Row] = &[([5, 4, 0, 0, 7], [20, 20], [0, 0])];
 const ALONE: &[Row] = &[
     ([5, 4, 1, 1, 8], [20, 20], [0, 0]),
     ([0, 4, 1, 1, 8], [0, 0], [0, 0]),
-    ([2, 4, 1, 1, 8], [8, 8], [0, 0]),
-    ([64, 4, 1, 1, 8], [256, 256], [0, 0]),
     ([4294967295, 4, 1, 1, 8], [16, 16], [0, 0]),
-    ([4, 5, 1, 1, 8], [20, 20], [0, 0]),
-    ([4, 0, 1, 1, 8], [0, 0], [0, 0]),
     ([4, 2, 1, 1, 8], [8, 8], [0, 0]),
     ([4, 64, 1, 1, 8], [256, 256], [0, 0]),
-    ([4, 4294967295, 1, 1, 8], [16, 16], [0, 0]),
     ([4, 4, 0, 1, 8], [16, 16], [0, 0]),
     ([4, 4, 3, 1, 8], [16, 16], [0, 0]),
     ([4, 4, 1, 0, 8], [16, 16], [0, 0]),
@@ -159,7 +150,7 @@ fn rows(direction: Direction, number: i64, other: i64, table: &[Row]) {
         let mut block = vec![0; ROOM];
         block[place] = number;
         block[next] = other;
-        let what = format!("at {place} {number}, at {next} {other}");
+        let what = format!("at {place} {number} {next} {other}");
         line(direction, sides, &what, &block, lengths);
     }
 }
@@ -169,7 +160,8 @@ fn items() {
         rows(Inverse, 32767, n, ITEM_7);
     }
     rows(Inverse, 64, 0, ITEM_8);
-    rows(Inverse, 1000, 1000, ITEM_9);
+    rows(Inverse, 1000, 0, ITEM_9);
+    rows(Inverse, 0, 1000, ITEM_9);
     rows(Inverse, 0, 0, ITEM_10);
     rows(Forward, 0, 0, ITEM_10);
 }
@@ -216,6 +208,63 @@ fn shapes(direction: Direction, depth: i64, kept: usize, ends: [i64; 2]) {
     }
 }
 
+/// The two numbers by turns in four lines of four, but for the last line.
+fn lines([even, odd]: [i64; 2]) -> [[i64; 4]; 4] {
+    [
+        [even, odd, even, odd],
+        [odd, even, odd, even],
+        [even, odd, even, odd],
+        [odd, odd, even, even],
+    ]
+}
+
+/// A block by value, and the same lent, with zeros in its output.
+fn by_value(direction: Direction, turns: [i64; 2], [horizontal, vertical, depth]: [i64; 3]) {
+    let block = lines(turns);
+    let small = match direction {
+        Inverse => inverse_4x4(block, horizontal, vertical, depth),
+        Forward => forward_4x4(block, horizontal, vertical, depth),
+    };
+    let mut lent = [0; 16];
+    let shape = Shape::new(4, 4, horizontal, vertical, depth);
+    let answer = direction.run(&shape, &block.concat(), &mut lent);
+    let part = |answer: Answer, numbers: &[i64]| {
+        let mut all = vec![
+            horizontal,
+            vertical,
+            depth,
+            answer.number,
+            answer.place,
+            answer.rails,
+        ];
+        all.extend(numbers);
+        let words: Vec<String> = all.iter().map(i64::to_string).collect();
+        words.join(" ")
+    };
+    println!(
+        "by value: {} {} lent {}",
+        direction.name(),
+        part(small.answer, &small.block.concat()),
+        part(answer, &lent)
+    );
+}
+
+/// Every pair of kinds at two depths, and one refusal each of 3, 4 and 5.
+fn all_by_value() {
+    let pairs = [[1, 1], [1, 2], [2, 1], [2, 2]];
+    let taken = [8, 12]
+        .into_iter()
+        .flat_map(|d| pairs.map(|[h, v]| [h, v, d]));
+    for numbers in taken.chain([[0, 3, 7], [1, 3, 7], [1, 2, 13]]) {
+        for turns in [[32767, -32768], [-32768, -32768], [64, -3]] {
+            by_value(Inverse, turns, numbers);
+        }
+        for turns in [[255, -255], [4095, -4095], [-256, 255]] {
+            by_value(Forward, turns, numbers);
+        }
+    }
+}
+
 fn main() {
     items();
     refusals(Inverse);
@@ -232,4 +281,5 @@ fn main() {
         let largest = (1 << depth) - 1;
         shapes(Forward, depth, 32, [-largest, largest]);
     }
+    all_by_value();
 }

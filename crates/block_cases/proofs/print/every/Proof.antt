@@ -11,6 +11,9 @@ Inv-loop a k₀ k = k ≤ length a
 abbrev μ-loop : tie.MeasureT-loop
 μ-loop a k₀ k = length a - k
 
+returns : tie.Need-returns Inv-loop μ-loop
+returns c = search needs
+
 loop-holds : tie.Need-loop-holds Inv-loop μ-loop
 loop-holds c = search needs
 
@@ -35,8 +38,8 @@ loop-less c = search needs
 loop-again : tie.Need-loop-again Inv-loop μ-loop
 loop-again c = search needs
 
-returns : tie.Need-returns Inv-loop μ-loop
-returns c = search needs
+returns-2 : tie.Need-returns-2 Inv-loop μ-loop
+returns-2 c = search needs
 
 pub every-spec : {M : Type 1} → statement M
 every-spec =
@@ -44,6 +47,7 @@ every-spec =
     (tie.spec
     Inv-loop
     μ-loop
+    returns
     loop-holds
     mul-modular
     shared-slice-copy-out-modular
@@ -52,4 +56,4 @@ every-spec =
     add-k
     loop-less
     loop-again
-    returns)
+    returns-2)

@@ -6,10 +6,10 @@ use Rattle.block_cases.proofs.print.sums.Statement.{statement}
 use Rattle.block_cases.proofs.print.sums.Tie as tie
 
 abbrev Inv-loop : tie.InvT-loop
-Inv-loop before after changed₀ plain₀ placed₀ k₀ t7 changed plain placed k = k ≤ length after
+Inv-loop a changed₀ plain₀ placed₀ k₀ changed plain placed k = k ≤ length a
 
 abbrev μ-loop : tie.MeasureT-loop
-μ-loop before after changed₀ plain₀ placed₀ k₀ t7 changed plain placed k = k
+μ-loop a changed₀ plain₀ placed₀ k₀ changed plain placed k = k
 
 loop-holds : tie.Need-loop-holds Inv-loop μ-loop
 loop-holds c = search needs
@@ -23,11 +23,8 @@ mul-if1 c = search needs
 shared-slice-copy-out-if1 : tie.Need-shared-slice-copy-out-if1 Inv-loop μ-loop
 shared-slice-copy-out-if1 c = search needs
 
-mul-if1-2 : tie.Need-mul-if1-2 Inv-loop μ-loop
-mul-if1-2 c = search needs
-
-shared-slice-copy-out-if1-2 : tie.Need-shared-slice-copy-out-if1-2 Inv-loop μ-loop
-shared-slice-copy-out-if1-2 c = search needs
+mark-requires : tie.Need-mark-requires Inv-loop μ-loop
+mark-requires c κs = search needs
 
 wrapping-add-u64-requires : tie.Need-wrapping-add-u64-requires Inv-loop μ-loop
 wrapping-add-u64-requires c κs = search needs
@@ -53,20 +50,11 @@ loop-less c = search needs
 loop-again : tie.Need-loop-again Inv-loop μ-loop
 loop-again c = search needs
 
-signed-requires : tie.Need-signed-requires Inv-loop μ-loop
-signed-requires c κs = search needs
+slice-aggregate-list : tie.Need-slice-aggregate-list Inv-loop μ-loop
+slice-aggregate-list c = search needs
 
-slice-aggregate-text : tie.Need-slice-aggregate-text Inv-loop μ-loop
-slice-aggregate-text c = search needs
-
-text-requires : tie.Need-text-requires Inv-loop μ-loop
-text-requires c κs = search needs
-
-signed-requires-2 : tie.Need-signed-requires-2 Inv-loop μ-loop
-signed-requires-2 c κs = search needs
-
-signed-requires-3 : tie.Need-signed-requires-3 Inv-loop μ-loop
-signed-requires-3 c κs = search needs
+list-requires : tie.Need-list-requires Inv-loop μ-loop
+list-requires c κs = search needs
 
 returns : tie.Need-returns Inv-loop μ-loop
 returns c = search needs
@@ -81,8 +69,7 @@ sums-spec =
     sub-k
     mul-if1
     shared-slice-copy-out-if1
-    mul-if1-2
-    shared-slice-copy-out-if1-2
+    mark-requires
     wrapping-add-u64-requires
     mul-modular
     shared-slice-copy-out-modular
@@ -91,9 +78,6 @@ sums-spec =
     wrapping-add-u64-requires-3
     loop-less
     loop-again
-    signed-requires
-    slice-aggregate-text
-    text-requires
-    signed-requires-2
-    signed-requires-3
+    slice-aggregate-list
+    list-requires
     returns)

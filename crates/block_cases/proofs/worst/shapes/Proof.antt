@@ -13,11 +13,11 @@ abbrev μ-loop : tie.MeasureT-loop
 loop-holds : tie.Need-loop-holds Inv-loop μ-loop
 loop-holds c = search needs
 
-side-requires : tie.Need-side-requires Inv-loop μ-loop
-side-requires c κs = search needs
+shl-new : tie.Need-shl-new Inv-loop μ-loop
+shl-new c = search needs
 
-side-requires-2 : tie.Need-side-requires-2 Inv-loop μ-loop
-side-requires-2 c κs = search needs
+shl-new-2 : tie.Need-shl-new-2 Inv-loop μ-loop
+shl-new-2 c = search needs
 
 add-new : tie.Need-add-new Inv-loop μ-loop
 add-new c = search needs
@@ -27,6 +27,15 @@ add-new-2 c = search needs
 
 new-requires : tie.Need-new-requires Inv-loop μ-loop
 new-requires c κs = search needs
+
+add-blocks : tie.Need-add-blocks Inv-loop μ-loop
+add-blocks c = search needs
+
+cast-blocks : tie.Need-cast-blocks Inv-loop μ-loop
+cast-blocks c = search needs
+
+shl-blocks : tie.Need-shl-blocks Inv-loop μ-loop
+shl-blocks c = search needs
 
 blocks-requires : tie.Need-blocks-requires Inv-loop μ-loop
 blocks-requires c κs = search needs
@@ -50,11 +59,14 @@ shapes-spec =
     Inv-loop
     μ-loop
     loop-holds
-    side-requires
-    side-requires-2
+    shl-new
+    shl-new-2
     add-new
     add-new-2
     new-requires
+    add-blocks
+    cast-blocks
+    shl-blocks
     blocks-requires
     add-k
     loop-less
