@@ -1,4 +1,4 @@
--- What each public contract allows is one outcome: for any cursor, any bytes and any buffer, two results that it allows are equal.
+-- What each public contract allows is one outcome: for any cursor and any bytes, two results that it allows are equal.
 -- Assumes nothing.
 use mathlib.Core.Path.{_≡_}
 use mathlib.Core.List.{List}
@@ -7,7 +7,6 @@ use Rattle.algebra.proofs.Unique.{one}
 use Rattle.block_file.specs.declared.cursor.Cursor.{Cursor}
 use Rattle.block_file.specs.declared.cursor.Step.{Step}
 use Rattle.block_file.specs.Cursor.{start, stepOf, bodyOf}
-use Rattle.block_file.specs.Run.{runOutcome}
 
 -- `Cursor::new`
 pub one-new : {x y : Cursor} → x ≡ start → y ≡ start → x ≡ y
@@ -20,7 +19,3 @@ one-step file cursor p q = one p q
 -- `body`: where it lies, and its bytes
 pub one-body : (place : ℕ × ℕ) (file : List ℕ) (cursor : Cursor) {x y : (ℕ × ℕ) × List ℕ} → x ≡ bodyOf place file cursor → y ≡ bodyOf place file cursor → x ≡ y
 one-body place file cursor p q = one p q
-
--- `run`: the length, and every byte of the buffer
-pub one-run : (file text : List ℕ) {x y : ℕ × List ℕ} → x ≡ runOutcome file text → y ≡ runOutcome file text → x ≡ y
-one-run file text p q = one p q

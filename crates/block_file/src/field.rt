@@ -4,7 +4,7 @@ use meaning::Shape;
 ghost use mathlib.Core.Path.{_≡_};
 ghost use Prim.Native.Nat.{_+_, _≤_, _<_};
 ghost use lib.ListN.{length};
-ghost use Rattle.block_file.specs.Field.{lengthAt, shapeAt, shapeNumber, headerNumber, fieldNumber, nothing, shapeBehind, fieldAt};
+ghost use Rattle.block_file.specs.Field.{lengthAt, shapeAt, headerNumber, fieldNumber, nothing, shapeBehind, fieldAt};
 ghost use Rattle.block_file.specs.Cursor.{foundAt};
 
 // What was read: the number of the refusal or 0, the tag or 0, where the body starts and how many bytes it has, and the
@@ -17,14 +17,8 @@ pub struct Field {
     pub next: Cursor,
 }
 
-fn wide(byte: u8) -> usize
-    ensures { λ r. ⌜ (r ≡ byte) × (r < 256) ⌝ }
-{
-    byte as usize
-}
-
 fn word(byte: u8) -> u32
-    ensures { λ r. ⌜ r ≡ byte ⌝ }
+    ensures { λ r. ⌜ (r ≡ byte) × (r < 256) ⌝ }
 {
     byte as u32
 }
@@ -33,7 +27,7 @@ fn length_at(file: &[u8], at: usize) -> usize
     requires { ⌜ at + 3 ≤ length (now file) ⌝ }
     ensures { λ r. ⌜ (r ≡ lengthAt (now (file .entry)) at) × (r < 65536) ⌝ }
 {
-    wide(file[at + 1]) * 256 + wide(file[at + 2])
+    (word(file[at + 1]) * 256 + word(file[at + 2])) as usize
 }
 
 fn shape_at(file: &[u8], start: usize) -> Shape
@@ -49,18 +43,12 @@ fn shape_at(file: &[u8], start: usize) -> Shape
     )
 }
 
-fn shape_number(shape: Shape) -> u32
-    ensures { λ r. ⌜ r ≡ shapeNumber shape ⌝ }
-{
-    shape.refusal()
-}
-
 // What the header decides of a data field: of tag 03 as of tag 02.
 fn data_number(bytes: usize, shape: Shape) -> u32
     requires { ⌜ bytes < 65536 ⌝ }
     ensures { λ r. ⌜ r ≡ headerNumber 2 bytes shape ⌝ }
 {
-    if shape_number(shape) != 0 {
+    if shape.refusal() != 0 {
         return 13;
     }
     let width = shape.width;
@@ -107,7 +95,7 @@ fn field_number(file: &[u8], at: usize, shape: Shape) -> u32
         return 10;
     }
     if tag == 1 {
-        return shape_number(shape_at(file, at + 3));
+        return shape_at(file, at + 3).refusal();
     }
     0
 }

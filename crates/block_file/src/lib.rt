@@ -1,8 +1,4 @@
-// The block file: a cursor that reads it field by field, numbers from bytes, and the lines of text that a run prints.
-// Read specs/ first, in this order: Field, Cursor, Numbers, Text, Run (Wrote and Does serve the functions inside that write
-// text alone); then the theorems of proofs/: Unique, Found, Fuel, Printed, Numbers.
-mod bytes;
+// The reader of a block file: a cursor that moves field by field. Read specs/ first, Field and then Cursor; then the theorems
+// of proofs/: Unique and Found (Shapes, Tests and Whole serve them); then cursor, and field behind it.
 pub mod cursor;
 mod field;
-pub mod run;
-mod text;

@@ -21,7 +21,7 @@ fn print_run(fd: i32) {
     let mut file = file_buffer();
     let count = io::read_full(fd, &mut file);
     let mut text = text_buffer();
-    let length = block_file::run::run(&file[..count], &mut text);
+    let length = block_run::run::run(&file[..count], &mut text);
     io::write_all(STDOUT_FILENO, &text[..length]);
 }
 

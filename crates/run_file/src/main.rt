@@ -60,7 +60,7 @@ fn print_run() {
         return;
     }
     let mut text = text_buffer();
-    let length = block_file::run::run(&file[..count], &mut text);
+    let length = block_run::run::run(&file[..count], &mut text);
     io::write_all(STDOUT_FILENO, &text[..length]);
 }
 

@@ -1,6 +1,6 @@
 -- `print_run` meets its contract. Assumes nothing.
 use borrow.Author.Needs.{needs}
-use Rattle.block_file.proofs.Counted.{run-counts}
+use Rattle.block_run.proofs.Counted.{run-counts}
 use Rattle.file_cases.proofs.print_run.Statement.{statement}
 use Rattle.file_cases.proofs.print_run.Tie as tie
 

@@ -56,7 +56,7 @@ returns-3 c =
     let s = c .before .before .before .before .before .before .before .before .args in
     let f = now (s .file) in
     let e = c .before .before .before .before .before .field-number .ensures in
-    rw (lt-ltb _ _ (c .before .before .before .before .before .before .if1 .left), eq-eqb _ 0 (sym e ∙ c .before .before .before .before .if2 .left), c .word .ensures, c .before .shape-behind .ensures, c .before .before .length-at .ensures .0)
+    rw (lt-ltb _ _ (c .before .before .before .before .before .before .if1 .left), eq-eqb _ 0 (sym e ∙ c .before .before .before .before .if2 .left), c .word .ensures .0, c .before .shape-behind .ensures, c .before .before .length-at .ensures .0)
 
 pub field-at-spec : {M : Type 1} → statement M
 field-at-spec =

@@ -9,6 +9,7 @@ use lib.Dec.{eqb, ltb}
 use lib.ListN.{length}
 use denote.Ref.{now}
 use Rattle.block_file.specs.Field.{fieldNumber, byteAt, lengthAt, shapeAt, shapeNumber, headerNumber}
+use Rattle.block_file.proofs.Shapes.{shape-number}
 use Rattle.block_file.proofs.Tests.{or-zero}
 use Rattle.block_file.proofs.Whole.{ofHeader, ofBody, in-order, header-five}
 use Rattle.block_file.proofs.field.field_number.Statement.{statement}
@@ -91,14 +92,14 @@ shape-at-requires c κs =
     let five = header-five _ _ (s .shape) (sym (c .before .before .before .header-number .ensures) ∙ c .before .before .if2 .left) (c .if4 .taken) in
     omega (arith, five, c .before .if3 .left)
 
-shape-number-requires : tie.Need-shape-number-requires
-shape-number-requires c κs = search needs
+refusal-requires : tie.Need-refusal-requires
+refusal-requires c κs = search needs
 
 returns-4 : tie.Need-returns-4
 returns-4 c =
     let s = c .before .before .before .before .before .before .before .before .before .before .args in
     let shape = shapeAt (now (s .file)) (s .at + 3) in
-    rw (past3 (c .before .before .before), eq-eqb (byteAt (now (s .file)) (s .at)) 1 (c .before .before .if4 .taken), or-zero (shapeNumber shape)) (c .shape-number .ensures ∙ ap shapeNumber (c .before .shape-at .ensures))
+    rw (past3 (c .before .before .before), eq-eqb (byteAt (now (s .file)) (s .at)) 1 (c .before .before .if4 .taken), or-zero (shapeNumber shape)) (shape-number _ (c .refusal .ensures) ∙ ap shapeNumber (c .before .shape-at .ensures))
 
 returns-5 : tie.Need-returns-5
 returns-5 c =
@@ -120,6 +121,6 @@ field-number-spec =
     returns-3
     add-shape-at
     shape-at-requires
-    shape-number-requires
+    refusal-requires
     returns-4
     returns-5)

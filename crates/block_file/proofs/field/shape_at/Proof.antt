@@ -49,7 +49,7 @@ new-requires : tie.Need-new-requires
 new-requires c κs = search needs
 
 returns : tie.Need-returns
-returns c = rw (c .new .ensures, c .before .before .before .before .before .before .before .before .before .word .ensures, c .before .before .before .before .before .before .before .word2 .ensures, c .before .before .before .before .before .word3 .ensures, c .before .before .before .word4 .ensures, c .before .word5 .ensures)
+returns c = rw (c .new .ensures, c .before .before .before .before .before .before .before .before .before .word .ensures .0, c .before .before .before .before .before .before .before .word2 .ensures .0, c .before .before .before .before .before .word3 .ensures .0, c .before .before .before .word4 .ensures .0, c .before .word5 .ensures .0)
 
 pub shape-at-spec : {M : Type 1} → statement M
 shape-at-spec =

@@ -1,0 +1,116 @@
+-- What a step of the reader makes of a turn. Assumes nothing.
+use mathlib.Core.Path.{_≡_, refl, sym, ap, subst, _∙_}
+use mathlib.Core.Bool.{Bool, true, false, cond, not, false≢true}
+use mathlib.Core.List.{List, []}
+use Prim.Native.Nat.{ℕ, _+_, _*_, _-_, _≤_}
+use native.Mathlib.Omega.{arith}
+use borrow.Author.Tests.{eq-eqb, ne-eqb}
+use lib.Dec.{eqb}
+use lib.IntN.{ℤ}
+use lib.ListN.{length, take, drop, length-take, length-drop}
+use Rattle.meaning.specs.declared.Shape.{Shape}
+use Rattle.meaning.specs.declared.Answer.{Answer}
+use Rattle.meaning.specs.Inverse.{inverseOutcome}
+use Rattle.meaning.specs.Forward.{forwardOutcome}
+use Rattle.block_file.specs.declared.cursor.Cursor.{Cursor}
+use Rattle.block_file.specs.declared.cursor.Step.{Step}
+use Rattle.block_file.specs.declared.field.Field.{Field}
+use Rattle.block_run.specs.declared.run.Done.{Done}
+use Rattle.block_file.specs.Field.{isData, lengthAt, whole}
+use Rattle.block_file.specs.Cursor.{stepOf, foundAt, bytesOf}
+use Rattle.block_numbers.specs.Numbers.{numbers}
+use Rattle.block_text.specs.Text.{inverseText, forwardText}
+use Rattle.block_run.specs.Run.{Turn, blank, refusedTurn, blockTurn, inverseTurn, forwardTurn, turnAt}
+use Rattle.block_run.specs.Does.{Fits, Does, Follows}
+use Rattle.block_file.proofs.Shapes.{shape-range}
+use Rattle.block_file.proofs.Whole.{Whole}
+use Rattle.block_file.proofs.Found.{found-cases}
+
+-- a block's turn goes on behind its field, refused or not
+block-next : (a : Answer) (text : List ℕ) (offset : ℕ) (n : Cursor) → blockTurn a text offset n .next ≡ n
+block-next a text offset n = go (eqb (a .number) 0)
+  where
+    go : (b : Bool) → cond b (record { text = text; ends = false; next = n }) (refusedTurn (a .number) offset n) .next ≡ n
+    go true = refl
+    go false = refl
+
+pub inverse-next : (sh : Shape) (z : List ℤ) (offset : ℕ) (n : Cursor) → inverseTurn sh z offset n .next ≡ n
+inverse-next sh z offset n =
+    let o = inverseOutcome sh z (blank sh) in
+    block-next (o .0) (inverseText (sh .width) (sh .height) (o .0 .rails) (o .1)) offset n
+
+pub forward-next : (sh : Shape) (z : List ℤ) (offset : ℕ) (n : Cursor) → forwardTurn sh z offset n .next ≡ n
+forward-next sh z offset n =
+    let o = forwardOutcome sh z (blank sh) in
+    block-next (o .0) (forwardText (sh .width) (sh .height) (o .1)) offset n
+
+-- the same bytes, said otherwise
+module _ (t : List ℕ → Turn) where
+  pub same-bytes : (l m : List ℕ) {at : ℕ} {o o₁ : List ℕ} {d : Done} → l ≡ m → Does (t l) (35 + 6 * length l) at o o₁ d → Does (t m) (35 + 6 * length m) at o o₁ d
+  same-bytes l m {at} {o} {o₁} {d} e a = subst (λ (x : List ℕ). Does (t x) (35 + 6 * length x) at o o₁ d) e a
+
+-- a turn that ends the run is not followed
+pub no-more : {t : Turn} {m at place : ℕ} {o o₁ : List ℕ} {d : Done} → Does t m at o o₁ d → t .ends ≡ true → Follows place at d
+no-more a e = λ h. absurd (false≢true (sym h ∙ a .ends ∙ e))
+
+-- a field that was read, and where the next one stands
+pub record Read (file : List ℕ) (c : Cursor) (f : Field) : Type 0 where
+  pub place : f .next .at ≡ c .at + 3 + length (take (f .bytes) (drop (f .start) file))
+  pub inside : f .next .at ≤ 65536
+
+module _ (file : List ℕ) (c : Cursor) where
+  body-long : c .at + 3 + lengthAt file (c .at) ≤ length file → length (take (lengthAt file (c .at)) (drop (c .at + 3) file)) ≡ lengthAt file (c .at)
+  body-long h = simp (length-take, length-drop) (omega (arith, h))
+
+  read-field : Whole file (c .at) (c .shape) → length file ≤ 65536 → Read file c (whole file (c .at) (c .shape))
+  read-field w l = record { place = omega (arith, body-long (w .body)); inside = omega (arith, w .body) }
+
+  -- a shape has five bytes
+  pub read-shape : foundAt file c .number ≡ 0 → foundAt file c .tag ≡ 1 → (foundAt file c .next .at ≡ c .at + 8) × (foundAt file c .next .at ≤ 65536)
+  read-shape =
+      found-cases file c (λ f. f .number ≡ 0 → f .tag ≡ 1 → (f .next .at ≡ c .at + 8) × (f .next .at ≤ 65536))
+      (λ n h z e. absurd (omega (arith, e)))
+      (λ h l w z e. (omega (arith, w .five e), omega (arith, w .body)))
+
+  -- data fits the shape that holds
+  pub read-data : foundAt file c .number ≡ 0 → isData (foundAt file c .tag) ≡ true → Fits (c .shape) (bytesOf file c) × Read file c (foundAt file c)
+  read-data =
+      found-cases file c (λ f. f .number ≡ 0 → isData (f .tag) ≡ true → Fits (c .shape) (take (f .bytes) (drop (f .start) file)) × Read file c f)
+      (λ n h z e. absurd (false≢true e))
+      (λ h l w z e. (record { held = w .held e; long = body-long (w .body) ∙ w .numbers e }, read-field w l))
+
+  pub data-follows : {t : Turn} {at : ℕ} {o o₁ : List ℕ} {d : Done} → Fits (c .shape) (bytesOf file c) × Read file c (foundAt file c)
+      → Does t (35 + 6 * length (bytesOf file c)) at o o₁ d → t .next ≡ foundAt file c .next → Follows (c .at) at d
+  data-follows {d = d} r a e h =
+      let n : d .next .at ≡ foundAt file c .next .at = ap (λ (k : Cursor). k .at) (a .next ∙ e) in
+      let s = shape-range (c .shape) (r .0 .held) in
+      (omega (arith, n, r .1 .place), omega (arith, n, r .1 .inside), omega (arith, n, r .1 .place, a .wrote .room, r .0 .long, s .0))
+
+  -- ---- the turn, by the number and the tag of the step
+  abbrev ofStep : Step → Turn
+  ofStep st =
+      cond (not (eqb (st .number) 0)) (refusedTurn (st .number) (c .at) (st .next))
+      (cond (eqb (st .tag) 1) (record { text = []; ends = false; next = st .next })
+      (cond (eqb (st .tag) 2) (inverseTurn (c .shape) (numbers (bytesOf file c)) (c .at) (st .next))
+      (cond (eqb (st .tag) 3) (forwardTurn (c .shape) (numbers (bytesOf file c)) (c .at) (st .next))
+      (record { text = []; ends = true; next = st .next }))))
+
+  by-step : (st : Step) → st ≡ stepOf file c → ofStep st ≡ turnAt file c
+  unfolding turnAt
+  by-step st e = ap ofStep e
+
+  module _ (st : Step) (e : st ≡ stepOf file c) where
+    pub turn-refused : (st .number ≡ 0 → ⊥) → refusedTurn (st .number) (c .at) (st .next) ≡ turnAt file c
+    turn-refused h = sym (rw (ne-eqb (st .number) 0 h)) ∙ by-step st e
+
+    pub turn-shape : st .number ≡ 0 → st .tag ≡ 1 → record { text = []; ends = false; next = st .next } ≡ turnAt file c
+    turn-shape h t = sym (rw (eq-eqb (st .number) 0 h, eq-eqb (st .tag) 1 t)) ∙ by-step st e
+
+    pub turn-inverse : st .number ≡ 0 → st .tag ≡ 2 → inverseTurn (c .shape) (numbers (bytesOf file c)) (c .at) (st .next) ≡ turnAt file c
+    turn-inverse h t = sym (rw (eq-eqb (st .number) 0 h, t)) ∙ by-step st e
+
+    pub turn-forward : st .number ≡ 0 → st .tag ≡ 3 → forwardTurn (c .shape) (numbers (bytesOf file c)) (c .at) (st .next) ≡ turnAt file c
+    turn-forward h t = sym (rw (eq-eqb (st .number) 0 h, t)) ∙ by-step st e
+
+    pub turn-none : st .number ≡ 0 → (st .tag ≡ 1 → ⊥) → (st .tag ≡ 2 → ⊥) → (st .tag ≡ 3 → ⊥) → record { text = []; ends = true; next = st .next } ≡ turnAt file c
+    turn-none h a b d = sym (rw (eq-eqb (st .number) 0 h, ne-eqb (st .tag) 1 a, ne-eqb (st .tag) 2 b, ne-eqb (st .tag) 3 d)) ∙ by-step st e

@@ -1,0 +1,74 @@
+-- "A program that reads a file of blocks and prints answers": what a file prints, field by field.
+use mathlib.Core.Bool.{Bool, true, false, cond, not}
+use mathlib.Core.List.{List, [], _++_}
+use Prim.Native.Nat.{ℕ, zero, suc, _*_}
+use lib.Dec.{eqb}
+use lib.IntN.{ℤ, pos}
+use lib.ListN.{length, drop}
+use Rattle.algebra.specs.Lists.{tabulate}
+use Rattle.meaning.specs.declared.Shape.{Shape}
+use Rattle.meaning.specs.declared.Answer.{Answer}
+use Rattle.meaning.specs.Inverse.{inverseOutcome}
+use Rattle.meaning.specs.Forward.{forwardOutcome}
+use Rattle.block_file.specs.declared.cursor.Cursor.{Cursor}
+use Rattle.block_file.specs.declared.cursor.Step.{Step}
+use Rattle.block_file.specs.Cursor.{start, stepOf, bytesOf}
+use Rattle.block_numbers.specs.Numbers.{numbers}
+use Rattle.block_text.specs.Text.{inverseText, forwardText, refusalText}
+
+-- what a field prints, whether the run ends with it, and the cursor behind it
+pub record Turn : Type 0 where
+  pub text : List ℕ
+  pub ends : Bool
+  pub next : Cursor
+
+-- what the output of a block holds before it is run: w*h numbers
+abbrev pub blank : Shape → List ℤ
+blank shape = tabulate (shape .width * shape .height) (λ k. pos 0)
+
+-- "The first refusal ends the run": "R number offset"
+abbrev pub refusedTurn : ℕ → ℕ → Cursor → Turn
+refusedTurn number offset next = record { text = refusalText number offset; ends = true; next = next }
+
+-- a block that was run, and its line: 8 or 9 refuses it
+abbrev pub blockTurn : Answer → List ℕ → ℕ → Cursor → Turn
+blockTurn answer text offset next =
+    cond (eqb (answer .number) 0) (record { text = text; ends = false; next = next }) (refusedTurn (answer .number) offset next)
+
+-- "Tag 02: coefficients, 2 bytes each: run the inverse"
+abbrev pub inverseTurn : Shape → List ℤ → ℕ → Cursor → Turn
+inverseTurn shape coefficients offset next =
+    let outcome = inverseOutcome shape coefficients (blank shape) in
+    blockTurn (outcome .0) (inverseText (shape .width) (shape .height) (outcome .0 .rails) (outcome .1)) offset next
+
+-- "Tag 03: residuals, 2 bytes each: run the forward"
+abbrev pub forwardTurn : Shape → List ℤ → ℕ → Cursor → Turn
+forwardTurn shape residuals offset next =
+    let outcome = forwardOutcome shape residuals (blank shape) in
+    blockTurn (outcome .0) (forwardText (shape .width) (shape .height) (outcome .1)) offset next
+
+-- by the number and the tag: a refusal, a shape, a block, or the end. "the offset being that of the field's tag": the
+-- cursor's place, "(0 for 14)": 14 is met at the start
+unfoldable pub turnAt : List ℕ → Cursor → Turn
+turnAt file cursor =
+    let step = stepOf file cursor in
+    cond (not (eqb (step .number) 0)) (refusedTurn (step .number) (cursor .at) (step .next))
+    (cond (eqb (step .tag) 1) (record { text = []; ends = false; next = step .next })
+    (cond (eqb (step .tag) 2) (inverseTurn (cursor .shape) (numbers (bytesOf file cursor)) (cursor .at) (step .next))
+    (cond (eqb (step .tag) 3) (forwardTurn (cursor .shape) (numbers (bytesOf file cursor)) (cursor .at) (step .next))
+    (record { text = []; ends = true; next = step .next }))))
+
+-- at most k fields from a cursor on: "lines printed before it stand"
+unfoldable pub printedFrom : ℕ → List ℕ → Cursor → List ℕ
+printedFrom zero file cursor = []
+printedFrom (suc k) file cursor =
+    let turn = turnAt file cursor in
+    turn .text ++ cond (turn .ends) [] (printedFrom k file (turn .next))
+
+-- a file has no more fields than bytes (proofs/Fuel: any larger number prints the same). "An empty file prints nothing"
+unfoldable pub printed : List ℕ → List ℕ
+printed file = printedFrom (length file) file start
+
+-- what the run hands back, and what its buffer holds then: "lines printed" and, behind them, what it held
+abbrev pub runOutcome : List ℕ → List ℕ → ℕ × List ℕ
+runOutcome file text = (length (printed file), printed file ++ drop (length (printed file)) text)

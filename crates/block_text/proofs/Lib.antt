@@ -1,0 +1,4 @@
+pub mod Writing
+mod Digits
+mod Signs
+mod Spaced
