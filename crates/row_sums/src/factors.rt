@@ -1,0 +1,81 @@
+// The weights of a line as its sums use them: row i has the weight of input i in each output.
+use tables::weights_4;
+use tables::weights_8;
+use tables::weights_16;
+use tables::weights_32;
+ghost use mathlib.Core.Path.{_≡_};
+ghost use mathlib.Core.Bool.{true};
+ghost use Prim.Native.Nat.{_*_, _<_, _≤_};
+ghost use lib.ListN.{length};
+ghost use Rattle.algebra.specs.Lists.{tabulate, block};
+ghost use Rattle.meaning.specs.Weights.{weight};
+ghost use Rattle.meaning.specs.Line.{term};
+ghost use Rattle.meaning.specs.Shape.{isSize, isKind};
+ghost use Rattle.tables.specs.Table.{Table};
+
+// "DCT-VIII: C[i][j] = (-1)^i * S[i][N-1-j]": no weight is larger than 90, so its sign can change in 16 bits.
+fn entry(t: &[i16], n: usize, kind: u32, i: usize, j: usize) -> i16
+    requires { ⌜ (isKind kind ≡ true) × ((i < n) × ((j < n) × Table n (now t))) ⌝ }
+    ensures { λ r. ⌜ r ≡ weight kind n i j ⌝ }
+{
+    if kind == 1 {
+        return t[i * n + j];
+    }
+    let w = t[i * n + (n - 1 - j)];
+    if i % 2 == 1 { 0 - w } else { w }
+}
+
+fn factor(t: &[i16], n: usize, kind: u32, forward: bool, k: usize, i: usize) -> i16
+    requires { ⌜ (isKind kind ≡ true) × ((k < n) × ((i < n) × Table n (now t))) ⌝ }
+    ensures { λ r. ⌜ r ≡ term forward kind n k i ⌝ }
+{
+    if forward {
+        entry(t, n, kind, k, i)
+    } else {
+        entry(t, n, kind, i, k)
+    }
+}
+
+fn factor_row(t: &[i16], n: usize, kind: u32, forward: bool, i: usize, part: &mut [i16])
+    requires { ⌜ (isKind kind ≡ true) × ((i < n) × (Table n (now t) × (length (now part) ≡ n))) ⌝ }
+    ensures { λ _. ⌜ now (part .exit) ≡ tabulate n (λ k. term forward kind n k i) ⌝ }
+{
+    let mut k = 0;
+    while k < n {
+        part[k] = factor(t, n, kind, forward, k, i);
+        k += 1;
+    }
+}
+
+fn factor_rows(t: &[i16], n: usize, kind: u32, forward: bool, count: usize, u: &mut [i16])
+    requires { ⌜ (isKind kind ≡ true) × ((count ≤ n) × (Table n (now t) × (length (now u) ≡ count * n))) ⌝ }
+    ensures { λ _. ⌜ now (u .exit) ≡ block n count (λ k i. term forward kind n k i) ⌝ }
+{
+    let mut i = 0;
+    while i < count {
+        let a = i * n;
+        let b = a + n;
+        factor_row(t, n, kind, forward, i, &mut u[a..b]);
+        i += 1;
+    }
+}
+
+// The rows of the first `count` inputs.
+pub fn factors(n: usize, kind: u32, forward: bool, count: usize, u: &mut [i16])
+    requires { ⌜ (isSize n ≡ true) × ((isKind kind ≡ true) × ((count ≤ n) × (length (now u) ≡ count * n))) ⌝ }
+    ensures { λ _. ⌜ now (u .exit) ≡ block n count (λ k i. term forward kind n k i) ⌝ }
+{
+    if n == 4 {
+        let t = weights_4();
+        factor_rows(&t, n, kind, forward, count, u)
+    } else if n == 8 {
+        let t = weights_8();
+        factor_rows(&t, n, kind, forward, count, u)
+    } else if n == 16 {
+        let t = weights_16();
+        factor_rows(&t, n, kind, forward, count, u)
+    } else {
+        let t = weights_32();
+        factor_rows(&t, n, kind, forward, count, u)
+    }
+}
