@@ -1,4 +1,5 @@
 /* The unrolled partial butterfly: lines as bench/unroll.awk writes them, with the weights as constants. */
+#define EACH_PLACE UNROLLED
 #include "stages.h"
 
 #include "unrolled.h"

@@ -1,6 +1,7 @@
 /* The sharing between weights in this library's shape. A row of weights is added up over its first places only, 12 of 16
  * and 28 of 32, the rows where p divides 2i+1 apart from the others ((p, q) is (3, 11) and (5, 13)); the last places
  * follow from those sums. Nothing is shared at 8 points, nor where half of the sums are dropped, forward at 32. */
+#define EACH_PLACE ROLLED
 #include "stages.h"
 
 enum { PLACES_16 = 12, PLACES_32 = 28 };
@@ -41,11 +42,8 @@ void folded_prepare(void) {
 /* Every `every`th input from `first` on, times its row of weights. */
 ALWAYS void add(const int16_t *restrict table, int places, int first, int every, int inputs, const int16_t *x, int step,
                 int32_t *restrict sums) {
-    for (int i = first; i < inputs; i += every) {
-        int16_t v = x[i * step];
-        if (v == 0) continue;
-        for (int j = 0; j < places; j++) sums[j] += v * table[i * places + j];
-    }
+    for (int i = first; i < inputs; i += every)
+        if (x[i * step] != 0) add_row(sums, x[i * step], table + i * places, places);
 }
 
 ALWAYS void clear(int32_t *sums, int places) {

@@ -1,4 +1,5 @@
 /* The full product in this library's shape: a row of weights at a time added to local sums, an input of 0 passed over. */
+#define EACH_PLACE
 #include "stages.h"
 
 /* by kind: the row of weights of each input. At 32 points only the kept inputs or outputs have any. */
@@ -23,13 +24,10 @@ void rows_prepare(void) {
     }
 }
 
-ALWAYS void line(const int16_t *restrict table, int inputs, int outputs, const int16_t *x, int step, int32_t *restrict sums) {
+ALWAYS void line(const int16_t *table, int inputs, int outputs, const int16_t *x, int step, int32_t *sums) {
     for (int j = 0; j < outputs; j++) sums[j] = 0;
-    for (int i = 0; i < inputs; i++) {
-        int16_t v = x[i * step];
-        if (v == 0) continue;
-        for (int j = 0; j < outputs; j++) sums[j] += v * table[i * outputs + j];
-    }
+    for (int i = 0; i < inputs; i++)
+        if (x[i * step] != 0) add_row(sums, x[i * step], table + i * outputs, outputs);
 }
 
 ALWAYS void inverse_line(int kind, int n, const int16_t *x, int step, int32_t *sums) {

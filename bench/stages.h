@@ -2,7 +2,7 @@
  * order of the first stage, so that each line is written in one stretch. The file that includes this has
  *   inverse_line(kind, n, x, step, sums)   n sums of the first kept(n) inputs, which stand `step` apart
  *   forward_line(kind, n, x, step, sums)   the first kept(n) sums of n inputs
- * both ALWAYS inlined, where kind and n are constants. */
+ * both ALWAYS inlined, where kind and n are constants. EACH_PLACE stands before the loops over the places of a line. */
 #ifndef STAGES_H
 #define STAGES_H
 
@@ -11,6 +11,28 @@
 #include <string.h>
 
 #define ALWAYS static inline __attribute__((always_inline))
+
+/* gcc unrolls a loop of 16 or less before it looks for vectors, and then finds fewer; it keeps a loop of 8 as one vector */
+#ifdef __clang__
+#define ROLLED
+#define UNROLLED
+#else
+#define ROLLED _Pragma("GCC unroll 1")
+#define UNROLLED _Pragma("GCC unroll 32")
+#endif
+
+ALWAYS void add_eight(int32_t *restrict sums, int16_t v, const int16_t *restrict row) {
+    ROLLED for (int j = 0; j < 8; j++) sums[j] += v * row[j];
+}
+
+/* v times the first weights of a row, of which there is a constant number, added to the sums */
+ALWAYS void add_row(int32_t *restrict sums, int16_t v, const int16_t *restrict row, int places) {
+    if (places >= 8) add_eight(sums, v, row);
+    if (places >= 16) add_eight(sums + 8, v, row + 8);
+    if (places >= 24) add_eight(sums + 16, v, row + 16);
+    if (places >= 32) add_eight(sums + 24, v, row + 24);
+    for (int j = places & ~7; j < places; j++) sums[j] += v * row[j];
+}
 
 ALWAYS void inverse_line(int kind, int n, const int16_t *x, int step, int32_t *sums);
 ALWAYS void forward_line(int kind, int n, const int16_t *x, int step, int32_t *sums);
@@ -30,7 +52,7 @@ ALWAYS void inverse_columns(int kind, int n, const int16_t *c, int w, int16_t *m
     for (int x = 0; x < kept(w); x++) {
         int32_t e[LONGEST];
         inverse_line(kind, n, c + x, w, e);
-        for (int y = 0; y < n; y++) middle[x * n + y] = middle_of(e[y]);
+        EACH_PLACE for (int y = 0; y < n; y++) middle[x * n + y] = middle_of(e[y]);
     }
 }
 
@@ -38,7 +60,7 @@ ALWAYS void inverse_rows(int kind, int n, const int16_t *middle, int h, int shif
     for (int y = 0; y < h; y++) {
         int32_t r[LONGEST];
         inverse_line(kind, n, middle + y, h, r);
-        for (int x = 0; x < n; x++) residuals[y * n + x] = rounded(r[x], shift);
+        EACH_PLACE for (int x = 0; x < n; x++) residuals[y * n + x] = rounded(r[x], shift);
     }
 }
 
@@ -54,7 +76,7 @@ ALWAYS void forward_rows(int kind, int n, const int16_t *residuals, int h, int s
     for (int y = 0; y < h; y++) {
         int32_t e[KEPT];
         forward_line(kind, n, residuals + y * n, 1, e);
-        for (int x = 0; x < kept(n); x++) middle[y * kept(n) + x] = (int16_t)rounded(e[x], shift);
+        EACH_PLACE for (int x = 0; x < kept(n); x++) middle[y * kept(n) + x] = (int16_t)rounded(e[x], shift);
     }
 }
 
@@ -62,7 +84,7 @@ ALWAYS void forward_columns(int kind, int n, const int16_t *middle, int w, int s
     for (int x = 0; x < kept(w); x++) {
         int32_t e[KEPT];
         forward_line(kind, n, middle + x, kept(w), e);
-        for (int y = 0; y < kept(n); y++) c[y * w + x] = (int16_t)rounded(e[y], shift);
+        EACH_PLACE for (int y = 0; y < kept(n); y++) c[y * w + x] = (int16_t)rounded(e[y], shift);
     }
 }
 
