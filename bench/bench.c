@@ -2,7 +2,8 @@
  *   bench compare        every implementation on many blocks; ends with status 1 at the first difference
  *   bench list WORD..    the cases and implementations whose names hold all of the words, one to a line
  *   bench time WORD..    their times in nanoseconds: the least of many rounds, in which the implementations take turns
- *   bench count WORD..   runs each of them once inside `counted`, for a tool that counts instructions */
+ *   bench count WORD..   runs each of them once, inside `counted`, for a tool that counts instructions
+ *   bench twice WORD..   runs each of them twice, for a tool that counts those of a whole run: the difference is one call */
 #include "cases.h"
 
 #include <stdio.h>
@@ -64,30 +65,37 @@ __attribute__((noinline)) void counted(const bench_case *c, int i) {
 
 __attribute__((noinline)) void counted_end(void) { __asm__ volatile(""); }
 
-static void each(const char *mode, const bench_case *c, int i, int words, char **word) {
+enum { NONE, COMPARE, LIST, TIME, COUNT, TWICE };
+
+static int mode_of(const char *word) {
+    static const char *const names[] = {"", "compare", "list", "time", "count", "twice"};
+    for (int k = COMPARE; k <= TWICE; k++)
+        if (!strcmp(word, names[k])) return k;
+    return NONE;
+}
+
+static void each(int mode, const bench_case *c, int i, int words, char **word) {
     char name[64];
     if (!wanted(case_name(c, i, name), words, word)) return;
-    if (!strcmp(mode, "list")) {
+    if (mode == LIST) {
         puts(name);
-    } else {
-        fill_case(c);
-        counted(c, i);
-        counted_end();
+        return;
     }
+    fill_case(c);
+    for (int times = COUNT; times <= mode; times++) counted(c, i);
+    counted_end();
 }
 
 int main(int words, char **word) {
-    const char *mode = words > 1 ? word[1] : "";
+    int mode = words > 1 ? mode_of(word[1]) : NONE;
     bench_case cases[CASES];
     int count = make_cases(cases);
+    if (mode == NONE) return 2;
     prepare();
-    if (!strcmp(mode, "compare")) return compare();
+    if (mode == COMPARE) return compare();
     for (int k = 0; k < count; k++) {
-        if (!strcmp(mode, "time")) {
-            time_case(&cases[k], words - 2, word + 2);
-            continue;
-        }
-        for (int i = 0; i < implementations_of(&cases[k]); i++) each(mode, &cases[k], i, words - 2, word + 2);
+        if (mode == TIME) time_case(&cases[k], words - 2, word + 2);
+        else for (int i = 0; i < implementations_of(&cases[k]); i++) each(mode, &cases[k], i, words - 2, word + 2);
     }
     return 0;
 }

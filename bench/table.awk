@@ -39,28 +39,28 @@ function lines(m,    k, name, head) {
     }
 }
 
-# aim(text, case, what/what, least): the ratio is to be at least that
-function aim(text, m, name, over, under, least,    r) {
+# The ratio of two numbers of a case, which is to be at least or at most so much.
+function aim(m, name, over, under, bound, limit,    a, b) {
     if (!has(m, name, "library") || !has(m, name, "reference")) return
-    over = over == "best" ? best(m, name) : value[m, name, over]
-    r = over / value[m, name, under]
-    printf "%-8s %s: %s (%.2f of %.2f)\n", (r >= least ? "reached" : "short"), name, text, r, least
+    a = over == "best of C" ? best(m, name) : value[m, name, over]
+    b = under == "best of C" ? best(m, name) : value[m, name, under]
+    printf "%-8s %-22s %-20s %5.2f, %s %.2f\n", (bound == "at least" ? a / b >= limit : a / b <= limit) ? "reached" : "short",
+        name, over "/" under, a / b, bound, limit
 }
 
-function aims(m,    k) {
-    print "\naims, in " m " (the ratio, and the ratio aimed at)"
-    for (k = 1; k <= 2; k++) aim("reference/library", m, "inverse " large[k] " dense", "reference", "library", 2)
-    for (k = 1; k <= 2; k++) aim("best of C/library", m, "inverse " large[k] " dense", "best", "library", 1 / 1.4)
-    for (k = 1; k <= 5; k++) aim("reference/library", m, "inverse " every[k] " corner", "reference", "library", 4)
-    for (k = 1; k <= 5; k++) aim("reference/library", m, "inverse " every[k] " one", "reference", "library", 4)
-    for (k = 1; k <= 2; k++) aim("reference/library", m, "inverse " small[k] " dense", "reference", "library", 1)
+function aims(m,    k, f) {
+    print "\naims, in " m
+    for (k = 1; k <= 2; k++) aim(m, "inverse " large[k] " dense", "reference", "library", "at least", 2)
+    for (k = 1; k <= 2; k++) aim(m, "inverse " large[k] " dense", "library", "best of C", "at most", 1.4)
+    for (f = 2; f <= 3; f++) for (k = 1; k <= 3; k++) aim(m, "inverse " large[k] " " fill[f], "reference", "library", "at least", 4)
+    for (k = 1; k <= 2; k++) for (f = 1; f <= 3; f++) aim(m, "inverse " small[k] " " fill[f], "reference", "library", "at least", 1)
 }
 
 END {
     split("reference rows folded butterfly", baseline)
-    split("16x16 32x32", large)
+    split("16x16 32x32 32x8", large)
     split("4x4 8x8", small)
-    split("4x4 8x8 16x16 32x32 32x8", every)
+    split("dense corner one", fill)
     for (k = 1; k <= measures; k++) if (measure[k] != "skipped") { blocks(measure[k]); lines(measure[k]) }
     if (skipped) print "\n" skipped " instructions were left out of the cycles, since llvm-mca does not know them"
     if ("ns" in seen) aims("ns")
