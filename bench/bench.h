@@ -12,11 +12,11 @@ enum { LONGEST = 32, KEPT = 16, LARGEST = LONGEST * LONGEST };
 typedef void inverse_block(hoengtila_shape shape, const int16_t *coefficients, int32_t *residuals);
 typedef void forward_block(hoengtila_shape shape, const int16_t *residuals, int16_t *coefficients);
 
-inverse_block reference_inverse, rows_inverse, folded_inverse, butterfly_inverse;
-forward_block reference_forward, rows_forward, folded_forward, butterfly_forward;
+inverse_block reference_inverse, triple_inverse, rows_inverse, folded_inverse, butterfly_inverse;
+forward_block reference_forward, triple_forward, rows_forward, folded_forward, butterfly_forward;
 
 /* Each baseline makes its tables of the weights once. */
-void reference_prepare(void), rows_prepare(void), folded_prepare(void);
+void reference_prepare(void), triple_prepare(void), rows_prepare(void), folded_prepare(void);
 
 int weight(int kind, int n, int i, int j);
 int log2_of(int n);

@@ -13,15 +13,16 @@ static int32_t sums[LARGEST];
 
 typedef hoengtila_answer line_call(uint32_t n, uint32_t kind, const int16_t *x, size_t x_len, int32_t *y, size_t y_len);
 
-static const char *const block_names[] = {"library", "reference", "rows", "folded", "butterfly"};
-static inverse_block *const inverses[] = {0, reference_inverse, rows_inverse, folded_inverse, butterfly_inverse};
-static forward_block *const forwards[] = {0, reference_forward, rows_forward, folded_forward, butterfly_forward};
+static const char *const block_names[] = {"library", "reference", "triple", "rows", "folded", "butterfly"};
+static inverse_block *const inverses[] = {0, reference_inverse, triple_inverse, rows_inverse, folded_inverse, butterfly_inverse};
+static forward_block *const forwards[] = {0, reference_forward, triple_forward, rows_forward, folded_forward, butterfly_forward};
 static const char *const line_names[] = {"fast", "product"};
 static line_call *const inverse_lines[] = {hoengtila_line_inverse, hoengtila_line_inverse_product};
 static line_call *const forward_lines[] = {hoengtila_line_forward, hoengtila_line_forward_product};
 
 void prepare(void) {
     reference_prepare();
+    triple_prepare();
     rows_prepare();
     folded_prepare();
 }

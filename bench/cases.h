@@ -4,7 +4,7 @@
 
 #include "bench.h"
 
-enum { CASES = 64, IMPLEMENTATIONS = 5 };
+enum { CASES = 64, IMPLEMENTATIONS = 6 };
 
 typedef struct {
     int line; /* a line of width points, by the fast path and by the full product; otherwise a block */

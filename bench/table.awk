@@ -12,7 +12,7 @@ function has(m, name, who) { return (m, name, who) in value }
 
 function best(m, name,    k, who, least) {
     least = 0
-    for (k = 1; k <= 4; k++) if (has(m, name, baseline[k])) {
+    for (k = 1; k <= BASELINES; k++) if (has(m, name, baseline[k])) {
         who = value[m, name, baseline[k]]
         if (!least || who < least) least = who
     }
@@ -23,11 +23,12 @@ function ratio(a, b) { return b ? sprintf("%.2f", a / b) : "-" }
 function number(m, v) { return m == "ns" ? sprintf("%.1f", v) : v }
 
 function blocks(m,    k, j, name) {
-    printf "\n%-22s %10s %10s %10s %10s %10s %14s %14s\n", m, "library", "reference", "rows", "folded", "butterfly",
-        "reference/lib.", "lib./best of C"
+    printf "\n%-22s %10s", m, "library"
+    for (j = 1; j <= BASELINES; j++) printf " %10s", baseline[j]
+    printf " %14s %14s\n", "reference/lib.", "lib./best of C"
     for (k = 1; k <= names; k++) if (!line[name = order[k]] && has(m, name, "library")) {
         printf "%-22s %10s", name, number(m, value[m, name, "library"])
-        for (j = 1; j <= 4; j++) printf " %10s", has(m, name, baseline[j]) ? number(m, value[m, name, baseline[j]]) : "-"
+        for (j = 1; j <= BASELINES; j++) printf " %10s", has(m, name, baseline[j]) ? number(m, value[m, name, baseline[j]]) : "-"
         printf " %14s %14s\n", ratio(value[m, name, "reference"], value[m, name, "library"]), ratio(value[m, name, "library"], best(m, name))
     }
 }
@@ -57,7 +58,7 @@ function aims(m,    k, f) {
 }
 
 END {
-    split("reference rows folded butterfly", baseline)
+    BASELINES = split("reference triple rows folded butterfly", baseline)
     split("16x16 32x32 32x8", large)
     split("4x4 8x8", small)
     split("dense corner one", fill)
