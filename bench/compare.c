@@ -10,6 +10,7 @@ enum { BLOCKS_OF_A_SHAPE = 12 };
 
 static int16_t input[LARGEST], output16[2][LARGEST];
 static int32_t output32[2][LARGEST];
+static int blocks;
 
 /* Numbers of every size, both ends of the range among them, and more zeros in later blocks. */
 static int16_t number(int most, int block) {
@@ -56,7 +57,7 @@ static int compare_forward(hoengtila_shape s, int block) {
 }
 
 static int compare_shape(hoengtila_shape s) {
-    for (int block = 0; block < BLOCKS_OF_A_SHAPE; block++)
+    for (int block = 0; block < BLOCKS_OF_A_SHAPE; block++, blocks += 2)
         if (compare_inverse(s, block) || compare_forward(s, block)) return 1;
     return 0;
 }
@@ -93,5 +94,6 @@ int compare(void) {
         for (uint32_t h = 4; h <= LONGEST; h *= 2)
             if (compare_size(w, h)) return 1;
     }
+    printf("bench: the library and the baselines give the same on %d blocks\n", blocks);
     return 0;
 }
