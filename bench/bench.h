@@ -23,7 +23,7 @@ int log2_of(int n);
 
 static inline int kept(int n) { return n < KEPT ? n : KEPT; }
 
-/* "The middle value is (e+64)>>7, clipped to -32768..32767", and the two roundings of the forward */
+/* "The middle value is (e+64)>>7, clipped to -32768..32767"; the other three roundings take a shift */
 static inline int16_t middle_of(int32_t e) {
     int32_t v = (e + 64) >> 7;
     return (int16_t)(v < -32768 ? -32768 : v > 32767 ? 32767 : v);

@@ -1,3 +1,4 @@
+/* The cases of the benchmark: every implementation reads the same input, and writes where the others did. */
 #include "cases.h"
 
 #include "random.h"

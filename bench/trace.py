@@ -75,7 +75,7 @@ def main():
     program, log, names = sys.argv[1:4]
     text = disassembled(program)
     with open(log, errors="replace") as lines, open(names) as wanted:
-        for name, stretch in zip(map(str.strip, wanted), stretches(lines)):
+        for stretch, name in zip(stretches(lines), map(str.strip, wanted)):
             if "--profile" in sys.argv:
                 profile(name, collections.Counter(stretch), text)
                 continue

@@ -41,7 +41,6 @@ function law(c, n,    k) {
 
 function shared(c, g) { return N != 8 && c == 1 && g % q == 0 }
 function kept(n) { return n < 16 ? n : 16 }
-function opposite(sign) { return sign == "+" ? "-" : "+" }
 function term(sign, name) { return " " sign " " name }
 # a sum that starts with a sign and may be empty
 function sum(s) { return s == "" ? "0" : substr(s, 1, 3) == " + " ? substr(s, 4) : "-" substr(s, 4) }
