@@ -22,21 +22,23 @@ function best(m, name,    k, who, least) {
 function ratio(a, b) { return b ? sprintf("%.2f", a / b) : "-" }
 function number(m, v) { return m == "ns" ? sprintf("%.1f", v) : v }
 
-function blocks(m,    k, j, name) {
+function blocks(m,    k, j, name, library) {
     printf "\n%-22s %10s", m, "library"
     for (j = 1; j <= BASELINES; j++) printf " %10s", baseline[j]
     printf " %14s %14s\n", "reference/lib.", "lib./best of C"
     for (k = 1; k <= names; k++) if (!line[name = order[k]] && has(m, name, "library")) {
-        printf "%-22s %10s", name, number(m, value[m, name, "library"])
+        library = value[m, name, "library"]
+        printf "%-22s %10s", name, number(m, library)
         for (j = 1; j <= BASELINES; j++) printf " %10s", has(m, name, baseline[j]) ? number(m, value[m, name, baseline[j]]) : "-"
-        printf " %14s %14s\n", ratio(value[m, name, "reference"], value[m, name, "library"]), ratio(value[m, name, "library"], best(m, name))
+        printf " %14s %14s\n", ratio(value[m, name, "reference"], library), ratio(library, best(m, name))
     }
 }
 
-function lines(m,    k, name, head) {
+function lines(m,    k, name, head, fast, product) {
     for (k = 1; k <= names; k++) if (line[name = order[k]] && has(m, name, "fast")) {
         if (!head++) printf "\n%-22s %10s %10s %14s\n", m, "fast", "product", "product/fast"
-        printf "%-22s %10s %10s %14s\n", name, number(m, value[m, name, "fast"]), number(m, value[m, name, "product"]), ratio(value[m, name, "product"], value[m, name, "fast"])
+        fast = value[m, name, "fast"]; product = value[m, name, "product"]
+        printf "%-22s %10s %10s %14s\n", name, number(m, fast), number(m, product), ratio(product, fast)
     }
 }
 
