@@ -17,11 +17,8 @@ use Rattle.algebra.proofs.Lists.{block-at, block-length, place-in}
 use Rattle.meaning.specs.Weights.{weight}
 use Rattle.meaning.specs.Line.{term}
 use Rattle.meaning.proofs.Sizes.{weightSize}
+use Rattle.row_sums.specs.Factors.{laid}
 use Rattle.row_sums.specs.Sums.{rowSum, Rows}
-
--- the factors of the first `count` inputs
-abbrev pub laid : Bool → ℕ → ℕ → ℕ → List ℤ
-laid forward kind n count = block n count (λ k i. term forward kind n k i)
 
 term-size : (forward : Bool) (kind n k i : ℕ) → natAbs (term forward kind n k i) ≤ 90
 term-size true kind n k i = weightSize kind n k i
