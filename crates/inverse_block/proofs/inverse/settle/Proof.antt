@@ -1,74 +1,110 @@
+-- `inverse::settle` meets its contract. Assumes nothing.
 use borrow.Author.Needs.{needs}
 use native.Mathlib.Omega.{arith}
+use mathlib.Core.Path.{_≡_, sym, ap, _∙_, subst}
+use Prim.Native.Nat.{ℕ, _+_, _*_, _-_, _<_, _≤_}
+use lib.ListN.{length}
+use lib.IntN.{ℤ, natAbs}
+use mir.Syntax.{w16, w32}
+use mir.Val.{toZ, ofZ}
+use mir.ValLaws.{toZ-ofZ}
+use Rattle.algebra.specs.Clip.{clip}
+use Rattle.algebra.specs.Lists.{at}
+use Rattle.algebra.proofs.Lists.{Filled, fill-none, fill-first, filled}
+use Rattle.meaning.specs.Inverse.{rounded, middle, railed, count}
+use Rattle.inverse_block.specs.Stages.{short, railsOf}
+use Rattle.inverse_block.proofs.Middles.{rails-none, rails-next, rails-in, count-in}
 use Rattle.inverse_block.proofs.inverse.settle.Statement.{statement}
 use Rattle.inverse_block.proofs.inverse.settle.Tie as tie
-use Rattle.inverse_block.proofs.inverse.settle.Reads as reads
-use Rattle.inverse_block.proofs.inverse.settle.Lts as lts
-use Rattle.inverse_block.proofs.inverse.clip16.Reads as clip16-reads
-use Rattle.inverse_block.proofs.inverse.rail.Reads as rail-reads
-use Rattle.inverse_block.proofs.inverse.round7.Reads as round7-reads
 
 abbrev Inv-loop : tie.InvT-loop
-Inv-loop e m₀ rails₀ x₀ m rails x = ?
+Inv-loop e m₀ rails₀ x₀ m rails x = (x ≤ length e) × (Filled 0 x m m₀ (λ x. middle short (at e x)) × (rails ≡ railsOf x (at e)))
 
 abbrev μ-loop : tie.MeasureT-loop
-μ-loop e m₀ rails₀ x₀ m rails x = ?
+μ-loop e m₀ rails₀ x₀ m rails x = length e - x
 
--- src/inverse.rt:101:5
+place : (c : tie.In-loop Inv-loop μ-loop) → c .before .loop .x < length (c .before .before .args .m .now)
+place c = omega (arith, c .before .before .pre .same, c .loop-test .taken)
+
+-- the sum that is read, what it is rounded to, and the middle value
+sum-read : (c : tie.After-round7-arg Inv-loop μ-loop) → let L = c .before .before in
+    toZ w32 (ofZ w32 (at (L .before .args .e .now) (L .loop .x))) ≡ at (L .before .args .e .now) (L .loop .x)
+sum-read c = let L = c .before .before in toZ-ofZ w32 (at (L .before .args .e .now) (L .loop .x)) (record { sfits = c .round7-arg .given })
+
+made : (c : tie.After-clip16 Inv-loop μ-loop) → let L = c .before .before .before .before in
+    toZ w16 (ofZ w16 (c .clip16 .result)) ≡ middle short (at (L .before .args .e .now) (L .loop .x))
+made c =
+    toZ-ofZ w16 (c .clip16 .result) (search needs) ∙ c .clip16 .ensures
+    ∙ ap (clip short) (toZ-ofZ w32 (c .before .round7 .result) (search needs) ∙ c .before .round7 .ensures ∙ ap rounded (sum-read (c .before .before)))
+
+counted : (c : tie.After-rail Inv-loop μ-loop) → let L = c .before .before .before .before .before in let e = at (L .before .args .e .now) (L .loop .x) in
+    c .rail .result ≡ count (railed short (rounded e) (middle short e))
+counted c =
+    let L = c .before .before .before .before .before in
+    let e = at (L .before .args .e .now) (L .loop .x) in
+    c .rail .ensures ∙ ap (λ (z : ℤ). count (railed short (rounded e) z)) (made (c .before))
+
 loop-holds : tie.Need-loop-holds Inv-loop μ-loop
-loop-holds c = search needs
+loop-holds c = (omega arith, (fill-none 0 _ _, sym (rails-none (at (c .args .e .now)))))
 
--- src/inverse.rt:102:31
 mul-round7 : tie.Need-mul-round7 Inv-loop μ-loop
 mul-round7 c = search needs
 
--- src/inverse.rt:102:31
 shared-slice-copy-out-round7 : tie.Need-shared-slice-copy-out-round7 Inv-loop μ-loop
 shared-slice-copy-out-round7 c = search needs
 
--- src/inverse.rt:102:24
 round7-requires : tie.Need-round7-requires Inv-loop μ-loop
-round7-requires c κs = search needs
+round7-requires c κs =
+    let L = c .before .before in
+    subst (λ (z : ℤ). natAbs z ≤ 67108864) (sym (sum-read c)) (L .before .pre .small (L .loop .x) (c .before .loop-test .taken))
 
--- src/inverse.rt:102:13
 clip16-requires : tie.Need-clip16-requires Inv-loop μ-loop
 clip16-requires c κs = search needs
 
--- src/inverse.rt:103:18
 rail-requires : tie.Need-rail-requires Inv-loop μ-loop
 rail-requires c κs = search needs
 
--- src/inverse.rt:103:9
 add-rails : tie.Need-add-rails Inv-loop μ-loop
-add-rails c = search needs
+add-rails c =
+    let L = c .before .before .before .before .before in
+    let e = at (L .before .args .e .now) (L .loop .x) in
+    omega (arith, L .loop .inv .1 .1, rails-in (L .loop .x) (at (L .before .args .e .now)), counted c, count-in (railed short (rounded e) (middle short e)), L .before .pre .few)
 
--- src/inverse.rt:104:9
 mul-v : tie.Need-mul-v Inv-loop μ-loop
-mul-v c = search needs
+mul-v c = omega (arith, place (c .before .before .before .before))
 
--- src/inverse.rt:104:9
 slice-set-from-v : tie.Need-slice-set-from-v Inv-loop μ-loop
-slice-set-from-v c = search needs
+slice-set-from-v c = omega (arith, place (c .before .before .before .before), c .before .before .before .before .before .loop .inv .1 .0 .long)
 
--- src/inverse.rt:105:9
 add-x : tie.Need-add-x Inv-loop μ-loop
 add-x c = search needs
 
--- src/inverse.rt:101:5
 loop-less : tie.Need-loop-less Inv-loop μ-loop
 loop-less c = search needs
 
--- src/inverse.rt:101:5
 loop-again : tie.Need-loop-again Inv-loop μ-loop
-loop-again c = search needs
+loop-again c =
+    let L = c .before .before .before .before .before in
+    let s = L .before in (
+      omega arith,
+      (
+        fill-first _ (place (c .before .before .before .before)) (L .loop .inv .1 .0) (made (c .before)),
+        omega (arith, L .loop .inv .1 .1, rails-next (L .loop .x) (at (s .args .e .now)), counted c),
+      ),
+    )
 
--- src/inverse.rt:95:1
 same-length : tie.Need-same-length Inv-loop μ-loop
-same-length c = search needs
+same-length c = c .before .loop .inv .1 .0 .long
 
--- src/inverse.rt:95:1
 returns : tie.Need-returns Inv-loop μ-loop
-returns c = search needs
+returns c =
+    let L = c .before in
+    let s = L .before .args in
+    let n = length (s .e .now) in
+    let e : L .loop .x ≡ n = omega (arith, L .loop .inv .0, c .loop-test .left) in (
+      filled (L .before .pre .same) (subst (λ (k : ℕ). Filled 0 k (L .loop .m) (s .m .now) (λ x. middle short (at (s .e .now) x))) e (L .loop .inv .1 .0)),
+      L .loop .inv .1 .1 ∙ ap (λ (k : ℕ). railsOf k (at (s .e .now))) e,
+    )
 
 pub settle-spec : {M : Type 1} → statement M
 settle-spec =
