@@ -6,7 +6,9 @@ use meaning::kept_rows;
 use row_sums::factors::factors;
 use row_sums::sums::row_sums;
 ghost use mathlib.Core.Path.{_≡_};
+ghost use mathlib.Core.Bool.{cond};
 ghost use Prim.Native.Nat.{ℕ, _≤_, _<_, _*_, min};
+ghost use lib.Dec.{ltb};
 ghost use lib.ListN.{length};
 ghost use lib.IntN.{pos, natAbs};
 ghost use Rattle.algebra.specs.Clip.{clip};
@@ -30,20 +32,38 @@ fn outside(n: i16, x: usize, y: usize, columns: usize, rows: usize) -> bool
     rows <= y
 }
 
-// The place of the first coefficient outside the kept part, row by row, or how many there are. Where the hunt has read
-// them all, it hands on what reading tells of each: a 16-bit number is at most 32768 in size.
+// What reading tells of each coefficient: in 16 bits, a size of at most 32768. The compiler sees that this does nothing.
+fn read(c: &[i16])
+    ensures { λ _. ⌜ NoneAbove 32768 (now (c .entry)) ⌝ }
+{
+    let mut i = 0;
+    while i < c.len() {
+        let z = c[i];
+        i += 1;
+    }
+}
+
+// The first column of row y that can be outside the kept part.
+fn first_column(y: usize, columns: usize, rows: usize) -> usize
+    ensures { λ r. ⌜ r ≡ cond (ltb y rows) columns 0 ⌝ }
+{
+    if y < rows { columns } else { 0 }
+}
+
+// The place of the first coefficient outside the kept part, row by row, or how many there are.
 pub fn hunt(shape: Shape, c: &[i16]) -> usize
     requires { ⌜ length (now c) ≡ shape .width * shape .height ⌝ }
-    ensures { λ r. ⌜ (r ≡ firstOutside shape (now (c .entry))) × (length (now (c .entry)) ≤ r → NoneAbove 32768 (now (c .entry))) ⌝ }
+    ensures { λ r. ⌜ (r ≡ firstOutside shape (now (c .entry))) × NoneAbove 32768 (now (c .entry)) ⌝ }
 {
     let w = shape.width as usize;
     let h = shape.height as usize;
     let columns = kept_columns(shape);
     let rows = kept_rows(shape);
+    read(c);
     let mut place = c.len();
     let mut y = 0;
     'hunt: while y < h {
-        let mut x = 0;
+        let mut x = first_column(y, columns, rows);
         while x < w {
             let at = x + y * w;
             if outside(c[at], x, y, columns, rows) {
