@@ -23,7 +23,7 @@ use Rattle.algebra.proofs.Lists.{tab-at, tab-length, tabulated}
 use Rattle.meaning.specs.Weights.{S}
 use Rattle.engine.specs.Dst.{Small, dstSum}
 use Rattle.tables.specs.Table.{Table}
-use Rattle.engine.specs.Folded.{inClass, masked, cleared, Row, Class, Sums}
+use Rattle.engine.specs.Folded.{inClass, masked, cleared, Area, Row, Added, Class, Sums}
 use Rattle.meaning.proofs.Sizes.{S-size}
 use Rattle.engine.proofs.Adding.{read-back, read-small}
 
@@ -151,60 +151,67 @@ upto-small n x i k h b =
         let q : natAbs (S n j k) * natAbs (x j) ≤ 90 * 32768 = mul-le-mul (S-size n j k) p in
         omega (arith, abs-mul (S n j k) (x j))
 
+-- the sums of m places over the rows of the class before i
+pub record Upto (m n first step : ℕ) (x : List ℤ) (i : ℕ) (a : List ℤ) : Type 0 where
+  pub long : length a ≡ 32
+  pub are : (k : ℕ) → k < m → at a k ≡ upto n (masked first step (at x)) i k
+
 module _ (m n first step : ℕ) (x : List ℤ) where
-  -- the sums of m places over the rows of the class before i
-  abbrev pub Upto : ℕ → List ℤ → Type 0
-  Upto i a = a ≡ tabulate m (upto n (masked first step (at x)) i)
-
-  pub start : Upto first (replicate m (pos 0))
+  pub start : m ≤ 32 → Upto m n first step x first (replicate 32 (pos 0))
   unfolding upto sum
-  start =
-      tabulated m (replicate m (pos 0)) _ (length-replicate m (pos 0))
-      (λ k h. getD-replicate m k (pos 0) (pos 0) h
-      ∙ sym (upto-gap n (masked first step (at x)) 0 first k (omega arith) (λ l p q. masked-out first step (at x) l (before-class first step l q))))
+  start g =
+      record {
+        long = refl;
+        are = λ k h. getD-replicate 32 k (pos 0) (pos 0) (omega arith)
+            ∙ sym (upto-gap n (masked first step (at x)) 0 first k (omega arith) (λ l p q. masked-out first step (at x) l (before-class first step l q)));
+      }
 
-  module _ {i : ℕ} {a : List ℤ} (s : 0 < step) (l : Along first step i) (u : Upto i a) where
+  module _ {i : ℕ} {a : List ℤ} (s : 0 < step) (l : Along first step i) (u : Upto m n first step x i a) where
     stepped : (k : ℕ) → upto n (masked first step (at x)) (i + step) k ≡ upto n (masked first step (at x)) i k +ℤ S n i k *ℤ at x i
     stepped k =
         upto-gap n (masked first step (at x)) (i + 1) (i + step) k (omega arith) (λ j p q. masked-out first step (at x) j (past-class l j (omega arith) q))
         ∙ upto-next n (masked first step (at x)) i k
         ∙ ap (λ (y : ℤ). upto n (masked first step (at x)) i k +ℤ S n i k *ℤ y) (masked-in first step (at x) i (in-class l))
 
-    held : (k : ℕ) → k < m → at a k ≡ upto n (masked first step (at x)) i k
-    held k h = ap (λ (b : List ℤ). at b k) u ∙ tab-at m _ k h
-
     -- a row is added
-    pub taken : {r : List ℤ} {v : ℤ} → v ≡ at x i → r ≡ tabulate m (λ k. at a k +ℤ S n i k *ℤ v) → Upto (i + step) r
+    pub taken : {r : List ℤ} {v : ℤ} → v ≡ at x i → Added m n i v a r → Upto m n first step x (i + step) r
     taken {r} {v} w e =
-        e ∙ tabulated m _ _ (tab-length m _)
-        (λ k h. tab-at m (λ k. at a k +ℤ S n i k *ℤ v) k h ∙ (λ t. held k h t +ℤ S n i k *ℤ w t) ∙ sym (stepped k))
+        record {
+          long = e .long ∙ u .long;
+          are = λ k h. e .are k h ∙ (λ t. u .are k h t +ℤ S n i k *ℤ w t) ∙ sym (stepped k);
+        }
 
     -- a row is passed over
-    pub passed : at x i ≡ pos 0 → Upto (i + step) a
+    pub passed : at x i ≡ pos 0 → Upto m n first step x (i + step) a
     passed z =
-        tabulated m a _ (ap length u ∙ tab-length m _)
-        (λ k h. held k h ∙ sym (+ℤ-idr (upto n (masked first step (at x)) i k)) ∙ ap (λ (y : ℤ). upto n (masked first step (at x)) i k +ℤ y) (sym (*ℤ-zero (S n i k)))
-        ∙ ap (λ (y : ℤ). upto n (masked first step (at x)) i k +ℤ S n i k *ℤ y) (sym z) ∙ sym (stepped k))
+        record {
+          long = u .long;
+          are = λ k h. u .are k h ∙ sym (+ℤ-idr (upto n (masked first step (at x)) i k))
+              ∙ ap (λ (y : ℤ). upto n (masked first step (at x)) i k +ℤ y) (sym (ap (λ (y : ℤ). S n i k *ℤ y) z ∙ *ℤ-zero (S n i k))) ∙ sym (stepped k);
+        }
 
   -- the sums stay small
-  pub small-upto : {i : ℕ} {a : List ℤ} → n ≤ 32 → Small n 32768 x → i ≤ n → Upto i a → Small m 94371840 a
+  pub small-upto : {i : ℕ} {a : List ℤ} → n ≤ 32 → Small n 32768 x → i ≤ n → Upto m n first step x i a → Area m a
   small-upto {i} {a} h p l u =
       record {
-        long = ap length u ∙ tab-length m _;
-        small = λ k g. subst (λ (z : ℤ). natAbs z ≤ 94371840) (sym (ap (λ (b : List ℤ). at b k) u ∙ tab-at m _ k g))
+        long = u .long;
+        small = λ k g. subst (λ (z : ℤ). natAbs z ≤ 94371840) (sym (u .are k g))
             (upto-small n (masked first step (at x)) i k (omega arith) (λ j q. masked-small first step (at x) j 32768 (p .small j (omega arith))));
       }
 
   -- past the last row there is no input
-  pub ended : {i : ℕ} {a : List ℤ} → n ≤ 32 → Small n 32768 x → n ≤ i → Upto i a → Sums m n (masked first step (at x)) a
-  ended {i} {a} h p l u = record { are = cut ∙ tabulated m _ _ (tab-length m _) (λ k g. tab-at m _ k g ∙ upto-all n (masked first step (at x)) k); small = small-upto h p (omega arith) cut }
+  pub ended : {i : ℕ} {a : List ℤ} → n ≤ 32 → Small n 32768 x → n ≤ i → Upto m n first step x i a → Sums m n (masked first step (at x)) a
+  ended {i} {a} h p l u =
+      record { are = λ k g. cut .are k g ∙ upto-all n (masked first step (at x)) k; area = small-upto h p (omega arith) cut }
     where
       past : (j : ℕ) → n ≤ j → at x j ≡ pos 0
       past j g = List·getD-eq-default x (pos 0) {n = j} (omega (arith, p .long))
 
-      cut : Upto n a
-      cut = u ∙ tabulated m _ _ (tab-length m _)
-          (λ k g. tab-at m _ k g ∙ upto-gap n (masked first step (at x)) n i k l (λ j q r. masked-zero first step (at x) j (past j q)))
+      cut : Upto m n first step x n a
+      cut = record {
+        long = u .long;
+        are = λ k g. u .are k g ∙ upto-gap n (masked first step (at x)) n i k l (λ j q r. masked-zero first step (at x) j (past j q));
+      }
 
 -- ---- a class is cleared: the inputs before i, and those that the loop has not reached
 pub record Clearing (first step i : ℕ) (x x₀ : List ℤ) : Type 0 where
@@ -249,26 +256,7 @@ clear-next {first} {step} {i} {x} {x₀} s l p =
 pub clear-all : {first step i : ℕ} {x x₀ : List ℤ} → length x₀ ≤ i → Clearing first step i x x₀ → x ≡ tabulate (length x₀) (cleared first step (at x₀))
 clear-all {x = x} {x₀ = x₀} l p = tabulated (length x₀) x _ (p .long) (λ k h. p .done k (omega arith))
 
--- ---- what the loops over a class are given, the numbers by one test
-pub class-of : {m n step : ℕ} {t x : List ℤ} → T (leb m n && (leb n 32 && (ltb 0 step && leb step 32))) → Table n t → Small n 32768 x → Class m n step t x
-class-of {m} {n} {step} p t x =
-    let q = and-right (leb m n) _ p in
-    let r = and-right (leb n 32) _ q in
-    record {
-      width = leb→le m n (and-left (leb m n) _ p);
-      few = leb→le n 32 (and-left (leb n 32) _ q);
-      moves = ltb→lt 0 step (and-left (ltb 0 step) _ r);
-      near = leb→le step 32 (and-right (ltb 0 step) _ r);
-      table = t;
-      input = x;
-    }
-
-pub clear-of : {n step : ℕ} {x : List ℤ} → T (leb n 32 && (ltb 0 step && leb step 32)) → Small n 32768 x → (0 < step) × ((step ≤ 32) × (length x ≤ 32))
-clear-of {n} {step} p x =
-    let q = and-right (leb n 32) _ p in
-    let l : n ≤ 32 = leb→le n 32 (and-left (leb n 32) _ p) in
-    (ltb→lt 0 step (and-left (ltb 0 step) _ q), (leb→le step 32 (and-right (ltb 0 step) _ q), omega (arith, x .long)))
-
+-- ---- what the loops over a class are given
 -- an input, as it is read
 pub input-back : {m n step : ℕ} {t x : List ℤ} → Class m n step t x → (i : ℕ) → i < n → toZ w32 (ofZ w32 (at x i)) ≡ at x i
 input-back {x = x} p i h = read-back (at x i) 32768 (p .input .small i h) (omega arith)

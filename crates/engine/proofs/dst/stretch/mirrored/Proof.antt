@@ -2,10 +2,10 @@
 use native.Mathlib.Omega.{arith}
 use mathlib.Core.Path.{_≡_}
 use Prim.Native.Nat.{_+_, _-_, _≤_}
-use lib.ListN.{length}
 use mir.Syntax.{w32}
 use mir.Val.{toZ, ofZ}
 use Rattle.algebra.specs.Lists.{at}
+use Rattle.engine.specs.Folded.{half}
 use Rattle.engine.proofs.Adding.{read-back}
 use Rattle.engine.proofs.Stretches.{Mirrored, mirror-none, mirror-next, mirror-all}
 use Rattle.engine.proofs.dst.stretch.mirrored.Statement.{statement}
@@ -15,7 +15,7 @@ abbrev Inv-loop : tie.InvT-loop
 Inv-loop c q w₀ g₀ w g = Mirrored q g c w
 
 abbrev μ-loop : tie.MeasureT-loop
-μ-loop c q w₀ g₀ w g = length c - g
+μ-loop c q w₀ g₀ w g = half q - g
 
 -- the last of the first stretch but one lies within
 room : (c : tie.In-loop Inv-loop μ-loop) → c .before .loop .g + c .before .loop .g + 3 ≤ c .before .before .args .q
@@ -33,8 +33,8 @@ loop-holds c = mirror-none (c .pre)
 mul-w : tie.Need-mul-w Inv-loop μ-loop
 mul-w c = omega (arith, room c, c .before .before .pre .few)
 
-shared-slice-copy-out-w : tie.Need-shared-slice-copy-out-w Inv-loop μ-loop
-shared-slice-copy-out-w c = c .loop-test .taken
+element-copy-out-w : tie.Need-element-copy-out-w Inv-loop μ-loop
+element-copy-out-w c = omega (arith, room c, c .before .before .pre .few)
 
 mul-w-2 : tie.Need-mul-w-2 Inv-loop μ-loop
 mul-w-2 c = omega (arith, room (c .before), c .before .before .before .pre .few)
@@ -45,8 +45,8 @@ array-set-from-w c = omega (arith, room (c .before), c .before .before .before .
 mul-w-3 : tie.Need-mul-w-3 Inv-loop μ-loop
 mul-w-3 c = omega (arith, room (c .before), c .before .before .before .pre .few)
 
-shared-slice-copy-out-w-2 : tie.Need-shared-slice-copy-out-w-2 Inv-loop μ-loop
-shared-slice-copy-out-w-2 c = c .before .loop-test .taken
+element-copy-out-w-2 : tie.Need-element-copy-out-w-2 Inv-loop μ-loop
+element-copy-out-w-2 c = omega (arith, room (c .before), c .before .before .before .pre .few)
 
 sub-w : tie.Need-sub-w Inv-loop μ-loop
 sub-w c = omega (arith, room (c .before .before))
@@ -82,11 +82,11 @@ mirrored-spec =
     μ-loop
     loop-holds
     mul-w
-    shared-slice-copy-out-w
+    element-copy-out-w
     mul-w-2
     array-set-from-w
     mul-w-3
-    shared-slice-copy-out-w-2
+    element-copy-out-w-2
     sub-w
     sub-w-2
     mul-w-4

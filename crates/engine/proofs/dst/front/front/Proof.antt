@@ -1,22 +1,24 @@
--- `dst::front::front_8` meets its contract: the sums over the rows of the class before i. Assumes nothing.
+-- `dst::front::front` meets its contract: the sums over the rows of the class before i. Assumes nothing.
 use native.Mathlib.Omega.{arith}
 use mathlib.Core.Logic.{⊎-elim}
-use mathlib.Core.Path.{sym, ap, _∙_}
-use Prim.Native.Nat.{_-_}
+use mathlib.Core.Path.{_≡_, sym, ap, _∙_, subst}
+use mathlib.Core.List.{List}
+use Prim.Native.Nat.{_+_, _-_}
+use lib.IntN.{ℤ}
 use mir.Syntax.{w32}
 use mir.Val.{toZ}
 use Rattle.engine.proofs.Classes.{Along, along-first, along-next, Upto, start, taken, passed, ended, input-back, row-given}
-use Rattle.engine.proofs.dst.front.front_8.Statement.{statement}
-use Rattle.engine.proofs.dst.front.front_8.Tie as tie
+use Rattle.engine.proofs.dst.front.front.Statement.{statement}
+use Rattle.engine.proofs.dst.front.front.Tie as tie
 
 abbrev Inv-loop : tie.InvT-loop
-Inv-loop t n x first step a₀ i₀ a i = Along first step i × Upto 8 n first step x i a
+Inv-loop t n m x first step a₀ i₀ a i = Along first step i × Upto m n first step x i a
 
 abbrev μ-loop : tie.MeasureT-loop
-μ-loop t n x first step a₀ i₀ a i = n - i
+μ-loop t n m x first step a₀ i₀ a i = n - i
 
 loop-holds : tie.Need-loop-holds Inv-loop μ-loop
-loop-holds c = (along-first _ _, start 8 _ _ _ (c .args .x .now))
+loop-holds c = (along-first _ _, start (c .args .m) _ _ _ (c .args .x .now) (omega (arith, c .pre .width, c .pre .few)))
 
 mul-v : tie.Need-mul-v Inv-loop μ-loop
 mul-v c = omega (arith, c .loop-test .taken, c .before .before .pre .few)
@@ -24,11 +26,11 @@ mul-v c = omega (arith, c .loop-test .taken, c .before .before .pre .few)
 shared-slice-copy-out-v : tie.Need-shared-slice-copy-out-v Inv-loop μ-loop
 shared-slice-copy-out-v c = omega (arith, c .loop-test .taken, c .before .before .pre .input .long)
 
-row-8-requires : tie.Need-row-8-requires Inv-loop μ-loop
-row-8-requires c κs =
+row-requires : tie.Need-row-requires Inv-loop μ-loop
+row-requires c κs =
     let I = c .before .before .before in
     let s = I .before .before in
-    row-given 8 _ (s .args .first) (s .args .step) _ (s .pre) (I .loop-test .taken) (I .before .loop .inv .1)
+    row-given (s .args .m) _ (s .args .first) (s .args .step) _ (s .pre) (I .loop-test .taken) (I .before .loop .inv .1)
 
 add-i : tie.Need-add-i Inv-loop μ-loop
 add-i c =
@@ -44,24 +46,26 @@ loop-again : tie.Need-loop-again Inv-loop μ-loop
 loop-again c =
     let I = c .before .before in
     let s = I .before .before in
+    let m = s .args .m in
     let x = s .args .x .now in
     let v = input-back (s .pre) (I .before .loop .i) (I .loop-test .taken) in
     let l = I .before .loop .inv .0 in
-    let u = I .before .loop .inv .1 in (
+    let u = I .before .loop .inv .1 in
+    let next = Upto m (s .args .n) (s .args .first) (s .args .step) x (I .before .loop .i + s .args .step) in (
       along-next l,
       ⊎-elim
-          (λ w. taken 8 _ _ _ x (s .pre .moves) l u v (w .3 ∙ w .2 .ensures))
-          (λ w. w .1 ∙ passed 8 _ _ _ x (s .pre .moves) l u (sym v ∙ ap (toZ w32) (w .0 .left)))
+          (λ w. subst next (sym (w .3)) (taken m _ _ _ x (s .pre .moves) l u v (w .2 .ensures)))
+          (λ w. subst next (sym (w .1)) (passed m _ _ _ x (s .pre .moves) l u (sym v ∙ ap (toZ w32) (w .0 .left))))
           (c .if1 .came),
     )
 
 returns : tie.Need-returns Inv-loop μ-loop
 returns c =
-    let p = c .before .before .pre in
-    ended 8 _ _ _ (c .before .before .args .x .now) (p .few) (p .input) (c .loop-test .left) (c .before .loop .inv .1)
+    let s = c .before .before in
+    ended (s .args .m) _ _ _ (s .args .x .now) (s .pre .few) (s .pre .input) (c .loop-test .left) (c .before .loop .inv .1)
 
-pub front-8-spec : {M : Type 1} → statement M
-front-8-spec =
+pub front-spec : {M : Type 1} → statement M
+front-spec =
     tie.close
     (tie.spec
     Inv-loop
@@ -69,7 +73,7 @@ front-8-spec =
     loop-holds
     mul-v
     shared-slice-copy-out-v
-    row-8-requires
+    row-requires
     add-i
     loop-less
     loop-again
