@@ -12,21 +12,6 @@ ghost use Rattle.engine.specs.Dst.{Small};
 ghost use Rattle.engine.specs.Lines.{Given, Inside, input, line};
 ghost use Rattle.engine.specs.Prepared.{turned, alternated, alternates, mirrors, prepared, finished, Loaded};
 
-// Whether every second input changes its sign and the sums are read backwards: all but the inverse DST-VII. DCT-VIII is
-// DST-VII read backwards with alternate signs ("The weights"), and its own transpose.
-fn alternating(kind: u32, forward: bool) -> bool
-    ensures { λ r. ⌜ r ≡ alternates forward kind ⌝ }
-{
-    forward || kind != 1
-}
-
-// Whether the inputs are read backwards too and every second sum changes its sign: the forward DST-VII.
-fn mirrored(kind: u32, forward: bool) -> bool
-    ensures { λ r. ⌜ r ≡ mirrors forward kind ⌝ }
-{
-    forward && kind == 1
-}
-
 // Place k of n, counted from the end where asked.
 fn place(back: bool, n: usize, k: usize) -> usize
     requires { ⌜ k < n ⌝ }
@@ -91,20 +76,13 @@ fn load(
 }
 
 // Output j, of the core's sums.
-fn given(r: &[i32], n: usize, alternate: bool, mirror: bool, j: usize) -> i32
-    requires { ⌜ (j < n) × Small n 1000000000 (now r) ⌝ }
-    ensures { λ v. ⌜ v ≡ finished alternate mirror n (at (now (r .entry))) j ⌝ }
-{
-    sign(mirror, j, r[place(alternate, n, j)])
-}
-
 fn store(r: &[i32], n: usize, alternate: bool, mirror: bool, z: &mut [i32])
     requires { ⌜ (length (now z) ≡ n) × Small n 1000000000 (now r) ⌝ }
     ensures { λ _. ⌜ now (z .exit) ≡ tabulate n (finished alternate mirror n (at (now (r .entry)))) ⌝ }
 {
     let mut j = 0;
     while j < n {
-        z[j] = given(r, n, alternate, mirror, j);
+        z[j] = sign(mirror, j, r[place(alternate, n, j)]);
         j += 1;
     }
 }
@@ -126,8 +104,8 @@ fn worked(
     requires { ⌜ ((length (now a) ≡ n) × (length (now r) ≡ n)) × Given n kind forward count from step (now t) (now s) (now z) ⌝ }
     ensures { λ _. ⌜ now (z .exit) ≡ line forward kind n count (input (now (s .entry)) from step) ⌝ }
 {
-    let alternate = alternating(kind, forward);
-    let mirror = mirrored(kind, forward);
+    let alternate = forward | (kind != 1);
+    let mirror = forward & (kind == 1);
     load(s, from, step, n, count, alternate, mirror, a);
     dst(t, n, a, r);
     store(r, n, alternate, mirror, z);
