@@ -67,28 +67,28 @@ module _ {q : ℕ} {c : List ℤ} (p : Periodic q c) where
         end = getD-replicate 32 (q - 1) (pos 0) (pos 0) (omega (arith, p .odd, p .few));
       }
 
-  pub mirror-next : {g : ℕ} {w : List ℤ} (y z : ℤ) → g < half q → y ≡ at c g → z ≡ at c g → Mirrored q g c w → Mirrored q (g + 1) c (set (set w g y) (q - 2 - g) z)
-  mirror-next {g} {w} y z h ey ez m =
+  pub mirror-next : {g : ℕ} {w : List ℤ} (z : ℤ) → g < half q → z ≡ at c g → Mirrored q g c w → Mirrored q (g + 1) c (set (set w g z) (q - 2 - g) z)
+  mirror-next {g} {w} z h e m =
       record {
-        long = length-set (set w g y) (q - 2 - g) z ∙ length-set w g y ∙ m .long;
+        long = length-set (set w g z) (q - 2 - g) z ∙ length-set w g z ∙ m .long;
         low = λ k l. low k l (ℕ-discrete k g);
         high = λ k l. high k l (ℕ-discrete k g);
         end = other (q - 1) (λ e. omega (arith, p .odd)) (λ e. omega (arith, p .odd)) ∙ m .end;
       }
     where
-      other : (k : ℕ) → (k ≡ q - 2 - g → ⊥) → (k ≡ g → ⊥) → at (set (set w g y) (q - 2 - g) z) k ≡ at w k
-      other k d e = getD-set-other (set w g y) (q - 2 - g) k z (pos 0) d ∙ getD-set-other w g k y (pos 0) e
+      other : (k : ℕ) → (k ≡ q - 2 - g → ⊥) → (k ≡ g → ⊥) → at (set (set w g z) (q - 2 - g) z) k ≡ at w k
+      other k d n = getD-set-other (set w g z) (q - 2 - g) k z (pos 0) d ∙ getD-set-other w g k z (pos 0) n
 
-      low : (k : ℕ) → k < g + 1 → Dec (k ≡ g) → at (set (set w g y) (q - 2 - g) z) k ≡ at c k
-      low k l (yes e) =
-          subst (λ (j : ℕ). at (set (set w g y) (q - 2 - g) z) j ≡ at c j) (sym e)
-          (getD-set-other (set w g y) (q - 2 - g) g z (pos 0) (λ e. omega (arith, p .odd)) ∙ getD-set-same w g y (pos 0) (omega (arith, m .long, p .odd, p .few)) ∙ ey)
+      low : (k : ℕ) → k < g + 1 → Dec (k ≡ g) → at (set (set w g z) (q - 2 - g) z) k ≡ at c k
+      low k l (yes f) =
+          subst (λ (j : ℕ). at (set (set w g z) (q - 2 - g) z) j ≡ at c j) (sym f)
+          (getD-set-other (set w g z) (q - 2 - g) g z (pos 0) (λ e. omega (arith, p .odd)) ∙ getD-set-same w g z (pos 0) (omega (arith, m .long, p .odd, p .few)) ∙ e)
       low k l (no d) = other k (λ e. omega (arith, p .odd)) d ∙ m .low k (omega arith)
 
-      high : (k : ℕ) → k < g + 1 → Dec (k ≡ g) → at (set (set w g y) (q - 2 - g) z) (q - 2 - k) ≡ at c k
-      high k l (yes e) =
-          subst (λ (j : ℕ). at (set (set w g y) (q - 2 - g) z) (q - 2 - j) ≡ at c j) (sym e)
-          (getD-set-same (set w g y) (q - 2 - g) z (pos 0) (omega (arith, length-set w g y, m .long, p .odd, p .few)) ∙ ez)
+      high : (k : ℕ) → k < g + 1 → Dec (k ≡ g) → at (set (set w g z) (q - 2 - g) z) (q - 2 - k) ≡ at c k
+      high k l (yes f) =
+          subst (λ (j : ℕ). at (set (set w g z) (q - 2 - g) z) (q - 2 - j) ≡ at c j) (sym f)
+          (getD-set-same (set w g z) (q - 2 - g) z (pos 0) (omega (arith, length-set w g z, m .long, p .odd, p .few)) ∙ e)
       high k l (no d) = other (q - 2 - k) (λ e. d (omega (arith, p .odd))) (λ e. omega (arith, p .odd)) ∙ m .high k (omega arith)
 
   pub mirror-all : {g : ℕ} {w : List ℤ} → half q ≤ g → Mirrored q g c w → Stretched q q c w

@@ -11,8 +11,9 @@ fn mirrored(c: &[i32; 32], q: usize) -> [i32; 32]
     let mut w = [0i32; 32];
     let mut g = 0;
     while g < q / 2 {
-        w[g] = c[g];
-        w[q - 2 - g] = c[g];
+        let v = c[g];
+        w[g] = v;
+        w[q - 2 - g] = v;
         g += 1;
     }
     w
