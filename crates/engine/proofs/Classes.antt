@@ -1,28 +1,26 @@
 -- A class of rows, first, first + step, .., and the sums that a loop over it makes: the rows that it passes over have a masked
 -- input of 0 and add nothing. Assumes nothing.
 use mathlib.Core.Path.{_≡_, refl, sym, ap, _∙_, subst}
-use mathlib.Core.Bool.{Bool, true, false, cond, _&&_}
+use mathlib.Core.Bool.{Bool, true, false, cond}
 use mathlib.Core.List.{List}
 use Prim.Native.Nat.{ℕ, _+_, _*_, _-_, _%_, _≤_, _<_}
 use native.Mathlib.Nat.{zero-mod, add-mod-right, mod-add-mod, mod-eq-of-lt, zero-add, le-trans, mul-le-mul}
 use native.Mathlib.Decide.{ℕ-discrete}
 use native.Mathlib.Omega.{arith}
 use borrow.Author.Tests.{eq-eqb, ne-eqb, le-leb, lt-leb, ltb-true, ltb-false}
-use lib.Dec.{T, leb, ltb, leb→le, ltb→lt}
-use lib.ListN.{length, set, replicate, length-replicate, getD-replicate, length-set, List·getD-eq-default}
+use lib.Dec.{ltb}
+use lib.ListN.{length, set, replicate, getD-replicate, length-set, List·getD-eq-default}
 use lib.Seq.{getD-set-same, getD-set-other}
 use lib.IntN.{ℤ, pos, natAbs, _+ℤ_, _*ℤ_, +ℤ-idr, *ℤ-zero}
 use mir.Syntax.{w32}
 use mir.Val.{toZ, ofZ}
 use Rattle.algebra.specs.Sum.{sum}
 use Rattle.algebra.specs.Lists.{at, tabulate}
-use Rattle.algebra.proofs.Table.{and-left, and-right}
 use Rattle.algebra.proofs.Order.{abs-mul}
 use Rattle.algebra.proofs.Sum.{sum-cong, sum-next, sum-split, sum-none, sum-in}
-use Rattle.algebra.proofs.Lists.{tab-at, tab-length, tabulated}
+use Rattle.algebra.proofs.Lists.{tabulated}
 use Rattle.meaning.specs.Weights.{S}
 use Rattle.engine.specs.Dst.{Small, dstSum}
-use Rattle.tables.specs.Table.{Table}
 use Rattle.engine.specs.Folded.{inClass, masked, cleared, Area, Row, Added, Class, Sums}
 use Rattle.meaning.proofs.Sizes.{S-size}
 use Rattle.engine.proofs.Adding.{read-back, read-small}

@@ -96,19 +96,19 @@ folds n p q =
 
 -- ---- the numbers of each size
 pub record Split (n p q : ℕ) : Type 0 where
+  pub test : T (folds n p q)
   pub numbers : (n ≤ 32) × ((p ≤ 32) × ((p ≡ 2 * half p + 1) × ((q ≡ 2 * half q + 1) × ((half p ≤ n) × ((half p * q ≤ n) × ((q ≤ half p * q) × (n + 1 ≤ half p * q + q)))))))
   pub five : (p ≡ 3 → ⊥) → 1 < q → p ≡ 5
-  pub test : T (folds n p q)
 
 pub split-of : (n p : ℕ) → isSize n ≡ true → p ≡ outer n → Split n p ((2 * n + 1) / p)
 unfolding S fold first inClass periodic leading outer
 split-of n p s e =
     subst (λ (p : ℕ). Split n p ((2 * n + 1) / p)) (sym e)
     (size-cases (λ n. Split n (outer n) ((2 * n + 1) / outer n))
-    (record { numbers = omega arith; five = λ d h. absurd (d refl); test = tt })
-    (record { numbers = omega arith; five = λ d h. absurd (omega arith); test = tt })
-    (record { numbers = omega arith; five = λ d h. absurd (d refl); test = tt })
-    (record { numbers = omega arith; five = λ d h. refl; test = tt }) n s)
+    (record { test = tt; numbers = omega arith; five = λ d h. absurd (d refl) })
+    (record { test = tt; numbers = omega arith; five = λ d h. absurd (omega arith) })
+    (record { test = tt; numbers = omega arith; five = λ d h. absurd (d refl) })
+    (record { test = tt; numbers = omega arith; five = λ d h. refl }) n s)
 
 -- ---- the inputs of a class, and what is left of them
 parted : (first step n : ℕ) (x : ℕ → ℤ) (k : ℕ) → dstSum n x k ≡ dstSum n (masked first step x) k +ℤ dstSum n (cleared first step x) k

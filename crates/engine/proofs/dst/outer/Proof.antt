@@ -1,5 +1,4 @@
 -- `dst::outer` meets its contract. Assumes nothing.
-use borrow.Author.Needs.{needs}
 use borrow.Author.Tests.{eq-eqb, ne-eqb}
 use Rattle.engine.specs.Folded.{outer}
 use Rattle.engine.proofs.dst.outer.Statement.{statement}

@@ -1,10 +1,8 @@
 -- `dst::front::front` meets its contract: the sums over the rows of the class before i. Assumes nothing.
 use native.Mathlib.Omega.{arith}
 use mathlib.Core.Logic.{⊎-elim}
-use mathlib.Core.Path.{_≡_, sym, ap, _∙_, subst}
-use mathlib.Core.List.{List}
+use mathlib.Core.Path.{sym, ap, _∙_, subst}
 use Prim.Native.Nat.{_+_, _-_}
-use lib.IntN.{ℤ}
 use mir.Syntax.{w32}
 use mir.Val.{toZ}
 use Rattle.engine.proofs.Classes.{Along, along-first, along-next, Upto, start, taken, passed, ended, input-back, row-given}
