@@ -21,9 +21,9 @@ use Rattle.algebra.proofs.Sum.{sum-cong, sum-next, sum-split, sum-none, sum-in}
 use Rattle.algebra.proofs.Lists.{tabulated}
 use Rattle.meaning.specs.Weights.{S}
 use Rattle.engine.specs.Dst.{Small, dstSum}
-use Rattle.engine.specs.Folded.{inClass, masked, cleared, Area, Row, Added, Class, Sums}
+use Rattle.engine.specs.Folded.{inClass, masked, cleared, Area, Row, Added, Class, Sums, Less}
 use Rattle.meaning.proofs.Sizes.{S-size}
-use Rattle.engine.proofs.Adding.{read-back, read-small}
+use Rattle.engine.proofs.Adding.{read-back}
 
 -- ---- a row of the class, as a loop reaches it
 pub record Along (first step i : ℕ) : Type 0 where
@@ -251,23 +251,22 @@ clear-next {first} {step} {i} {x} {x₀} s l p =
         (getD-set-same x i (pos 0) (pos 0) (omega (arith, p .long)) ∙ sym (cleared-in first step (at x₀) i (in-class (p .along))))
     one k h (no d) = getD-set-other x i k (pos 0) (pos 0) (λ q. d (omega arith)) ∙ away k h d (ltb k i) refl
 
-pub clear-all : {first step i : ℕ} {x x₀ : List ℤ} → length x₀ ≤ i → Clearing first step i x x₀ → x ≡ tabulate (length x₀) (cleared first step (at x₀))
-clear-all {x = x} {x₀ = x₀} l p = tabulated (length x₀) x _ (p .long) (λ k h. p .done k (omega arith))
+pub clear-all : {n first step i : ℕ} {x x₀ : List ℤ} → length x₀ ≡ n → n ≤ i → Clearing first step i x x₀ → Less n first step x₀ x
+clear-all {n} {x = x} e l p = record { is = tabulated n x _ (p .long ∙ e) (λ k h. p .done k (omega arith)) }
 
 -- ---- what the loops over a class are given
 -- an input, as it is read
-pub input-back : {m n step : ℕ} {t x : List ℤ} → Class m n step t x → (i : ℕ) → i < n → toZ w32 (ofZ w32 (at x i)) ≡ at x i
-input-back {x = x} p i h = read-back (at x i) 32768 (p .input .small i h) (omega arith)
+pub input-back : {m n step first : ℕ} {t x x₀ : List ℤ} → Class m n step t x₀ → (i : ℕ) → i < n → Clearing first step i x x₀ → toZ w32 (ofZ w32 (at x i)) ≡ at x₀ i
+input-back {x₀ = x₀} p i h l = ap (λ (z : ℤ). toZ w32 (ofZ w32 z)) (l .rest i (omega arith)) ∙ read-back (at x₀ i) 32768 (p .input .small i h) (omega arith)
 
 -- what a row is given
-pub row-given : (m n first step : ℕ) (x : List ℤ) {t a : List ℤ} {i : ℕ} → Class m n step t x → i < n → Upto m n first step x i a
-    → Row m n i (toZ w32 (ofZ w32 (at x i))) t a
-row-given m n first step x {i = i} p h u =
+pub row-given : (m n first step : ℕ) (x : List ℤ) {t a : List ℤ} {i : ℕ} {v : ℤ} → Class m n step t x → i < n → v ≡ at x i → Upto m n first step x i a → Row m n i v t a
+row-given m n first step x {i = i} p h e u =
     record {
       row = h;
       width = p .width;
       few = p .few;
       table = p .table;
-      value = read-small (at x i) 32768 (p .input .small i h) (omega arith);
+      value = subst (λ (z : ℤ). natAbs z ≤ 32768) (sym e) (p .input .small i h);
       sums = small-upto m n first step x (p .few) (p .input) (omega arith) u;
     }

@@ -29,7 +29,7 @@ use Rattle.meaning.specs.Weights.{S, fold, first}
 use Rattle.meaning.specs.Shape.{isSize}
 use Rattle.meaning.proofs.Cases.{size-cases}
 use Rattle.engine.specs.Dst.{Small, dstSum, dstLine}
-use Rattle.engine.specs.Folded.{inClass, masked, cleared, Part, plus, minus, folded, periodic, leading, Sums, half, outer, joined}
+use Rattle.engine.specs.Folded.{inClass, masked, cleared, Part, plus, minus, folded, periodic, leading, Sums, Less, half, outer, joined}
 use Rattle.engine.proofs.Classes.{in-class, masked-in, masked-out, cleared-in, cleared-zero, cleared-small}
 
 -- ---- the exchange of sums
@@ -125,13 +125,7 @@ dstSum-cong : (n : ℕ) (x y : ℕ → ℤ) (k : ℕ) → ((i : ℕ) → i < n �
 unfolding dstSum
 dstSum-cong n x y k e = sum-cong n (λ i. S n i k *ℤ x i) (λ i. S n i k *ℤ y i) (λ i h. ap (λ (z : ℤ). S n i k *ℤ z) (e i h))
 
--- y is x less the inputs of a class
-pub record Less (n first step : ℕ) (x y : List ℤ) : Type 0 where
-  pub is : y ≡ tabulate n (cleared first step (at x))
-
-pub less : {n : ℕ} (first step : ℕ) {x y : List ℤ} → length x ≡ n → y ≡ tabulate (length x) (cleared first step (at x)) → Less n first step x y
-less first step {x} {y} l e = record { is = e ∙ ap (λ (k : ℕ). tabulate k (cleared first step (at x))) l }
-
+-- what is left of x
 left-at : {n first step : ℕ} {x y : List ℤ} → Less n first step x y → (i : ℕ) → i < n → at y i ≡ cleared first step (at x) i
 left-at {n} {first} {step} {x} e i h = ap (λ (b : List ℤ). at b i) (e .is) ∙ tab-at n (cleared first step (at x)) i h
 

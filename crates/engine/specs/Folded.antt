@@ -7,7 +7,7 @@ use Prim.Native.Nat.{ℕ, _+_, _*_, _-_, _/_, _%_, _≤_, _<_, min}
 use lib.Dec.{eqb, leb, ltb}
 use lib.ListN.{length}
 use lib.IntN.{ℤ, pos, negℤ, natAbs, _+ℤ_, _*ℤ_}
-use Rattle.algebra.specs.Lists.{at}
+use Rattle.algebra.specs.Lists.{at, tabulate}
 use Rattle.meaning.specs.Weights.{S}
 use Rattle.tables.specs.Table.{Table}
 use Rattle.engine.specs.Dst.{Small, dstSum}
@@ -81,6 +81,10 @@ pub record Class (m n step : ℕ) (t x : List ℤ) : Type 0 where
 pub record Sums (m n : ℕ) (x : ℕ → ℤ) (a : List ℤ) : Type 0 where
   pub are : (k : ℕ) → k < m → at a k ≡ dstSum n x k
   pub area : Area m a
+
+-- y is x less the inputs of a class
+pub record Less (n first step : ℕ) (x y : List ℤ) : Type 0 where
+  pub is : y ≡ tabulate n (cleared first step (at x))
 
 -- r is what the sums a give at a place that is folded by E
 pub record Place (a : List ℤ) (E : List Part) (B : ℕ) (r : ℤ) : Type 0 where

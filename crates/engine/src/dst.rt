@@ -1,13 +1,11 @@
 // The inverse DST-VII line by the law of folding (proofs/Folding.antt). L = 2n+1 is a product p * q. The rows come in
 // three classes: those where p divides 2i+1 (feature 2), those where q does (feature 3), and the others (feature 1). Each
 // class is summed over its first places only, and the other places follow from those.
-mod clear;
 mod front;
 mod place;
 mod spread;
 mod stretch;
 
-use crate::dst::clear::clear;
 use crate::dst::front::front;
 use crate::dst::spread::spread;
 ghost use mathlib.Core.Path.{_≡_};
@@ -38,9 +36,7 @@ pub fn dst(t: &[i16], n: usize, x: &mut [i32], r: &mut [i32])
     let p = outer(n);
     let q = (2 * n + 1) / p;
     let c = front(t, n, q / 2, x, p / 2, p);
-    clear(x, p / 2, p);
     let d = front(t, n, p / 2, x, q / 2, q);
-    clear(x, q / 2, q);
     let a = front(t, n, p / 2 * q, x, 0, 1);
     spread(&a, &c, &d, n, p, q, r);
 }

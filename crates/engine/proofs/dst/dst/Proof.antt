@@ -7,8 +7,8 @@ use Prim.Native.Nat.{ℕ, _+_, _*_, _/_, _≤_, _<_}
 use lib.IntN.{ℤ}
 use Rattle.tables.specs.Table.{Table}
 use Rattle.engine.specs.Dst.{Small}
-use Rattle.engine.specs.Folded.{half, Class}
-use Rattle.engine.proofs.Folding.{Split, split-of, less, left-small, three}
+use Rattle.engine.specs.Folded.{Class}
+use Rattle.engine.proofs.Folding.{Split, split-of, left-small, three}
 use Rattle.engine.proofs.dst.dst.Statement.{statement}
 use Rattle.engine.proofs.dst.dst.Tie as tie
 
@@ -39,49 +39,35 @@ front-requires c κs =
     let O = c .before in
     given (omega (arith, split O .numbers)) (O .before .pre .table) (O .before .pre .input)
 
-clear-requires : tie.Need-clear-requires
-clear-requires c κs =
-    let O = c .before .before .before in
-    omega (arith, split O .numbers, O .before .pre .input .long)
-
 front-requires-2 : tie.Need-front-requires-2
 front-requires-2 c κs =
-    let O = c .before .before .before .before .before .before in
-    let i = O .before .pre .input in
-    let y = less (half (O .outer .result)) (O .outer .result) (i .long) (c .before .before .clear .ensures) in
-    given (omega (arith, split O .numbers)) (O .before .pre .table) (left-small y i)
-
-clear-requires-2 : tie.Need-clear-requires-2
-clear-requires-2 c κs =
-    let O = c .before .before .before .before .before .before .before .before in
-    let i = O .before .pre .input in
-    let y = less (half (O .outer .result)) (O .outer .result) (i .long) (c .before .before .before .before .clear .ensures) in
-    omega (arith, split O .numbers, left-small y i .long)
+    let C = c .before .before in
+    let O = C .before .before in
+    given (omega (arith, split O .numbers)) (O .before .pre .table) (left-small (C .front .ensures .1) (O .before .pre .input))
 
 mul-front : tie.Need-mul-front
-mul-front c = omega (arith, split (c .before .before .before .before .before .before .before .before .before .before) .numbers)
+mul-front c = omega (arith, split (c .before .before .before .before .before .before) .numbers)
 
 front-requires-3 : tie.Need-front-requires-3
 front-requires-3 c κs =
-    let O = c .before .before .before .before .before .before .before .before .before .before .before in
-    let i = O .before .pre .input in
-    let y = less (half (O .outer .result)) (O .outer .result) (i .long) (c .before .before .before .before .before .before .before .clear .ensures) in
-    let z = less (half (q O)) (q O) (left-small y i .long) (c .before .before .clear2 .ensures) in
-    given (omega (arith, split O .numbers)) (O .before .pre .table) (left-small z (left-small y i))
+    let D = c .before .before in
+    let C = D .before .before .before in
+    let O = C .before .before in
+    given (omega (arith, split O .numbers)) (O .before .pre .table) (left-small (D .front2 .ensures .1) (left-small (C .front .ensures .1) (O .before .pre .input)))
 
 spread-requires : tie.Need-spread-requires
 spread-requires c κs =
-    let A = c .before .before .before .before in
-    let D = A .before .before .before .before .before in
-    let C = D .before .before .before .before .before in
+    let A = c .before .before .before .before .before in
+    let D = A .before .before .before in
+    let C = D .before .before .before in
     let O = C .before .before in
     let N = split O .numbers in
     record {
       few = N .0;
       last = omega (arith, N);
-      lead = record { few = omega (arith, N); whole = omega (arith, N); five = split O .five; sums = A .front3 .ensures .area };
-      second = record { odd = omega (arith, N); few = omega (arith, N); sums = C .front .ensures .area };
-      third = record { odd = omega (arith, N); few = omega (arith, N); sums = D .front2 .ensures .area };
+      lead = record { few = omega (arith, N); whole = omega (arith, N); five = split O .five; sums = A .front3 .ensures .0 .area };
+      second = record { odd = omega (arith, N); few = omega (arith, N); sums = C .front .ensures .0 .area };
+      third = record { odd = omega (arith, N); few = omega (arith, N); sums = D .front2 .ensures .0 .area };
       long = O .before .pre .long;
     }
 
@@ -93,15 +79,12 @@ same-length-2 c = search needs
 
 returns : tie.Need-returns
 returns c =
-    let A = c .before .before .before .before .before .before in
-    let D = A .before .before .before .before .before in
-    let C = D .before .before .before .before .before in
+    let A = c .before .before .before .before .before .before .before in
+    let D = A .before .before .before in
+    let C = D .before .before .before in
     let O = C .before .before in
-    let i = O .before .pre .input in
-    let y = less (half (O .outer .result)) (O .outer .result) (i .long) (D .before .before .before .clear .ensures) in
-    let z = less (half (q O)) (q O) (left-small y i .long) (A .before .before .before .clear2 .ensures) in
     c .before .spread .ensures
-    ∙ three (O .before .args .n) (O .outer .result) (q O) (split O .test) (C .front .ensures) y (D .front2 .ensures) z (A .front3 .ensures)
+    ∙ three (O .before .args .n) (O .outer .result) (q O) (split O .test) (C .front .ensures .0) (C .front .ensures .1) (D .front2 .ensures .0) (D .front2 .ensures .1) (A .front3 .ensures .0)
 
 pub dst-spec : {M : Type 1} → statement M
 dst-spec =
@@ -112,9 +95,7 @@ dst-spec =
     add-q
     div-q
     front-requires
-    clear-requires
     front-requires-2
-    clear-requires-2
     mul-front
     front-requires-3
     spread-requires
