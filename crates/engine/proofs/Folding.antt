@@ -6,9 +6,10 @@
 -- so place k of the line follows from the line's first m places (`folding`). It is an exchange of two finite sums: no property
 -- of sines, and no order of the rows.
 --
--- That the rows are folded is computed, one test for each size over the whole table of weights (`split-of`), and carried to each row and place. With L = 2n+1 = p * q the classes are the rows where p divides 2i+1, which
--- are (p-1)/2, (p-1)/2 + p, .. (feature 2); those where q does (feature 3); and the others (feature 1). An input is in the
--- first of these or in what is left of it, so the sums of the classes add up to the line whatever the classes are (`three`). Assumes nothing.
+-- That the rows are folded is computed, one test for each size over the whole table of weights (`split-of`), and carried to
+-- each row and place. With L = 2n+1 = p * q the classes are the rows where p divides 2i+1, which are (p-1)/2, (p-1)/2 + p, ..
+-- (feature 2); those where q does (feature 3); and the others (feature 1). An input is in the first of these or in what is
+-- left of it, so the sums of the classes add up to the line whatever the classes are (`three`). Assumes nothing.
 use mathlib.Core.Path.{_≡_, refl, sym, _∙_, ap, ap₂, subst}
 use mathlib.Core.Bool.{Bool, true, false, cond, not, _&&_, _||_}
 use mathlib.Core.List.{List, [], _∷_}

@@ -95,7 +95,7 @@ pub record Place (a : List ℤ) (E : List Part) (B : ℕ) (r : ℤ) : Type 0 whe
 abbrev pub half : ℕ → ℕ
 half p = p / 2
 
--- p. 17 is prime: there q is 1, every row is of the third class, and all of its places are summed.
+-- p of n points. 17 is prime: there q is 1, every row is of the third class, and all of its places are summed.
 unfoldable pub outer : ℕ → ℕ
 outer n = cond (eqb n 8) 17 (cond (eqb n 32) 5 3)
 

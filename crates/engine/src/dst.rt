@@ -9,9 +9,7 @@ mod stretch;
 use crate::dst::front::front;
 use crate::dst::spread::spread;
 ghost use mathlib.Core.Path.{_≡_};
-ghost use mathlib.Core.Bool.{true};
 ghost use Rattle.algebra.specs.Lists.{at};
-ghost use Rattle.meaning.specs.Shape.{isSize};
 ghost use Rattle.engine.specs.Dst.{Core, dstLine};
 ghost use Rattle.engine.specs.Folded.{outer as p};
 
@@ -28,7 +26,8 @@ fn outer(n: usize) -> usize
     }
 }
 
-// What x holds afterwards is free. Where p is q, as at 4 points, the third class finds its inputs cleared.
+// The sums of the second class, of the third in what is left, and of the first in the rest. Where p is q, as at 4 points,
+// the third class finds its inputs cleared. What x holds afterwards is free.
 pub fn dst(t: &[i16], n: usize, x: &mut [i32], r: &mut [i32])
     requires { ⌜ Core n (now t) (now x) (now r) ⌝ }
     ensures { λ _. ⌜ now (r .exit) ≡ dstLine n (at (now (x .entry))) ⌝ }

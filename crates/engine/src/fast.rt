@@ -10,7 +10,7 @@ ghost use lib.ListN.{length};
 ghost use Rattle.algebra.specs.Lists.{at, tabulate};
 ghost use Rattle.engine.specs.Dst.{Small};
 ghost use Rattle.engine.specs.Lines.{Given, Inside, input, line};
-ghost use Rattle.engine.specs.Prepared.{turned, alternated, alternates, mirrors, prepared, finished, Loaded};
+ghost use Rattle.engine.specs.Prepared.{turned, alternated, prepared, finished, Loaded};
 
 // Place k of n, counted from the end where asked.
 fn place(back: bool, n: usize, k: usize) -> usize
@@ -75,7 +75,6 @@ fn load(
     }
 }
 
-// Output j, of the core's sums.
 fn store(r: &[i32], n: usize, alternate: bool, mirror: bool, z: &mut [i32])
     requires { ⌜ (length (now z) ≡ n) × Small n 1000000000 (now r) ⌝ }
     ensures { λ _. ⌜ now (z .exit) ≡ tabulate n (finished alternate mirror n (at (now (r .entry)))) ⌝ }
@@ -87,7 +86,9 @@ fn store(r: &[i32], n: usize, alternate: bool, mirror: bool, z: &mut [i32])
     }
 }
 
-// The line, given two work areas of n numbers.
+// The line, given two work areas of n numbers. All lines but the inverse DST-VII take every second input with its sign
+// changed and hand the sums out backwards: DCT-VIII is DST-VII read so ("The weights"), and its own transpose. The forward
+// DST-VII also takes the inputs backwards and changes the sign of every second sum.
 fn worked(
     t: &[i16],
     n: usize,
