@@ -13,7 +13,6 @@ use Rattle.engine.specs.Product.{term, lineSum}
 use Rattle.engine.proofs.Sums.{grown, none-yet, one-more, reads, abs-term}
 use Rattle.engine.proofs.product.dot.Statement.{statement}
 use Rattle.engine.proofs.product.dot.Tie as tie
-use Rattle.engine.proofs.product.dot.Reads as reads
 
 abbrev Inv-loop : tie.InvT-loop
 Inv-loop t n kind forward s from step count k sum₀ i₀ sum i =
