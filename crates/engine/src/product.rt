@@ -11,7 +11,7 @@ ghost use Rattle.engine.specs.Lines.{Spot, Inside, Given, input, line};
 ghost use Rattle.tables.specs.Table.{Table};
 ghost use Rattle.engine.specs.Product.{term, lineSum};
 
-fn stored(t: &[i16], n: usize, i: usize, j: usize) -> i32
+pub fn stored(t: &[i16], n: usize, i: usize, j: usize) -> i32
     requires { ⌜ Spot n i j (now t) ⌝ }
     ensures { λ r. ⌜ r ≡ S n i j ⌝ }
 {
