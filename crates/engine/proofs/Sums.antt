@@ -14,9 +14,9 @@ use Rattle.algebra.proofs.Order.{abs-add, abs-mul}
 use Rattle.algebra.proofs.Sum.{sum-next}
 use Rattle.algebra.proofs.Word.{small}
 use Rattle.meaning.specs.Weights.{weight}
-use Rattle.meaning.specs.Line.{forwardSum, inverseSum, forwardLine, inverseLine}
+use Rattle.meaning.specs.Line.{term, forwardSum, inverseSum, forwardLine, inverseLine}
 use Rattle.engine.specs.Lines.{line}
-use Rattle.engine.specs.Product.{term, lineSum}
+use Rattle.engine.specs.Product.{lineSum}
 use Rattle.meaning.proofs.Sizes.{weightSize}
 
 pub abs-term : (forward : Bool) (kind n k i : ℕ) → natAbs (term forward kind n k i) ≤ 90

@@ -5,7 +5,7 @@ use Prim.Native.Nat.{_≤_, _-_}
 use lib.IntN.{ℤ, negℤ, natAbs}
 use mir.Syntax.{w32}
 use mir.ValLaws.{toZ-ofZ}
-use Rattle.engine.proofs.Either.{dst, dct-odd, dct-even, abs-S}
+use Rattle.meaning.proofs.TwoKinds.{dst, dct-odd, dct-even, abs-S}
 use Rattle.engine.proofs.product.entry.Statement.{statement}
 use Rattle.engine.proofs.product.entry.Tie as tie
 
