@@ -1,25 +1,30 @@
+-- `factors::factor` meets its contract. Assumes nothing.
 use borrow.Author.Needs.{needs}
+use mathlib.Core.Path.{_∙_, sym, ap}
+use mathlib.Core.Bool.{Bool, cond}
+use mir.Syntax.{w16}
+use mir.ValLaws.{toZ-ofZ}
+use Rattle.meaning.specs.Weights.{weight}
 use Rattle.row_sums.proofs.factors.factor.Statement.{statement}
 use Rattle.row_sums.proofs.factors.factor.Tie as tie
-use Rattle.row_sums.proofs.factors.factor.Reads as reads
-use Rattle.row_sums.proofs.factors.factor.Lts as lts
-use Rattle.row_sums.proofs.factors.entry.Reads as entry-reads
 
--- src/factors.rt:33:9
 entry-requires : tie.Need-entry-requires
 entry-requires c κs = search needs
 
--- src/factors.rt:35:9
 entry-requires-2 : tie.Need-entry-requires-2
 entry-requires-2 c κs = search needs
 
--- src/factors.rt:28:1
 returns : tie.Need-returns
-returns c = search needs
+returns c =
+    let s = c .before .before .args in
+    toZ-ofZ w16 _ (search needs) ∙ c .entry .ensures
+    ∙ ap (λ (b : Bool). cond b (weight (s .kind) (s .n) (s .k) (s .i)) (weight (s .kind) (s .n) (s .i) (s .k))) (sym (c .before .if1 .taken))
 
--- src/factors.rt:28:1
 returns-2 : tie.Need-returns-2
-returns-2 c = search needs
+returns-2 c =
+    let s = c .before .before .args in
+    toZ-ofZ w16 _ (search needs) ∙ c .entry2 .ensures
+    ∙ ap (λ (b : Bool). cond b (weight (s .kind) (s .n) (s .k) (s .i)) (weight (s .kind) (s .n) (s .i) (s .k))) (sym (c .before .if1 .left))
 
 pub factor-spec : {M : Type 1} → statement M
 factor-spec = tie.close (tie.spec entry-requires entry-requires-2 returns returns-2)

@@ -1,52 +1,56 @@
+-- `factors::factor_row` meets its contract: the weights before k are laid out. Assumes nothing.
 use borrow.Author.Needs.{needs}
 use native.Mathlib.Omega.{arith}
+use mathlib.Core.Path.{_≡_, _∙_, subst}
+use Prim.Native.Nat.{ℕ, _-_, _≤_}
+use lib.ListN.{length}
+use mir.Syntax.{w16}
+use mir.ValLaws.{toZ-ofZ}
+use Rattle.algebra.proofs.Lists.{Filled, fill-none, fill-first, filled}
+use Rattle.meaning.specs.Line.{term}
 use Rattle.row_sums.proofs.factors.factor_row.Statement.{statement}
 use Rattle.row_sums.proofs.factors.factor_row.Tie as tie
-use Rattle.row_sums.proofs.factors.factor_row.Reads as reads
-use Rattle.row_sums.proofs.factors.factor_row.Lts as lts
-use Rattle.row_sums.proofs.factors.factor.Reads as factor-reads
 
 abbrev Inv-loop : tie.InvT-loop
-Inv-loop t n kind forward i part₀ k₀ part k = ?
+Inv-loop t n kind forward i part₀ k₀ part k = (k ≤ n) × Filled 0 k part part₀ (λ k. term forward kind n k i)
 
 abbrev μ-loop : tie.MeasureT-loop
-μ-loop t n kind forward i part₀ k₀ part k = ?
+μ-loop t n kind forward i part₀ k₀ part k = n - k
 
--- src/factors.rt:44:5
 loop-holds : tie.Need-loop-holds Inv-loop μ-loop
-loop-holds c = search needs
+loop-holds c = (omega arith, fill-none 0 _ _)
 
--- src/factors.rt:45:19
 factor-requires : tie.Need-factor-requires Inv-loop μ-loop
 factor-requires c κs = search needs
 
--- src/factors.rt:45:9
 mul-t10 : tie.Need-mul-t10 Inv-loop μ-loop
-mul-t10 c = search needs
+mul-t10 c = omega (arith, c .before .before .loop .inv .1 .long)
 
--- src/factors.rt:45:9
 slice-set-from-part : tie.Need-slice-set-from-part Inv-loop μ-loop
-slice-set-from-part c = search needs
+slice-set-from-part c = omega (arith, c .before .before .loop .inv .1 .long)
 
--- src/factors.rt:46:9
 add-k : tie.Need-add-k Inv-loop μ-loop
 add-k c = search needs
 
--- src/factors.rt:44:5
 loop-less : tie.Need-loop-less Inv-loop μ-loop
 loop-less c = search needs
 
--- src/factors.rt:44:5
 loop-again : tie.Need-loop-again Inv-loop μ-loop
-loop-again c = search needs
+loop-again c =
+    let L = c .before .before in (
+      omega arith,
+      fill-first _ (omega (arith, L .before .pre .1 .1 .1)) (L .loop .inv .1) (toZ-ofZ w16 (c .factor .result) (search needs) ∙ c .factor .ensures),
+    )
 
--- src/factors.rt:39:1
 same-length : tie.Need-same-length Inv-loop μ-loop
-same-length c = search needs
+same-length c = c .before .loop .inv .1 .long
 
--- src/factors.rt:39:1
 returns : tie.Need-returns Inv-loop μ-loop
-returns c = search needs
+returns c =
+    let L = c .before in
+    let s = L .before .args in
+    let e : L .loop .k ≡ s .n = omega (arith, L .loop .inv .0, c .loop-test .left) in
+    filled (L .before .pre .1 .1 .1) (subst (λ (k : ℕ). Filled 0 k (L .loop .part) (s .part .now) (λ k. term (s .forward) (s .kind) (s .n) k (s .i))) e (L .loop .inv .1))
 
 pub factor-row-spec : {M : Type 1} → statement M
 factor-row-spec =
