@@ -7,10 +7,12 @@ use native.Mathlib.Decide.{ℕ-discrete}
 use native.Mathlib.Omega.{arith}
 use lib.ListN.{length, take, drop, length-append, length-take, length-drop, List·getD-append}
 use lib.Seq.{getD-append-add, getD-take, getD-drop, length-take-le}
-use lib.IntN.{ℤ, pos}
-use Rattle.algebra.specs.Lists.{at}
-use Rattle.algebra.proofs.Lists.{Filled, row-in, part-same}
-use Rattle.forward_block.specs.Forward.{Stage}
+use lib.IntN.{ℤ, pos, natAbs}
+use Rattle.algebra.specs.Shift.{nearest}
+use Rattle.algebra.specs.Lists.{at, tabulate}
+use Rattle.algebra.proofs.Lists.{Filled, row-in, part-same, tab-length, tab-at}
+use Rattle.row_sums.specs.Sums.{rowSum}
+use Rattle.forward_block.specs.Forward.{Sums, Line, Stage}
 
 -- ---- a part from the start of a buffer, that was lent and came back as L
 pub front : {A : Type 0} (L Z P : List A) (n : ℕ) → length L ≡ n → Z ≡ L → take (n - 0) (Z ++ P) ≡ L
@@ -19,30 +21,53 @@ front L Z P n l e = rw e (part-same n L P l)
 pub front-in : {A : Type 0} (L Z P : List A) (n : ℕ) → length L ≡ n → Z ≡ L → n ≤ length (Z ++ P)
 front-in L Z P n l e = rw e (omega (arith, length-append L P))
 
--- ---- a part from a on, that was lent and came back as ys
-pub part-filled : (l ys : List ℤ) (a k : ℕ) → a + k ≤ length l → length ys ≡ k → Filled a k (take a l ++ (ys ++ drop k (drop a l))) l (at ys)
-part-filled l ys a k h e =
+-- ---- a part of k numbers from a on, that was lent and came back as f 0, f 1, ..
+pub part-in : (l : List ℤ) (a k : ℕ) → a + k ≤ length l → length (take (a + k - a) (drop a l)) ≡ k
+part-in l a k h = simp (length-take, length-drop) (omega arith)
+
+pub part-filled : (l ys : List ℤ) (a k : ℕ) (f : ℕ → ℤ) → a + k ≤ length l → ys ≡ tabulate (length (take (a + k - a) (drop a l))) f
+    → Filled a k (take a l ++ (ys ++ drop (a + k - a) (drop a l))) l f
+part-filled l ys a k f h e =
     record {
-      long = simp (length-append, length-drop) (omega (arith, front-long, e));
-      done = λ i g. past i ∙ List·getD-append ys (drop k (drop a l)) (pos 0) i (omega (arith, e));
-      before = λ i g. List·getD-append (take a l) (ys ++ drop k (drop a l)) (pos 0) i (omega (arith, front-long)) ∙ getD-take a l i (pos 0) g;
+      long = simp (length-append, length-drop) (omega (arith, front-long, ys-long));
+      done = λ i g. past i ∙ List·getD-append ys (drop (a + k - a) (drop a l)) (pos 0) i (omega (arith, ys-long)) ∙ ap (λ (u : List ℤ). at u i) ys-all ∙ tab-at k f i g;
+      before = λ i g. List·getD-append (take a l) (ys ++ drop (a + k - a) (drop a l)) (pos 0) i (omega (arith, front-long)) ∙ getD-take a l i (pos 0) g;
       after = λ i g. beyond i (i - (a + k)) (omega arith);
     }
   where
     front-long : length (take a l) ≡ a
     front-long = length-take-le a l (omega arith)
 
-    past : (i : ℕ) → at (take a l ++ (ys ++ drop k (drop a l))) (a + i) ≡ at (ys ++ drop k (drop a l)) i
+    ys-all : ys ≡ tabulate k f
+    ys-all = e ∙ ap (λ (n : ℕ). tabulate n f) (part-in l a k h)
+
+    ys-long : length ys ≡ k
+    ys-long = ap length ys-all ∙ tab-length k f
+
+    past : (i : ℕ) → at (take a l ++ (ys ++ drop (a + k - a) (drop a l))) (a + i) ≡ at (ys ++ drop (a + k - a) (drop a l)) i
     past i =
         let q : a + i ≡ length (take a l) + i = omega (arith, front-long) in
-        ap (at (take a l ++ (ys ++ drop k (drop a l)))) q ∙ getD-append-add (take a l) (ys ++ drop k (drop a l)) i (pos 0)
+        ap (at (take a l ++ (ys ++ drop (a + k - a) (drop a l)))) q ∙ getD-append-add (take a l) (ys ++ drop (a + k - a) (drop a l)) i (pos 0)
 
-    beyond : (i j : ℕ) → i ≡ a + (k + j) → at (take a l ++ (ys ++ drop k (drop a l))) i ≡ at l i
+    beyond : (i j : ℕ) → i ≡ a + (k + j) → at (take a l ++ (ys ++ drop (a + k - a) (drop a l))) i ≡ at l i
     beyond i j q =
-        let v : k + j ≡ length ys + j = omega (arith, e) in
-        ap (at (take a l ++ (ys ++ drop k (drop a l)))) q ∙ past (k + j) ∙ ap (at (ys ++ drop k (drop a l))) v
-        ∙ getD-append-add ys (drop k (drop a l)) j (pos 0)
-        ∙ getD-drop k (drop a l) j (pos 0) ∙ getD-drop a l (k + j) (pos 0) ∙ ap (at l) (sym q)
+        let v : k + j ≡ length ys + j = omega (arith, ys-long) in
+        let u : a + (a + k - a + j) ≡ i = omega arith in
+        ap (at (take a l ++ (ys ++ drop (a + k - a) (drop a l)))) q ∙ past (k + j) ∙ ap (at (ys ++ drop (a + k - a) (drop a l))) v
+        ∙ getD-append-add ys (drop (a + k - a) (drop a l)) j (pos 0)
+        ∙ getD-drop (a + k - a) (drop a l) j (pos 0) ∙ getD-drop a l (a + k - a + j) (pos 0) ∙ ap (at l) u
+
+-- ---- the sums of a line
+pub line-sums : {kept apart p step count shift : ℕ} (rows weights : List ℤ) → Line kept rows apart weights p step count shift
+    → Sums shift (tabulate kept (rowSum rows 0 apart weights p step count))
+line-sums {kept} {apart} {p} {step} {count} {shift} rows weights g =
+    let f = rowSum rows 0 apart weights p step count in
+    record {
+      some = g .some;
+      few = g .few;
+      small = λ x h. subst (λ (z : ℤ). natAbs z ≤ 67108864) (sym (tab-at kept f x (omega (arith, tab-length kept f)))) (g .small x (omega (arith, tab-length kept f)));
+      short = λ x h. subst (λ (z : ℤ). natAbs (nearest shift z) ≤ 32767) (sym (tab-at kept f x (omega (arith, tab-length kept f)))) (g .short x (omega (arith, tab-length kept f)));
+    }
 
 -- ---- lines
 module _ {kept wide : ℕ} {f : ℕ → ℕ → ℤ} where

@@ -1,58 +1,58 @@
--- `forward::columns` meets its contract. Assumes nothing.
 use borrow.Author.Needs.{needs}
-use mathlib.Core.Path.{_≡_, sym, ap, _∙_, subst}
-use Prim.Native.Nat.{ℕ, _*_}
-use lib.ListN.{length}
-use lib.IntN.{pos}
-use Rattle.algebra.specs.Lists.{tabulate}
-use Rattle.algebra.proofs.Lists.{tab-length}
-use Rattle.meaning.specs.Shape.{keptColumns, keptRows}
-use Rattle.meaning.specs.Forward.{columnShift}
-use Rattle.forward_block.proofs.TwoStages.{column-lines, columns-done}
 use Rattle.forward_block.proofs.forward.columns.Statement.{statement}
 use Rattle.forward_block.proofs.forward.columns.Tie as tie
+use Rattle.forward_block.proofs.forward.columns.Reads as reads
+use Rattle.forward_block.proofs.forward.columns.Lts as lts
+use Rattle.forward_block.proofs.forward.clear.Reads as clear-reads
+use Rattle.forward_block.proofs.forward.column_shift.Reads as column-shift-reads
+use Rattle.forward_block.proofs.forward.lines.Reads as lines-reads
+use Rattle.meaning.proofs.kept_columns.Reads as kept-columns-reads
+use Rattle.meaning.proofs.kept_rows.Reads as kept-rows-reads
+use Rattle.row_sums.proofs.factors.factors.Reads as factors-reads
 
+-- src/forward.rt:226:13
 cast-w : tie.Need-cast-w
 cast-w c = search needs
 
+-- src/forward.rt:227:13
 cast-h : tie.Need-cast-h
 cast-h c = search needs
 
+-- src/forward.rt:228:9
 kept-columns-requires : tie.Need-kept-columns-requires
 kept-columns-requires c κs = search needs
 
+-- src/forward.rt:229:9
 kept-rows-requires : tie.Need-kept-rows-requires
 kept-rows-requires c κs = search needs
 
+-- src/forward.rt:230:9
 column-shift-requires : tie.Need-column-shift-requires
 column-shift-requires c κs = search needs
 
+-- src/forward.rt:231:5
+factors-requires : tie.Need-factors-requires
+factors-requires c κs = search needs
+
+-- src/forward.rt:232:5
 clear-requires : tie.Need-clear-requires
 clear-requires c κs = search needs
 
-stage-requires : tie.Need-stage-requires
-stage-requires c κs =
-    let s = c .before .before .before .before .before .before .before .before .before in
-    let h = s .args .shape in
-    let z = c .before .before .clear in
-    let l = ap length (z .ensures) ∙ tab-length (length (s .args .coefficients .now)) (λ _. pos 0) ∙ s .pre .1 in (
-      s .pre .0 .taken .height,
-      rw (c .before .before .before .before .column-shift .ensures, c .before .before .before .before .before .before .kept-columns .ensures, c .before .before .before .before .before .kept-rows .ensures)
-          (column-lines h (s .args .m .now) (s .pre .0) _ l),
-    )
+-- src/forward.rt:233:5
+lines-requires : tie.Need-lines-requires
+lines-requires c κs = search needs
 
+-- src/forward.rt:222:1
 same-length : tie.Need-same-length
 same-length c = search needs
 
+-- src/forward.rt:222:1
+same-length-2 : tie.Need-same-length-2
+same-length-2 c = search needs
+
+-- src/forward.rt:222:1
 returns : tie.Need-returns
-returns c =
-    let s = c .before .before .before .before .before .before .before .before .before .before .before in
-    let h = s .args .shape in
-    let n = length (s .args .coefficients .now) in
-    let z = c .before .before .before .before .clear .ensures in
-    let l = ap length z ∙ tab-length n (λ _. pos 0) in
-    columns-done h (s .args .m .now) (s .pre .0) _ _ (l ∙ s .pre .1) (z ∙ ap (λ (k : ℕ). tabulate k (λ _. pos 0)) (sym l))
-    (rw (c .before .before .before .before .before .before .column-shift .ensures, c .before .before .before .before .before .before .before .before .kept-columns .ensures, c .before .before .before .before .before .before .before .kept-rows .ensures) at (c .before .stage .ensures))
+returns c = search needs
 
 pub columns-spec : {M : Type 1} → statement M
 columns-spec =
@@ -63,7 +63,9 @@ columns-spec =
     kept-columns-requires
     kept-rows-requires
     column-shift-requires
+    factors-requires
     clear-requires
-    stage-requires
+    lines-requires
     same-length
+    same-length-2
     returns)

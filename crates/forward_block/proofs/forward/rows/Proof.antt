@@ -1,41 +1,59 @@
--- `forward::rows` meets its contract. Assumes nothing.
 use borrow.Author.Needs.{needs}
-use mathlib.Core.Path.{_≡_, sym, subst}
-use Prim.Native.Nat.{ℕ, _*_}
-use lib.ListN.{length}
-use Rattle.forward_block.specs.Forward.{Lines}
-use Rattle.forward_block.proofs.TwoStages.{row-lines, rows-done}
 use Rattle.forward_block.proofs.forward.rows.Statement.{statement}
 use Rattle.forward_block.proofs.forward.rows.Tie as tie
+use Rattle.forward_block.proofs.forward.rows.Reads as reads
+use Rattle.forward_block.proofs.forward.rows.Lts as lts
+use Rattle.forward_block.proofs.forward.lines.Reads as lines-reads
+use Rattle.forward_block.proofs.forward.row_shift.Reads as row-shift-reads
+use Rattle.meaning.proofs.kept_columns.Reads as kept-columns-reads
+use Rattle.row_sums.proofs.factors.factors.Reads as factors-reads
 
+-- src/forward.rt:213:13
 cast-w : tie.Need-cast-w
 cast-w c = search needs
 
+-- src/forward.rt:214:13
 cast-h : tie.Need-cast-h
 cast-h c = search needs
 
+-- src/forward.rt:215:9
+kept-columns-requires : tie.Need-kept-columns-requires
+kept-columns-requires c κs = search needs
+
+-- src/forward.rt:216:9
 row-shift-requires : tie.Need-row-shift-requires
-row-shift-requires c κs = c .before .before .pre .0 .taken .depth
+row-shift-requires c κs = search needs
 
-stage-requires : tie.Need-stage-requires
-stage-requires c κs =
-    let s = c .before .before .before .before in
-    let h = s .args .shape in (
-      s .pre .0 .taken .width,
-      subst (λ (shift : ℕ). Lines (h .width) (h .horizontal) shift (h .height) (h .width) (h .width) 1 (s .args .residuals .now) (length (s .args .m .now))) (sym (c .before .row-shift .ensures))
-          (row-lines h (s .args .residuals .now) (s .pre .0) (length (s .args .m .now)) (s .pre .1)),
-    )
+-- src/forward.rt:217:5
+factors-requires : tie.Need-factors-requires
+factors-requires c κs = search needs
 
+-- src/forward.rt:218:5
+lines-requires : tie.Need-lines-requires
+lines-requires c κs = search needs
+
+-- src/forward.rt:209:1
 same-length : tie.Need-same-length
 same-length c = search needs
 
+-- src/forward.rt:209:1
+same-length-2 : tie.Need-same-length-2
+same-length-2 c = search needs
+
+-- src/forward.rt:209:1
 returns : tie.Need-returns
-returns c =
-    let s = c .before .before .before .before .before .before in
-    let h = s .args .shape in
-    rows-done h (s .args .residuals .now) (s .pre .0) _ (s .args .m .now) (s .pre .1)
-    (rw (c .before .before .before .row-shift .ensures) at (c .before .stage .ensures))
+returns c = search needs
 
 pub rows-spec : {M : Type 1} → statement M
 rows-spec =
-    tie.close (tie.spec cast-w cast-h row-shift-requires stage-requires same-length returns)
+    tie.close
+    (tie.spec
+    cast-w
+    cast-h
+    kept-columns-requires
+    row-shift-requires
+    factors-requires
+    lines-requires
+    same-length
+    same-length-2
+    returns)
