@@ -26,7 +26,7 @@ use Rattle.meaning.proofs.Sizes.{weightSize, forwardSum-short}
 use Rattle.meaning.proofs.Taken.{Taken}
 use Rattle.meaning.proofs.Stages.{columns-in, rows-in, value-short, rowStage-in, rowValue-in, columnValue-in}
 use Rattle.row_sums.specs.Sums.{rowSum}
-use Rattle.forward_block.specs.Forward.{Lines, Stage, Residuals, Middle, lineValue, columnOf, keptValue}
+use Rattle.forward_block.specs.Forward.{Lines, Stage, Residuals, Middle, Room, lineValue, columnOf, keptValue}
 
 -- log2 is between 2 and 5
 pub log-in : (n : ℕ) → (2 ≤ log2 n) × (log2 n ≤ 5)
@@ -71,6 +71,13 @@ module _ (sh : Shape) where
   columns-size : isSize (sh .width) ≡ true → isSize (keptColumns sh) ≡ true
   unfolding keptColumns
   columns-size h = kept-size (sh .width) h
+
+  -- what the largest block needs
+  pub room-enough : Taken sh → Room sh 1024 512
+  room-enough t =
+      let w = size-in (sh .width) (t .width) in
+      let h = size-in (sh .height) (t .height) in
+      record { wide = mul-le-mul w w; high = mul-le-mul h h; between = mul-le-mul h narrow }
 
   -- ---- rows
   module _ (r : List ℤ) (g : Residuals sh r) where

@@ -1,37 +1,34 @@
+-- `forward::stages` meets its contract. Assumes nothing.
 use borrow.Author.Needs.{needs}
+use native.Mathlib.Omega.{arith}
+use mathlib.Core.Path.{_≡_}
+use Rattle.forward_block.proofs.TwoStages.{room-enough}
 use Rattle.forward_block.proofs.forward.stages.Statement.{statement}
 use Rattle.forward_block.proofs.forward.stages.Tie as tie
-use Rattle.forward_block.proofs.forward.stages.Reads as reads
-use Rattle.forward_block.proofs.forward.stages.Lts as lts
-use Rattle.forward_block.proofs.forward.both.Reads as both-reads
-use Rattle.forward_block.proofs.forward.middle_room.Reads as middle-room-reads
-use Rattle.forward_block.proofs.forward.weight_room.Reads as weight-room-reads
 
--- src/forward.rt:254:17
 weight-room-requires : tie.Need-weight-room-requires
 weight-room-requires c κs = search needs
 
--- src/forward.rt:255:17
 middle-room-requires : tie.Need-middle-room-requires
 middle-room-requires c κs = search needs
 
--- src/forward.rt:256:28
 slice-aggregate-both : tie.Need-slice-aggregate-both
 slice-aggregate-both c = search needs
 
--- src/forward.rt:256:36
 slice-aggregate-both-2 : tie.Need-slice-aggregate-both-2
 slice-aggregate-both-2 c = search needs
 
--- src/forward.rt:256:5
 both-requires : tie.Need-both-requires
-both-requires c κs = search needs
+both-requires c κs =
+    let s = c .before .before .before .before .before in
+    let r = room-enough (s .args .shape) (s .pre .0 .taken) in
+    let u = c .before .before .before .before .weight-room .ensures in
+    let m = c .before .before .before .middle-room .ensures in
+    (s .pre .0, (record { wide = omega (arith, r .wide, u); high = omega (arith, r .high, u); between = omega (arith, r .between, m) }, s .pre .1))
 
--- src/forward.rt:250:1
 same-length : tie.Need-same-length
 same-length c = search needs
 
--- src/forward.rt:250:1
 returns : tie.Need-returns
 returns c = search needs
 
