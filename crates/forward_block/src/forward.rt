@@ -160,7 +160,16 @@ fn lines(
     while y < some {
         let a = y * wide;
         let b = a + kept;
-        line(rows, apart, weights, y * far, step, count, shift, &mut out[a..b]);
+        line(
+            rows,
+            apart,
+            weights,
+            y * far,
+            step,
+            count,
+            shift,
+            &mut out[a..b],
+        );
         y += 1;
     }
 }
