@@ -160,7 +160,7 @@ module _ (sh : Shape) where
               (le-trans (columnValue-in sh t r (g .small) x y (omega (arith, columns-in sh)) hy) (value-short sh t));
         }
 
-    pub both-stages : block (sh .width) (sh .height) (keptValue sh (between sh r)) ≡ forwardBlock sh r
+    both-stages : block (sh .width) (sh .height) (keptValue sh (between sh r)) ≡ forwardBlock sh r
     unfolding forwardBlock coefficient
     both-stages =
         block-cong (sh .width) (sh .height) (keptValue sh (between sh r)) (coefficient sh r)
@@ -169,6 +169,9 @@ module _ (sh : Shape) where
         kept : (x y : ℕ) (b c : Bool) → ltb x (keptColumns sh) ≡ b → cond (b && c) (columnOf sh (between sh r) x y) (pos 0) ≡ cond (b && c) (columnValue sh r x y) (pos 0)
         kept x y true c p = ap (λ (z : ℤ). cond c z (pos 0)) (column-same x y (ltb-true x (keptColumns sh) p))
         kept x y false c p = refl
+
+    pub both-done : (m : List ℤ) {a : List ℤ} → m ≡ between sh r → a ≡ block (sh .width) (sh .height) (keptValue sh m) → a ≡ forwardBlock sh r
+    both-done m e q = q ∙ ap (λ (m : List ℤ). block (sh .width) (sh .height) (keptValue sh m)) e ∙ both-stages
 
   -- ---- columns
   module _ (m : List ℤ) (g : Middle sh m) where

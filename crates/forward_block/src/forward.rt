@@ -99,26 +99,6 @@ fn put(e: &[i32], shift: u32, part: &mut [i16])
     }
 }
 
-// Room for a line's kept sums, for the weights of the longest line, and for what stands between the stages of the largest
-// block: of each, only its length is told.
-fn line_room() -> [i32; 16]
-    ensures { λ r. ⌜ 16 ≡ length r ⌝ }
-{
-    [0; 16]
-}
-
-fn weight_room() -> [i16; 1024]
-    ensures { λ r. ⌜ 1024 ≡ length r ⌝ }
-{
-    [0; 1024]
-}
-
-fn middle_room() -> [i16; 512]
-    ensures { λ r. ⌜ 512 ≡ length r ⌝ }
-{
-    [0; 512]
-}
-
 // One line of a stage: as many sums as there is room for, rounded.
 fn line(
     rows: &[i16],
@@ -134,7 +114,7 @@ fn line(
     ensures { λ _. ⌜ now (part .exit) ≡ tabulate (length (now (part .entry))) (λ x. nearest shift (rowSum (now (rows .entry)) 0 apart (now (weights .entry)) p step count x)) ⌝ }
 {
     let n = part.len();
-    let mut e = line_room();
+    let mut e = [0i32; 16];
     row_sums(rows, 0, apart, weights, p, step, count, &mut e[0..n]);
     put(&e[0..n], shift, part);
 }
@@ -260,7 +240,7 @@ pub fn stages(shape: Shape, residuals: &[i16], coefficients: &mut [i16])
     requires { ⌜ Residuals shape (now residuals) × (length (now coefficients) ≡ shape .width * shape .height) ⌝ }
     ensures { λ _. ⌜ now (coefficients .exit) ≡ forwardBlock shape (now (residuals .entry)) ⌝ }
 {
-    let mut u = weight_room();
-    let mut m = middle_room();
+    let mut u = [0i16; 1024];
+    let mut m = [0i16; 512];
     both(shape, residuals, &mut u, &mut m, coefficients);
 }

@@ -6,12 +6,11 @@ use mathlib.Core.List.{List}
 use Prim.Native.Nat.{ℕ, _*_, _≤_}
 use lib.ListN.{length}
 use lib.IntN.{ℤ}
-use Rattle.algebra.specs.Lists.{block}
 use Rattle.algebra.proofs.Lists.{part-long}
 use Rattle.meaning.specs.Shape.{keptColumns}
-use Rattle.forward_block.specs.Forward.{Middle, keptValue}
+use Rattle.forward_block.specs.Forward.{Middle}
 use Rattle.forward_block.proofs.Places.{front, front-in}
-use Rattle.forward_block.proofs.TwoStages.{between, row-middle, both-stages}
+use Rattle.forward_block.proofs.TwoStages.{between, row-middle, both-done}
 use Rattle.forward_block.proofs.forward.both.Statement.{statement}
 use Rattle.forward_block.proofs.forward.both.Tie as tie
 
@@ -117,11 +116,9 @@ same-length-3 c = search needs
 returns : tie.Need-returns
 returns c =
     let k = c .before .before .before .before .before .before .before .before .before .before .before .before in
-    let s = c .before .before .before .before .before .before .before .before .before .before .before .before .before .before .before in
-    let h = s .args .shape in
-    c .before .before .columns .ensures
-    ∙ ap (λ (m : List ℤ). block (h .width) (h .height) (keptValue h m)) (front (middle k) _ _ (area k) (long k) (c .before .before .before .before .before .before .before .before .before .rows .ensures))
-    ∙ both-stages h (s .args .residuals .now) (s .pre .0)
+    let s = k .before .before .before in
+    both-done (s .args .shape) (s .args .residuals .now) (s .pre .0) _ (front (middle k) _ _ (area k) (long k) (c .before .before .before .before .before .before .before .before .before .rows .ensures))
+    (c .before .before .columns .ensures)
 
 pub both-spec : {M : Type 1} → statement M
 both-spec =
