@@ -26,7 +26,7 @@ use Rattle.meaning.proofs.Sizes.{weightSize, forwardSum-short}
 use Rattle.meaning.proofs.Taken.{Taken}
 use Rattle.meaning.proofs.Stages.{columns-in, rows-in, value-short, rowStage-in, rowValue-in, columnValue-in}
 use Rattle.row_sums.specs.Sums.{rowSum}
-use Rattle.forward_block.specs.Forward.{Lines, Stage, Residuals, Middle, Room, lineValue, columnOf, keptValue}
+use Rattle.forward_block.specs.Forward.{Lines, Stage, Residuals, Between, Middle, Room, lineValue, columnOf, keptValue}
 
 -- log2 is between 2 and 5
 pub log-in : (n : ℕ) → (2 ≤ log2 n) × (log2 n ≤ 5)
@@ -55,10 +55,6 @@ module _ (kind n : ℕ) where
 
   weights-long : length (weights kind n) ≡ n * n
   weights-long = block-length n n (λ k i. term true kind n k i)
-
--- what stands between the stages
-abbrev pub between : Shape → List ℤ → List ℤ
-between sh r = block (keptColumns sh) (sh .height) (rowValue sh r)
 
 module _ (sh : Shape) where
   area : sh .height * sh .width ≡ sh .width * sh .height
@@ -105,7 +101,7 @@ module _ (sh : Shape) where
     unfolding rowValue
     row-same x y hx = ap (nearest (rowShift sh)) (row-sum x y hx)
 
-    pub row-lines : (room : ℕ) → room ≡ sh .height * keptColumns sh
+    pub row-lines : (room : ℕ) → sh .height * keptColumns sh ≤ room
         → Lines (keptColumns sh) (keptColumns sh) (sh .height) (weights (sh .horizontal) (sh .width)) (sh .width) r (sh .width) 1 (sh .width) (rowShift sh) room
     row-lines room e =
         let w = sh .width in
@@ -134,44 +130,43 @@ module _ (sh : Shape) where
           };
         }
 
-    pub rows-done : (a a₀ : List ℤ) → length a₀ ≡ sh .height * keptColumns sh
+    pub rows-done : (a a₀ : List ℤ) → sh .height * keptColumns sh ≤ length a₀
         → Stage (keptColumns sh) (keptColumns sh) (sh .height) (lineValue (weights (sh .horizontal) (sh .width)) (sh .width) r (sh .width) 1 (sh .width) (rowShift sh)) a a₀
-        → a ≡ between sh r
-    rows-done a a₀ l s = block-ext (keptColumns sh) (sh .height) (rowValue sh r) a (s .long ∙ l) (λ x y hx hy. s .done x y hx hy ∙ row-same x y hx)
+        → Between sh r a
+    rows-done a a₀ l s = record { long = omega (arith, s .long); value = λ x y hx hy. s .done x y hx hy ∙ row-same x y hx }
 
     -- ---- between the stages
-    column-same : (x y : ℕ) → x < keptColumns sh → columnOf sh (between sh r) x y ≡ columnValue sh r x y
-    unfolding columnValue forwardSum
-    column-same x y hx =
-        ap (nearest (columnShift sh))
-        (sum-cong (sh .height) _ _ (λ j h t. weight (sh .vertical) (sh .height) y j *ℤ block-at (keptColumns sh) (sh .height) (rowValue sh r) x j hx h t))
+    module _ {m : List ℤ} (b : Between sh r m) where
+      column-same : (x y : ℕ) → x < keptColumns sh → columnOf sh m x y ≡ columnValue sh r x y
+      unfolding columnValue forwardSum
+      column-same x y hx = ap (nearest (columnShift sh)) (sum-cong (sh .height) _ _ (λ j h t. weight (sh .vertical) (sh .height) y j *ℤ b .value x j hx h t))
 
-    pub row-middle : Middle sh (between sh r)
-    row-middle =
-        let t = g .taken in
-        record {
-          taken = t;
-          long = block-length (keptColumns sh) (sh .height) (rowValue sh r);
-          small = λ x y hx hy.
-              subst (λ (z : ℤ). natAbs z ≤ 32768) (sym (block-at (keptColumns sh) (sh .height) (rowValue sh r) x y hx hy))
-              (omega (arith, rowValue-in sh t r (g .small) x y (omega (arith, columns-in sh)), value-short sh t));
-          short = λ x y hx hy.
-              subst (λ (z : ℤ). natAbs z ≤ 32767) (sym (column-same x y hx))
-              (le-trans (columnValue-in sh t r (g .small) x y (omega (arith, columns-in sh)) hy) (value-short sh t));
-        }
+      pub row-middle : Middle sh m
+      row-middle =
+          let t = g .taken in
+          record {
+            taken = t;
+            long = b .long;
+            small = λ x y hx hy.
+                subst (λ (z : ℤ). natAbs z ≤ 32768) (sym (b .value x y hx hy))
+                (omega (arith, rowValue-in sh t r (g .small) x y (omega (arith, columns-in sh)), value-short sh t));
+            short = λ x y hx hy.
+                subst (λ (z : ℤ). natAbs z ≤ 32767) (sym (column-same x y hx))
+                (le-trans (columnValue-in sh t r (g .small) x y (omega (arith, columns-in sh)) hy) (value-short sh t));
+          }
 
-    both-stages : block (sh .width) (sh .height) (keptValue sh (between sh r)) ≡ forwardBlock sh r
-    unfolding forwardBlock coefficient
-    both-stages =
-        block-cong (sh .width) (sh .height) (keptValue sh (between sh r)) (coefficient sh r)
-        (λ x y hx hy. kept x y (ltb x (keptColumns sh)) (ltb y (keptRows sh)) refl)
-      where
-        kept : (x y : ℕ) (b c : Bool) → ltb x (keptColumns sh) ≡ b → cond (b && c) (columnOf sh (between sh r) x y) (pos 0) ≡ cond (b && c) (columnValue sh r x y) (pos 0)
-        kept x y true c p = ap (λ (z : ℤ). cond c z (pos 0)) (column-same x y (ltb-true x (keptColumns sh) p))
-        kept x y false c p = refl
+      both-stages : block (sh .width) (sh .height) (keptValue sh m) ≡ forwardBlock sh r
+      unfolding forwardBlock coefficient
+      both-stages =
+          block-cong (sh .width) (sh .height) (keptValue sh m) (coefficient sh r)
+          (λ x y hx hy. kept x y (ltb x (keptColumns sh)) (ltb y (keptRows sh)) refl)
+        where
+          kept : (x y : ℕ) (b c : Bool) → ltb x (keptColumns sh) ≡ b → cond (b && c) (columnOf sh m x y) (pos 0) ≡ cond (b && c) (columnValue sh r x y) (pos 0)
+          kept x y true c p = ap (λ (z : ℤ). cond c z (pos 0)) (column-same x y (ltb-true x (keptColumns sh) p))
+          kept x y false c p = refl
 
-    pub both-done : (m : List ℤ) {a : List ℤ} → m ≡ between sh r → a ≡ block (sh .width) (sh .height) (keptValue sh m) → a ≡ forwardBlock sh r
-    both-done m e q = q ∙ ap (λ (m : List ℤ). block (sh .width) (sh .height) (keptValue sh m)) e ∙ both-stages
+      pub both-done : {a : List ℤ} → a ≡ block (sh .width) (sh .height) (keptValue sh m) → a ≡ forwardBlock sh r
+      both-done e = e ∙ both-stages
 
   -- ---- columns
   module _ (m : List ℤ) (g : Middle sh m) where

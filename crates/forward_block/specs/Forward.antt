@@ -12,7 +12,7 @@ use Rattle.algebra.specs.Lists.{at}
 use Rattle.meaning.specs.declared.Shape.{Shape}
 use Rattle.meaning.specs.Line.{forwardSum}
 use Rattle.meaning.specs.Shape.{isSize, keptColumns, keptRows}
-use Rattle.meaning.specs.Forward.{columnShift}
+use Rattle.meaning.specs.Forward.{columnShift, rowValue}
 use Rattle.meaning.proofs.Taken.{Taken}
 use Rattle.meaning.proofs.Small.{NoneAbove}
 use Rattle.row_sums.specs.Sums.{rowSum, Rows}
@@ -57,14 +57,19 @@ pub record Residuals (sh : Shape) (r : List ℤ) : Type 0 where
   pub long : length r ≡ sh .width * sh .height
   pub small : NoneAbove (2 ^ sh .depth - 1) r
 
--- sum y of kept column x of what stands between the stages, rounded
+-- the kept columns of what stands between the stages, from the start of m on
+pub record Between (sh : Shape) (r m : List ℤ) : Type 0 where
+  pub long : sh .height * keptColumns sh ≤ length m
+  pub value : (x y : ℕ) → x < keptColumns sh → y < sh .height → at m (x + y * keptColumns sh) ≡ rowValue sh r x y
+
+-- sum y of kept column x of it, rounded
 abbrev pub columnOf : Shape → List ℤ → ℕ → ℕ → ℤ
 columnOf sh m x y = nearest (columnShift sh) (forwardSum (sh .vertical) (sh .height) (λ j. at m (x + j * keptColumns sh)) y)
 
--- the kept columns of what stands between the stages, when neither they nor what their sums are rounded to leave 16 bits
+-- the same, when neither they nor what their sums are rounded to leave 16 bits
 pub record Middle (sh : Shape) (m : List ℤ) : Type 0 where
   pub taken : Taken sh
-  pub long : length m ≡ sh .height * keptColumns sh
+  pub long : sh .height * keptColumns sh ≤ length m
   pub small : (x y : ℕ) → x < keptColumns sh → y < sh .height → natAbs (at m (x + y * keptColumns sh)) ≤ 32768
   pub short : (x y : ℕ) → x < keptColumns sh → y < sh .height → natAbs (columnOf sh m x y) ≤ 32767
 

@@ -17,9 +17,9 @@ ghost use mir.Val.{SFits};
 ghost use Rattle.algebra.specs.Shift.{nearest};
 ghost use Rattle.algebra.specs.Lists.{at, tabulate, block};
 ghost use Rattle.meaning.specs.Shape.{isDepth, keptColumns};
-ghost use Rattle.meaning.specs.Forward.{log2, rowShift, columnShift, rowValue, firstTooLarge, forwardBlock};
+ghost use Rattle.meaning.specs.Forward.{log2, rowShift, columnShift, firstTooLarge, forwardBlock};
 ghost use Rattle.row_sums.specs.Sums.{rowSum};
-ghost use Rattle.forward_block.specs.Forward.{Sums, Line, Lines, Stage, Residuals, Middle, Room, lineValue, keptValue};
+ghost use Rattle.forward_block.specs.Forward.{Sums, Line, Lines, Stage, Residuals, Between, Middle, Room, lineValue, keptValue};
 
 // The size, in 32 bits: 16 do not hold that of -32768.
 fn size(z: i16) -> u32
@@ -196,8 +196,8 @@ fn column_shift(shape: Shape) -> u32
 // "Rows first": what stands between the stages. "Coefficients outside the kept rows and columns are written 0", so only the
 // kept columns are made.
 fn rows(shape: Shape, residuals: &[i16], u: &mut [i16], m: &mut [i16])
-    requires { ⌜ Residuals shape (now residuals) × ((length (now u) ≡ shape .width * shape .width) × (length (now m) ≡ shape .height * keptColumns shape)) ⌝ }
-    ensures { λ _. ⌜ now (m .exit) ≡ block (keptColumns shape) (shape .height) (rowValue shape (now (residuals .entry))) ⌝ }
+    requires { ⌜ Residuals shape (now residuals) × ((length (now u) ≡ shape .width * shape .width) × (shape .height * keptColumns shape ≤ length (now m))) ⌝ }
+    ensures { λ _. ⌜ Between shape (now (residuals .entry)) (now (m .exit)) ⌝ }
 {
     let w = shape.width as usize;
     let h = shape.height as usize;
@@ -229,11 +229,10 @@ fn both(shape: Shape, residuals: &[i16], u: &mut [i16], m: &mut [i16], coefficie
 {
     let w = shape.width as usize;
     let h = shape.height as usize;
-    let area = h * kept_columns(shape);
-    let all = w * w;
-    rows(shape, residuals, &mut u[0..all], &mut m[0..area]);
-    let all = h * h;
-    columns(shape, &m[0..area], &mut u[0..all], coefficients);
+    let wide = w * w;
+    let high = h * h;
+    rows(shape, residuals, &mut u[0..wide], m);
+    columns(shape, m, &mut u[0..high], coefficients);
 }
 
 pub fn stages(shape: Shape, residuals: &[i16], coefficients: &mut [i16])
