@@ -10,7 +10,6 @@ use lib.Dec.{eqb, ltb}
 use lib.Pow.{pow-mono}
 use lib.ListN.{length}
 use lib.IntN.{ℤ, pos, natAbs, _*ℤ_, *ℤ-comm}
-use Rattle.algebra.specs.Sum.{sum}
 use Rattle.algebra.specs.Shift.{nearest}
 use Rattle.algebra.specs.Lists.{at, tabulate, block}
 use Rattle.algebra.proofs.Order.{abs-mul}

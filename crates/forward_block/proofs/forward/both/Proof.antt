@@ -1,6 +1,5 @@
 -- `forward::both` meets its contract. Assumes nothing.
 use borrow.Author.Needs.{needs}
-use mathlib.Core.Path.{_≡_}
 use Rattle.algebra.proofs.Lists.{part-long}
 use Rattle.forward_block.proofs.TwoStages.{row-middle, both-done}
 use Rattle.forward_block.proofs.forward.both.Statement.{statement}

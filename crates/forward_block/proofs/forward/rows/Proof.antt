@@ -1,6 +1,5 @@
 -- `forward::rows` meets its contract. Assumes nothing.
 use borrow.Author.Needs.{needs}
-use mathlib.Core.Path.{_≡_}
 use lib.ListN.{length}
 use Rattle.forward_block.proofs.TwoStages.{row-lines, rows-done}
 use Rattle.forward_block.proofs.forward.rows.Statement.{statement}

@@ -1,7 +1,5 @@
 -- `forward::stages` meets its contract. Assumes nothing.
 use borrow.Author.Needs.{needs}
-use native.Mathlib.Omega.{arith}
-use mathlib.Core.Path.{_≡_}
 use Rattle.forward_block.proofs.TwoStages.{room-enough}
 use Rattle.forward_block.proofs.forward.stages.Statement.{statement}
 use Rattle.forward_block.proofs.forward.stages.Tie as tie
