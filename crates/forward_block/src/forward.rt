@@ -119,7 +119,8 @@ fn line(
     put(&e[0..n], shift, part);
 }
 
-// A stage: line y has its weights from y * far on, and goes to the first `kept` places of row y of out, whose rows are `wide`.
+// A stage: line y has its weights from y * far on, and goes to the first `kept` places of row y of out; a row of out is
+// `wide` long.
 fn lines(
     rows: &[i16],
     apart: usize,
