@@ -141,6 +141,28 @@ pub part-back : {A : Type 0} (D o ys : List A) (a k e : ℕ) → length D ≡ a 
     → take a (D ++ drop a o) ++ (ys ++ drop k (drop a (D ++ drop a o))) ≡ (D ++ ys) ++ drop e o
 part-back D o ys a k e h q = rw (take-at D (drop a o) a h, drop-at D (drop a o) a h, drop-drop k a o, q) (sym (append-assoc D ys (drop (a + k) o)))
 
+-- ---- a loop that lends one row of n after another: the rows before y are done, what stands after them is as it was
+pub record Rows (n y : ℕ) (f : ℕ → ℕ → ℤ) (m o : List ℤ) : Type 0 where
+  pub are : m ≡ block n y f ++ drop (y * n) o
+
+pub rows-none : (n : ℕ) (f : ℕ → ℕ → ℤ) (o : List ℤ) → Rows n 0 f o o
+rows-none n f o = record { are = rw (zero-mul n, block-none n f) }
+
+module _ {n y : ℕ} {f : ℕ → ℕ → ℤ} {m o : List ℤ} (p : Rows n y f m o) where
+  pub rows-long : {h : ℕ} → y ≤ h → length o ≡ h * n → length m ≡ length o
+  rows-long l g = ap length (p .are) ∙ length-append (block n y f) (drop (y * n) o) ∙ omega (arith, block-length n y f, length-drop (y * n) o, mul-le-mul-right n l)
+
+  pub rows-next : {ys : List ℤ} → ys ≡ tabulate n (λ x. f x y) → Rows n (y + 1) f (take (y * n) m ++ (ys ++ drop (y * n + n - y * n) (drop (y * n) m))) o
+  rows-next t =
+      let k : y * n + n - y * n ≡ n = omega arith in
+      let q : (y + 1) * n ≡ y * n + n = omega (arith, add-mul y 1 n, one-mul n) in
+      record { are = rw (k, p .are, t, q, block-more n y f) (part-back (block n y f) o (tabulate n (λ x. f x y)) (y * n) n (y * n + n) (block-length n y f) refl) }
+
+  pub rows-all : {h : ℕ} → y ≡ h → length o ≡ h * n → m ≡ block n h f
+  rows-all {h} l g =
+      let q : length o ≤ h * n = omega arith in
+      p .are ∙ rw (l, drop-of-length-le o q) (append-nil (block n h f))
+
 -- the first n numbers of a list, lent as the part from 0 to n, and read again where they came back
 pub part-long : {A : Type 0} (n : ℕ) (l : List A) → n ≤ length l → length (take (n - 0) l) ≡ n
 part-long n l h = rw (sub-zero n) (length-take-le n l h)

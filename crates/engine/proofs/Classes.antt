@@ -1,31 +1,29 @@
 -- A class of rows, first, first + step, .., and the sums that a loop over it makes: the rows that it passes over have a masked
 -- input of 0 and add nothing. Assumes nothing.
 use mathlib.Core.Path.{_≡_, refl, sym, ap, _∙_, subst}
-use mathlib.Core.Bool.{Bool, true, false, cond, _&&_}
+use mathlib.Core.Bool.{Bool, true, false, cond}
 use mathlib.Core.List.{List}
 use Prim.Native.Nat.{ℕ, _+_, _*_, _-_, _%_, _≤_, _<_}
 use native.Mathlib.Nat.{zero-mod, add-mod-right, mod-add-mod, mod-eq-of-lt, zero-add, le-trans, mul-le-mul}
 use native.Mathlib.Decide.{ℕ-discrete}
 use native.Mathlib.Omega.{arith}
 use borrow.Author.Tests.{eq-eqb, ne-eqb, le-leb, lt-leb, ltb-true, ltb-false}
-use lib.Dec.{T, leb, ltb, leb→le, ltb→lt}
-use lib.ListN.{length, set, replicate, length-replicate, getD-replicate, length-set, List·getD-eq-default}
+use lib.Dec.{ltb}
+use lib.ListN.{length, set, replicate, getD-replicate, length-set, List·getD-eq-default}
 use lib.Seq.{getD-set-same, getD-set-other}
 use lib.IntN.{ℤ, pos, natAbs, _+ℤ_, _*ℤ_, +ℤ-idr, *ℤ-zero}
 use mir.Syntax.{w32}
 use mir.Val.{toZ, ofZ}
 use Rattle.algebra.specs.Sum.{sum}
-use Rattle.algebra.specs.Lists.{at, tabulate}
-use Rattle.algebra.proofs.Table.{and-left, and-right}
+use Rattle.algebra.specs.Lists.{at}
 use Rattle.algebra.proofs.Order.{abs-mul}
 use Rattle.algebra.proofs.Sum.{sum-cong, sum-next, sum-split, sum-none, sum-in}
-use Rattle.algebra.proofs.Lists.{tab-at, tab-length, tabulated}
+use Rattle.algebra.proofs.Lists.{tabulated}
 use Rattle.meaning.specs.Weights.{S}
 use Rattle.engine.specs.Dst.{Small, dstSum}
-use Rattle.tables.specs.Table.{Table}
-use Rattle.engine.specs.Folded.{inClass, masked, cleared, Row, Class, Sums}
+use Rattle.engine.specs.Folded.{inClass, masked, cleared, Area, Row, Added, Class, Sums, Less}
 use Rattle.meaning.proofs.Sizes.{S-size}
-use Rattle.engine.proofs.Adding.{read-back, read-small}
+use Rattle.engine.proofs.Adding.{read-back}
 
 -- ---- a row of the class, as a loop reaches it
 pub record Along (first step i : ℕ) : Type 0 where
@@ -151,60 +149,67 @@ upto-small n x i k h b =
         let q : natAbs (S n j k) * natAbs (x j) ≤ 90 * 32768 = mul-le-mul (S-size n j k) p in
         omega (arith, abs-mul (S n j k) (x j))
 
+-- the sums of m places over the rows of the class before i
+pub record Upto (m n first step : ℕ) (x : List ℤ) (i : ℕ) (a : List ℤ) : Type 0 where
+  pub long : length a ≡ 32
+  pub are : (k : ℕ) → k < m → at a k ≡ upto n (masked first step (at x)) i k
+
 module _ (m n first step : ℕ) (x : List ℤ) where
-  -- the sums of m places over the rows of the class before i
-  abbrev pub Upto : ℕ → List ℤ → Type 0
-  Upto i a = a ≡ tabulate m (upto n (masked first step (at x)) i)
-
-  pub start : Upto first (replicate m (pos 0))
+  pub start : m ≤ 32 → Upto m n first step x first (replicate 32 (pos 0))
   unfolding upto sum
-  start =
-      tabulated m (replicate m (pos 0)) _ (length-replicate m (pos 0))
-      (λ k h. getD-replicate m k (pos 0) (pos 0) h
-      ∙ sym (upto-gap n (masked first step (at x)) 0 first k (omega arith) (λ l p q. masked-out first step (at x) l (before-class first step l q))))
+  start g =
+      record {
+        long = refl;
+        are = λ k h. getD-replicate 32 k (pos 0) (pos 0) (omega arith)
+            ∙ sym (upto-gap n (masked first step (at x)) 0 first k (omega arith) (λ l p q. masked-out first step (at x) l (before-class first step l q)));
+      }
 
-  module _ {i : ℕ} {a : List ℤ} (s : 0 < step) (l : Along first step i) (u : Upto i a) where
+  module _ {i : ℕ} {a : List ℤ} (s : 0 < step) (l : Along first step i) (u : Upto m n first step x i a) where
     stepped : (k : ℕ) → upto n (masked first step (at x)) (i + step) k ≡ upto n (masked first step (at x)) i k +ℤ S n i k *ℤ at x i
     stepped k =
         upto-gap n (masked first step (at x)) (i + 1) (i + step) k (omega arith) (λ j p q. masked-out first step (at x) j (past-class l j (omega arith) q))
         ∙ upto-next n (masked first step (at x)) i k
         ∙ ap (λ (y : ℤ). upto n (masked first step (at x)) i k +ℤ S n i k *ℤ y) (masked-in first step (at x) i (in-class l))
 
-    held : (k : ℕ) → k < m → at a k ≡ upto n (masked first step (at x)) i k
-    held k h = ap (λ (b : List ℤ). at b k) u ∙ tab-at m _ k h
-
     -- a row is added
-    pub taken : {r : List ℤ} {v : ℤ} → v ≡ at x i → r ≡ tabulate m (λ k. at a k +ℤ S n i k *ℤ v) → Upto (i + step) r
+    pub taken : {r : List ℤ} {v : ℤ} → v ≡ at x i → Added m n i v a r → Upto m n first step x (i + step) r
     taken {r} {v} w e =
-        e ∙ tabulated m _ _ (tab-length m _)
-        (λ k h. tab-at m (λ k. at a k +ℤ S n i k *ℤ v) k h ∙ (λ t. held k h t +ℤ S n i k *ℤ w t) ∙ sym (stepped k))
+        record {
+          long = e .long ∙ u .long;
+          are = λ k h. e .are k h ∙ (λ t. u .are k h t +ℤ S n i k *ℤ w t) ∙ sym (stepped k);
+        }
 
     -- a row is passed over
-    pub passed : at x i ≡ pos 0 → Upto (i + step) a
+    pub passed : at x i ≡ pos 0 → Upto m n first step x (i + step) a
     passed z =
-        tabulated m a _ (ap length u ∙ tab-length m _)
-        (λ k h. held k h ∙ sym (+ℤ-idr (upto n (masked first step (at x)) i k)) ∙ ap (λ (y : ℤ). upto n (masked first step (at x)) i k +ℤ y) (sym (*ℤ-zero (S n i k)))
-        ∙ ap (λ (y : ℤ). upto n (masked first step (at x)) i k +ℤ S n i k *ℤ y) (sym z) ∙ sym (stepped k))
+        record {
+          long = u .long;
+          are = λ k h. u .are k h ∙ sym (+ℤ-idr (upto n (masked first step (at x)) i k))
+              ∙ ap (λ (y : ℤ). upto n (masked first step (at x)) i k +ℤ y) (sym (ap (λ (y : ℤ). S n i k *ℤ y) z ∙ *ℤ-zero (S n i k))) ∙ sym (stepped k);
+        }
 
   -- the sums stay small
-  pub small-upto : {i : ℕ} {a : List ℤ} → n ≤ 32 → Small n 32768 x → i ≤ n → Upto i a → Small m 94371840 a
+  pub small-upto : {i : ℕ} {a : List ℤ} → n ≤ 32 → Small n 32768 x → i ≤ n → Upto m n first step x i a → Area m a
   small-upto {i} {a} h p l u =
       record {
-        long = ap length u ∙ tab-length m _;
-        small = λ k g. subst (λ (z : ℤ). natAbs z ≤ 94371840) (sym (ap (λ (b : List ℤ). at b k) u ∙ tab-at m _ k g))
+        long = u .long;
+        small = λ k g. subst (λ (z : ℤ). natAbs z ≤ 94371840) (sym (u .are k g))
             (upto-small n (masked first step (at x)) i k (omega arith) (λ j q. masked-small first step (at x) j 32768 (p .small j (omega arith))));
       }
 
   -- past the last row there is no input
-  pub ended : {i : ℕ} {a : List ℤ} → n ≤ 32 → Small n 32768 x → n ≤ i → Upto i a → Sums m n (masked first step (at x)) a
-  ended {i} {a} h p l u = record { are = cut ∙ tabulated m _ _ (tab-length m _) (λ k g. tab-at m _ k g ∙ upto-all n (masked first step (at x)) k); small = small-upto h p (omega arith) cut }
+  pub ended : {i : ℕ} {a : List ℤ} → n ≤ 32 → Small n 32768 x → n ≤ i → Upto m n first step x i a → Sums m n (masked first step (at x)) a
+  ended {i} {a} h p l u =
+      record { are = λ k g. cut .are k g ∙ upto-all n (masked first step (at x)) k; area = small-upto h p (omega arith) cut }
     where
       past : (j : ℕ) → n ≤ j → at x j ≡ pos 0
       past j g = List·getD-eq-default x (pos 0) {n = j} (omega (arith, p .long))
 
-      cut : Upto n a
-      cut = u ∙ tabulated m _ _ (tab-length m _)
-          (λ k g. tab-at m _ k g ∙ upto-gap n (masked first step (at x)) n i k l (λ j q r. masked-zero first step (at x) j (past j q)))
+      cut : Upto m n first step x n a
+      cut = record {
+        long = u .long;
+        are = λ k g. u .are k g ∙ upto-gap n (masked first step (at x)) n i k l (λ j q r. masked-zero first step (at x) j (past j q));
+      }
 
 -- ---- a class is cleared: the inputs before i, and those that the loop has not reached
 pub record Clearing (first step i : ℕ) (x x₀ : List ℤ) : Type 0 where
@@ -246,42 +251,22 @@ clear-next {first} {step} {i} {x} {x₀} s l p =
         (getD-set-same x i (pos 0) (pos 0) (omega (arith, p .long)) ∙ sym (cleared-in first step (at x₀) i (in-class (p .along))))
     one k h (no d) = getD-set-other x i k (pos 0) (pos 0) (λ q. d (omega arith)) ∙ away k h d (ltb k i) refl
 
-pub clear-all : {first step i : ℕ} {x x₀ : List ℤ} → length x₀ ≤ i → Clearing first step i x x₀ → x ≡ tabulate (length x₀) (cleared first step (at x₀))
-clear-all {x = x} {x₀ = x₀} l p = tabulated (length x₀) x _ (p .long) (λ k h. p .done k (omega arith))
+pub clear-all : {n first step i : ℕ} {x x₀ : List ℤ} → length x₀ ≡ n → n ≤ i → Clearing first step i x x₀ → Less n first step x₀ x
+clear-all {n} {x = x} e l p = record { is = tabulated n x _ (p .long ∙ e) (λ k h. p .done k (omega arith)) }
 
--- ---- what the loops over a class are given, the numbers by one test
-pub class-of : {m n step : ℕ} {t x : List ℤ} → T (leb m n && (leb n 32 && (ltb 0 step && leb step 32))) → Table n t → Small n 32768 x → Class m n step t x
-class-of {m} {n} {step} p t x =
-    let q = and-right (leb m n) _ p in
-    let r = and-right (leb n 32) _ q in
-    record {
-      width = leb→le m n (and-left (leb m n) _ p);
-      few = leb→le n 32 (and-left (leb n 32) _ q);
-      moves = ltb→lt 0 step (and-left (ltb 0 step) _ r);
-      near = leb→le step 32 (and-right (ltb 0 step) _ r);
-      table = t;
-      input = x;
-    }
-
-pub clear-of : {n step : ℕ} {x : List ℤ} → T (leb n 32 && (ltb 0 step && leb step 32)) → Small n 32768 x → (0 < step) × ((step ≤ 32) × (length x ≤ 32))
-clear-of {n} {step} p x =
-    let q = and-right (leb n 32) _ p in
-    let l : n ≤ 32 = leb→le n 32 (and-left (leb n 32) _ p) in
-    (ltb→lt 0 step (and-left (ltb 0 step) _ q), (leb→le step 32 (and-right (ltb 0 step) _ q), omega (arith, x .long)))
-
+-- ---- what the loops over a class are given
 -- an input, as it is read
-pub input-back : {m n step : ℕ} {t x : List ℤ} → Class m n step t x → (i : ℕ) → i < n → toZ w32 (ofZ w32 (at x i)) ≡ at x i
-input-back {x = x} p i h = read-back (at x i) 32768 (p .input .small i h) (omega arith)
+pub input-back : {m n step first : ℕ} {t x x₀ : List ℤ} → Class m n step t x₀ → (i : ℕ) → i < n → Clearing first step i x x₀ → toZ w32 (ofZ w32 (at x i)) ≡ at x₀ i
+input-back {x₀ = x₀} p i h l = ap (λ (z : ℤ). toZ w32 (ofZ w32 z)) (l .rest i (omega arith)) ∙ read-back (at x₀ i) 32768 (p .input .small i h) (omega arith)
 
 -- what a row is given
-pub row-given : (m n first step : ℕ) (x : List ℤ) {t a : List ℤ} {i : ℕ} → Class m n step t x → i < n → Upto m n first step x i a
-    → Row m n i (toZ w32 (ofZ w32 (at x i))) t a
-row-given m n first step x {i = i} p h u =
+pub row-given : (m n first step : ℕ) (x : List ℤ) {t a : List ℤ} {i : ℕ} {v : ℤ} → Class m n step t x → i < n → v ≡ at x i → Upto m n first step x i a → Row m n i v t a
+row-given m n first step x {i = i} p h e u =
     record {
       row = h;
       width = p .width;
       few = p .few;
       table = p .table;
-      value = read-small (at x i) 32768 (p .input .small i h) (omega arith);
+      value = subst (λ (z : ℤ). natAbs z ≤ 32768) (sym e) (p .input .small i h);
       sums = small-upto m n first step x (p .few) (p .input) (omega arith) u;
     }

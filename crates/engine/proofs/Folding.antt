@@ -6,15 +6,14 @@
 -- so place k of the line follows from the line's first m places (`folding`). It is an exchange of two finite sums: no property
 -- of sines, and no order of the rows.
 --
--- That the rows are folded is computed, one test for each size over the whole table of weights (`folds-4`, `folds-16`,
--- `folds-32`), and carried to each row and place. With L = 2n+1 = p * q the classes are the rows where p divides 2i+1, which
--- are (p-1)/2, (p-1)/2 + p, .. (feature 2); those where q does (feature 3); and the others (feature 1). An input is in the
--- first of these or in what is left of it, so the sums of the classes add up to the line whatever the classes are (`two`,
--- `three`). Assumes nothing.
+-- That the rows are folded is computed, one test for each size over the whole table of weights (`split-of`), and carried to
+-- each row and place. With L = 2n+1 = p * q the classes are the rows where p divides 2i+1, which are (p-1)/2, (p-1)/2 + p, ..
+-- (feature 2); those where q does (feature 3); and the others (feature 1). An input is in the first of these or in what is
+-- left of it, so the sums of the classes add up to the line whatever the classes are (`three`). Assumes nothing.
 use mathlib.Core.Path.{_≡_, refl, sym, _∙_, ap, ap₂, subst}
 use mathlib.Core.Bool.{Bool, true, false, cond, not, _&&_, _||_}
 use mathlib.Core.List.{List, [], _∷_}
-use Prim.Native.Nat.{ℕ, _+_, _*_, _-_, _≤_, _<_}
+use Prim.Native.Nat.{ℕ, _+_, _*_, _-_, _/_, _≤_, _<_}
 use native.Mathlib.Nat.{mod-one}
 use native.Mathlib.Omega.{arith}
 use lib.Dec.{T, ltb, ltb→lt}
@@ -28,8 +27,10 @@ use Rattle.algebra.proofs.Sum.{sum-cong, sum-add, sum-neg, sum-none}
 use Rattle.algebra.proofs.Table.{allTo, allTo-at, and-left, and-right, eqZ→eq}
 use Rattle.algebra.proofs.Lists.{tab-at, tab-length, tab-cong}
 use Rattle.meaning.specs.Weights.{S, fold, first}
+use Rattle.meaning.specs.Shape.{isSize}
+use Rattle.meaning.proofs.Cases.{size-cases}
 use Rattle.engine.specs.Dst.{Small, dstSum, dstLine}
-use Rattle.engine.specs.Folded.{inClass, masked, cleared, Part, plus, minus, folded, periodic, leading, Sums, half, joinedTwo, joined}
+use Rattle.engine.specs.Folded.{inClass, masked, cleared, Part, plus, minus, folded, periodic, leading, Sums, Less, half, outer, joined}
 use Rattle.engine.proofs.Classes.{in-class, masked-in, masked-out, cleared-in, cleared-zero, cleared-small}
 
 -- ---- the exchange of sums
@@ -72,17 +73,17 @@ product true w v x t z = ap (λ (y : ℤ). y *ℤ x) (eqZ→eq w v t)
 product false w v x t z = ap (λ (y : ℤ). w *ℤ y) (z refl) ∙ *ℤ-zero w ∙ sym (*ℤ-zero v) ∙ ap (λ (y : ℤ). v *ℤ y) (sym (z refl))
 
 module _ (n m : ℕ) (R : ℕ → Bool) (E : ℕ → List Part) (t : T (Folds n m R E)) where
-  pub folding : (x : ℕ → ℤ) → ((i : ℕ) → i < n → R i ≡ false → x i ≡ pos 0) → {a : List ℤ} → a ≡ tabulate m (dstSum n x)
+  pub folding : (x : ℕ → ℤ) → ((i : ℕ) → i < n → R i ≡ false → x i ≡ pos 0) → (a : List ℤ) → ((g : ℕ) → g < m → at a g ≡ dstSum n x g)
       → (k : ℕ) → k < n → dstSum n x k ≡ folded (at a) (E k)
   unfolding dstSum
-  folding x off {a} e k h =
+  folding x off a e k h =
       let B = below m (E k) in
       let A = allTo n (rowFolds n R (E k) k) in
       let u : T (B && A) = allTo-at n (placeFolds n m R E) t k h in
       sum-cong n (λ i. S n i k *ℤ x i) (λ i. folded (S n i) (E k) *ℤ x i)
       (λ i l. product (R i) (S n i k) (folded (S n i) (E k)) (x i) (allTo-at n (rowFolds n R (E k) k) (and-right B A u) i l) (off i l))
       ∙ law n x (E k)
-      ∙ folded-cong m (dstSum n x) (at a) (E k) (and-left B A u) (λ g l. sym (ap (λ (b : List ℤ). at b g) e ∙ tab-at m (dstSum n x) g l))
+      ∙ folded-cong m (dstSum n x) (at a) (E k) (and-left B A u) (λ g l. sym (e g l))
 
 -- ---- the classes
 abbrev pub others : ℕ → ℕ → ℕ → Bool
@@ -94,22 +95,26 @@ folds n p q =
     Folds n (half p * q) (others p q) (leading p (half p * q) q)
     && (Folds n (half q) (inClass (half p) p) (periodic q) && Folds n (half p) (inClass (half q) q) (periodic p))
 
-pub folds-4 : T (folds 4 3 3)
-unfolding S fold first inClass periodic leading
-folds-4 = tt
+-- ---- the numbers of each size
+pub record Split (n p q : ℕ) : Type 0 where
+  pub test : T (folds n p q)
+  pub numbers : (n ≤ 32) × ((p ≤ 32) × ((p ≡ 2 * half p + 1) × ((q ≡ 2 * half q + 1) × ((half p ≤ n) × ((half p * q ≤ n) × ((q ≤ half p * q) × (n + 1 ≤ half p * q + q)))))))
+  pub five : (p ≡ 3 → ⊥) → 1 < q → p ≡ 5
 
-pub folds-16 : T (folds 16 3 11)
-unfolding S fold first inClass periodic leading
-folds-16 = tt
-
-pub folds-32 : T (folds 32 5 13)
-unfolding S fold first inClass periodic leading
-folds-32 = tt
+pub split-of : (n p : ℕ) → isSize n ≡ true → p ≡ outer n → Split n p ((2 * n + 1) / p)
+unfolding S fold first inClass periodic leading outer
+split-of n p s e =
+    subst (λ (p : ℕ). Split n p ((2 * n + 1) / p)) (sym e)
+    (size-cases (λ n. Split n (outer n) ((2 * n + 1) / outer n))
+    (record { test = tt; numbers = omega arith; five = λ d h. absurd (d refl) })
+    (record { test = tt; numbers = omega arith; five = λ d h. absurd (omega arith) })
+    (record { test = tt; numbers = omega arith; five = λ d h. absurd (d refl) })
+    (record { test = tt; numbers = omega arith; five = λ d h. refl }) n s)
 
 -- ---- the inputs of a class, and what is left of them
-split : (first step n : ℕ) (x : ℕ → ℤ) (k : ℕ) → dstSum n x k ≡ dstSum n (masked first step x) k +ℤ dstSum n (cleared first step x) k
+parted : (first step n : ℕ) (x : ℕ → ℤ) (k : ℕ) → dstSum n x k ≡ dstSum n (masked first step x) k +ℤ dstSum n (cleared first step x) k
 unfolding dstSum masked cleared
-split first step n x k =
+parted first step n x k =
     sum-cong n (λ i. S n i k *ℤ x i) _ (λ i h. ap (λ (z : ℤ). S n i k *ℤ z) (parts (inClass first step i) (x i)) ∙ *ℤ-add (S n i k) (masked first step x i) (cleared first step x i))
     ∙ sum-add n (λ i. S n i k *ℤ masked first step x i) (λ i. S n i k *ℤ cleared first step x i)
   where
@@ -121,13 +126,7 @@ dstSum-cong : (n : ℕ) (x y : ℕ → ℤ) (k : ℕ) → ((i : ℕ) → i < n �
 unfolding dstSum
 dstSum-cong n x y k e = sum-cong n (λ i. S n i k *ℤ x i) (λ i. S n i k *ℤ y i) (λ i h. ap (λ (z : ℤ). S n i k *ℤ z) (e i h))
 
--- y is x less the inputs of a class
-pub record Less (n first step : ℕ) (x y : List ℤ) : Type 0 where
-  pub is : y ≡ tabulate n (cleared first step (at x))
-
-pub less : {n : ℕ} (first step : ℕ) {x y : List ℤ} → length x ≡ n → y ≡ tabulate (length x) (cleared first step (at x)) → Less n first step x y
-less first step {x} {y} l e = record { is = e ∙ ap (λ (k : ℕ). tabulate k (cleared first step (at x))) l }
-
+-- what is left of x
 left-at : {n first step : ℕ} {x y : List ℤ} → Less n first step x y → (i : ℕ) → i < n → at y i ≡ cleared first step (at x) i
 left-at {n} {first} {step} {x} e i h = ap (λ (b : List ℤ). at b i) (e .is) ∙ tab-at n (cleared first step (at x)) i h
 
@@ -141,17 +140,17 @@ left-small {n} {first} {step} {x} e p =
 all-rows : (x : ℕ → ℤ) (i : ℕ) → masked 0 1 x i ≡ x i
 all-rows x i = masked-in 0 1 x i (in-class (record { from = omega arith; whole = mod-one (i - 0) }))
 
--- the class of all rows: the full product
-pub plain : {n m : ℕ} (x : List ℤ) {a : List ℤ} → Sums m n (masked 0 1 (at x)) a → a ≡ tabulate m (dstSum n (at x))
-plain {n} {m} x s = s .are ∙ tab-cong m _ _ (λ k h. dstSum-cong n (masked 0 1 (at x)) (at x) k (λ i l. all-rows (at x) i))
+-- what is left is a class of its own
+plain : {n m : ℕ} (x : List ℤ) {a : List ℤ} → Sums m n (masked 0 1 (at x)) a → (k : ℕ) → k < m → at a k ≡ dstSum n (at x) k
+plain {n} x s k h = s .are k h ∙ dstSum-cong n (masked 0 1 (at x)) (at x) k (λ i l. all-rows (at x) i)
 
 -- a class taken apart
 apart : {n m first step : ℕ} (E : ℕ → List Part) → T (Folds n m (inClass first step) E) → {x y c : List ℤ}
     → Sums m n (masked first step (at x)) c → Less n first step x y → (k : ℕ) → k < n → dstSum n (at x) k ≡ folded (at c) (E k) +ℤ dstSum n (at y) k
 apart {n} {m} {first} {step} E t {x} {y} {c} s e k h =
-    split first step n (at x) k
+    parted first step n (at x) k
     ∙ ap₂ (λ (y z : ℤ). y +ℤ z)
-    (folding n m (inClass first step) E t (masked first step (at x)) (λ i l o. masked-out first step (at x) i o) (s .are) k h)
+    (folding n m (inClass first step) E t (masked first step (at x)) (λ i l o. masked-out first step (at x) i o) c (s .are) k h)
     (dstSum-cong n (cleared first step (at x)) (at y) k (λ i l. sym (left-at e i l)))
 
 -- ---- the line, at all sizes that have classes
@@ -184,9 +183,9 @@ module _ (n p q : ℕ) (t : T (folds n p q)) where
 
   rest : (x : List ℤ) {a : List ℤ} → ((i : ℕ) → i < n → inClass (half p) p i ≡ true → at x i ≡ pos 0) → ((i : ℕ) → i < n → inClass (half q) q i ≡ true → at x i ≡ pos 0)
       → Sums (half p * q) n (masked 0 1 (at x)) a → (k : ℕ) → k < n → dstSum n (at x) k ≡ folded (at a) (leading p (half p * q) q k)
-  rest x f g s k h =
+  rest x {a} f g s k h =
       folding n (half p * q) (others p q) (leading p (half p * q) q) (and-left leads (seconds && thirds) t) (at x)
-      (λ i l o. either (inClass (half p) p i) (inClass (half q) q i) o (f i l) (g i l)) (plain x s) k h
+      (λ i l o. either (inClass (half p) p i) (inClass (half q) q i) o (f i l) (g i l)) a (plain x s) k h
 
   -- what was cleared is 0, and stays so
   gone : {first step : ℕ} {x y : List ℤ} → Less n first step x y → (i : ℕ) → i < n → inClass first step i ≡ true → at y i ≡ pos 0
@@ -205,13 +204,3 @@ module _ (n p q : ℕ) (t : T (folds n p q)) where
       (λ k h. sym (second sc ey k h
       ∙ ap (λ (s : ℤ). folded (at c) (periodic q k) +ℤ s)
       (third sd ez k h ∙ ap (λ (s : ℤ). folded (at d) (periodic p k) +ℤ s) (rest z (λ i l o. stays ez i l (gone ey i l o)) (gone ez) sa k h))))
-
-  -- where p is q there is no third class
-  pub two : p ≡ q → {x y a c : List ℤ} → Sums (half q) n (masked (half p) p (at x)) c → Less n (half p) p x y
-      → Sums (half p * q) n (masked 0 1 (at y)) a → tabulate n (joinedTwo p q a c) ≡ dstLine n (at x)
-  unfolding joinedTwo
-  two e {x} {y} {a} {c} sc ey sa =
-      tab-cong n _ _
-      (λ k h. sym (second sc ey k h
-      ∙ ap (λ (s : ℤ). folded (at c) (periodic q k) +ℤ s)
-      (rest y (gone ey) (subst (λ (r : ℕ). (i : ℕ) → i < n → inClass (half r) r i ≡ true → at y i ≡ pos 0) e (gone ey)) sa k h)))

@@ -1,4 +1,3 @@
-pub mod Either
 pub mod Sums
 pub mod Mirror
 pub mod Around

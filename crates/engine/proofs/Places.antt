@@ -8,13 +8,12 @@ use native.Mathlib.Decide.{ℕ-discrete}
 use native.Mathlib.Omega.{arith}
 use borrow.Author.Tests.{eq-eqb, ne-eqb, lt-ltb, le-ltb, ltb-true, ltb-false}
 use lib.Dec.{ltb}
-use lib.IntN.{ℤ, pos, negℤ, natAbs, _+ℤ_, +ℤ-idr, negℤ-negℤ}
+use lib.IntN.{ℤ, pos, negℤ, natAbs, _+ℤ_, +ℤ-idr, +ℤ-assoc, negℤ-+ℤ, negℤ-negℤ}
 use mir.Syntax.{w32}
 use mir.Val.{toZ, ofZ}
 use Rattle.algebra.specs.Lists.{at}
 use Rattle.algebra.proofs.Order.{abs-add, abs-neg}
-use Rattle.engine.specs.Dst.{Small}
-use Rattle.engine.specs.Folded.{Part, plus, minus, folded, periodic, leading, Place, Periodic}
+use Rattle.engine.specs.Folded.{Part, plus, minus, folded, periodic, leading, Area, Place}
 use Rattle.engine.proofs.Adding.{read-back, read-small}
 
 -- ---- E of features 2 and 3
@@ -99,50 +98,16 @@ pub leading-self : (p m q k : ℕ) → k < m → leading p m q k ≡ plus k ∷ 
 unfolding leading
 leading-self p m q k h = rw (lt-ltb k m h)
 
-pub leading-two : (m q k : ℕ) → m ≤ k → leading 3 m q k ≡ plus (k - m) ∷ plus (q - 2 - (k - m)) ∷ []
+pub leading-two : (p m q k : ℕ) → m ≤ k → p ≡ 3 → leading p m q k ≡ plus (k - m) ∷ plus (q - 2 - (k - m)) ∷ []
 unfolding leading
-leading-two m q k h = rw (le-ltb k m h)
+leading-two p m q k h e = rw (le-ltb k m h, eq-eqb p 3 e)
 
-pub leading-four : (m q k : ℕ) → m ≤ k
-    → leading 5 m q k ≡ minus (k - m) ∷ minus (q - 2 - (k - m)) ∷ plus (q + (k - m)) ∷ plus (2 * q - 2 - (k - m)) ∷ []
+pub leading-four : (p m q k : ℕ) → m ≤ k → (p ≡ 3 → ⊥)
+    → leading p m q k ≡ minus (k - m) ∷ minus (q - 2 - (k - m)) ∷ plus (q + (k - m)) ∷ plus (2 * q - 2 - (k - m)) ∷ []
 unfolding leading
-leading-four m q k h = rw (le-ltb k m h)
+leading-four p m q k h d = rw (le-ltb k m h, ne-eqb p 3 d)
 
--- ---- sums of one, two and four
-pub place-plus : {a : List ℤ} {E : List Part} {B : ℕ} {r : ℤ} (g : ℕ) → E ≡ plus g ∷ [] → r ≡ at a g → natAbs (at a g) ≤ B → Place a E B r
-place-plus {a} {E} {B} g e p h =
-    record { is = p ∙ sym (+ℤ-idr (at a g)) ∙ sym (ap (folded (at a)) e); small = subst (λ (z : ℤ). natAbs z ≤ B) (sym p) h }
-
-pub place-two : {a : List ℤ} {E : List Part} {B : ℕ} {r : ℤ} (g h : ℕ) → E ≡ plus g ∷ plus h ∷ [] → r ≡ at a g +ℤ at a h
-    → natAbs (at a g) ≤ B → natAbs (at a h) ≤ B → Place a E (4 * B) r
-place-two {a} {E} {B} {r} g h e p s t =
-    record {
-      is = p ∙ ap (λ (z : ℤ). at a g +ℤ z) (sym (+ℤ-idr (at a h))) ∙ sym (ap (folded (at a)) e);
-      small = subst (λ (z : ℤ). natAbs z ≤ 4 * B) (sym p) (omega (arith, abs-add (at a g) (at a h)));
-    }
-
-pub place-four : {a : List ℤ} {E : List Part} {B : ℕ} {r : ℤ} (g h i j : ℕ) → E ≡ minus g ∷ minus h ∷ plus i ∷ plus j ∷ []
-    → r ≡ negℤ (at a g) +ℤ (negℤ (at a h) +ℤ (at a i +ℤ at a j))
-    → natAbs (at a g) ≤ B → natAbs (at a h) ≤ B → natAbs (at a i) ≤ B → natAbs (at a j) ≤ B → Place a E (4 * B) r
-place-four {a} {E} {B} {r} g h i j e p s t u v =
-    record {
-      is = p ∙ ap (λ (z : ℤ). negℤ (at a g) +ℤ (negℤ (at a h) +ℤ (at a i +ℤ z))) (sym (+ℤ-idr (at a j))) ∙ sym (ap (folded (at a)) e);
-      small = subst (λ (z : ℤ). natAbs z ≤ 4 * B) (sym p)
-          (omega (
-            arith,
-            abs-neg (at a g),
-            abs-neg (at a h),
-            abs-add (at a i) (at a j),
-            abs-add (negℤ (at a h)) (at a i +ℤ at a j),
-            abs-add (negℤ (at a g)) (negℤ (at a h) +ℤ (at a i +ℤ at a j)),
-          ));
-    }
-
--- ---- what a place is given, and what it hands on
-pub periodic-given : {h : ℕ} (q : ℕ) {c : List ℤ} → Small h 94371840 c → q ≡ 2 * h + 1 → h ≤ 15 → Periodic q c
-periodic-given q {c} p e f =
-    record { odd = omega (arith, p .long); few = omega arith; sums = record { long = refl; small = λ g l. p .small g (omega (arith, p .long)) } }
-
+-- ---- what a place hands on
 module _ {a : List ℤ} {E : List Part} {B : ℕ} {r : ℤ} (p : Place a E B r) (h : B ≤ 1000000000) where
   pub place-back : toZ w32 (ofZ w32 r) ≡ folded (at a) E
   place-back = read-back r B (p .small) h ∙ p .is
@@ -150,6 +115,34 @@ module _ {a : List ℤ} {E : List Part} {B : ℕ} {r : ℤ} (p : Place a E B r) 
   pub place-safe : natAbs (toZ w32 (ofZ w32 r)) ≤ 1000000000
   place-safe = omega (arith, read-small r B (p .small) h)
 
+  pub place-read : Place a E B (toZ w32 (ofZ w32 r))
+  place-read = record { is = place-back; small = read-small r B (p .small) h }
+
 pub places-safe : {a b : List ℤ} {E F : List Part} {y z : ℤ} → Place a E 94371840 y → Place b F 377487360 z
     → natAbs (folded (at a) E +ℤ folded (at b) F) ≤ 1000000000
 places-safe {y = y} {z = z} p q = subst (λ (s : ℤ). natAbs s ≤ 1000000000) (λ t. p .is t +ℤ q .is t) (omega (arith, abs-add y z, p .small, q .small))
+
+-- ---- a sum, the sum of two, and that of two less two
+pub place-one : {m : ℕ} {a : List ℤ} → Area m a → (g : ℕ) → g < m → Place a (plus g ∷ []) 94371840 (toZ w32 (ofZ w32 (at a g)))
+place-one {a = a} p g h = place-read (record { is = sym (+ℤ-idr (at a g)); small = p .small g h }) (omega arith)
+
+module _ {a : List ℤ} {B : ℕ} {g h : ℕ} where
+  pub place-two : {y z r : ℤ} → Place a (plus g ∷ []) B y → Place a (plus h ∷ []) B z → r ≡ y +ℤ z → Place a (plus g ∷ plus h ∷ []) (2 * B) r
+  place-two {y} {z} p q e =
+      record {
+        is = e ∙ (λ t. (p .is ∙ +ℤ-idr (at a g)) t +ℤ q .is t);
+        small = subst (λ (x : ℤ). natAbs x ≤ 2 * B) (sym e) (omega (arith, abs-add y z, p .small, q .small));
+      }
+
+  pub place-less : {i j : ℕ} {y z r : ℤ} → Place a (plus g ∷ plus h ∷ []) B y → Place a (plus i ∷ plus j ∷ []) B z → r ≡ negℤ y +ℤ z
+      → Place a (minus g ∷ minus h ∷ plus i ∷ plus j ∷ []) (2 * B) r
+  place-less {i} {j} {y} {z} p q e =
+      record {
+        is = e ∙ (λ t. (ap negℤ (p .is ∙ ap (λ (x : ℤ). at a g +ℤ x) (+ℤ-idr (at a h))) ∙ negℤ-+ℤ (at a g) (at a h)) t +ℤ q .is t)
+            ∙ +ℤ-assoc (negℤ (at a g)) (negℤ (at a h)) (folded (at a) (plus i ∷ plus j ∷ []));
+        small = subst (λ (x : ℤ). natAbs x ≤ 2 * B) (sym e) (omega (arith, abs-add (negℤ y) z, abs-neg y, p .small, q .small));
+      }
+
+-- by the place's own name, and with room to spare
+pub place-as : {a : List ℤ} {E F : List Part} {A B : ℕ} {r : ℤ} → E ≡ F → A ≤ B → Place a F A r → Place a E B r
+place-as {a} e h p = record { is = p .is ∙ ap (folded (at a)) (sym e); small = omega (arith, p .small) }

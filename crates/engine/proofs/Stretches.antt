@@ -4,18 +4,17 @@ use mathlib.Core.Path.{_≡_, refl, sym, ap, _∙_, subst}
 use mathlib.Core.Bool.{Bool, true, false, cond}
 use mathlib.Core.List.{List, [], _∷_}
 use Prim.Native.Nat.{ℕ, _+_, _*_, _-_, _%_, _≤_, _<_, min}
-use native.Mathlib.Nat.{not-suc-le-zero}
+use native.Mathlib.Nat.{not-suc-le-zero, mod-lt}
 use native.Mathlib.Decide.{ℕ-discrete}
 use native.Mathlib.Omega.{arith}
-use borrow.Author.Tests.{ltb-true, ltb-false}
+use borrow.Author.Tests.{eqb-false, ltb-true, ltb-false}
 use lib.Dec.{eqb, ltb}
-use lib.ListN.{length, set, replicate, length-set, getD-replicate, List·getD-eq-default}
+use lib.ListN.{length, set, replicate, length-set, getD-replicate}
 use lib.Seq.{getD-set-same, getD-set-other}
 use lib.IntN.{ℤ, pos, negℤ, natAbs, _+ℤ_, +ℤ-idr}
 use Rattle.algebra.specs.Lists.{at}
 use Rattle.algebra.proofs.Order.{abs-neg}
-use Rattle.engine.specs.Dst.{Small}
-use Rattle.engine.specs.Folded.{plus, minus, folded, periodic, Periodic, Stretched, Place}
+use Rattle.engine.specs.Folded.{plus, minus, folded, periodic, half, Periodic, Stretched, Place}
 use Rattle.engine.proofs.Places.{periodic-turn, periodic-low, periodic-high, periodic-end}
 
 below : (k m : ℕ) (P : Type 0) → (k < m → P) → (m ≤ k → P) → P
@@ -26,28 +25,30 @@ below k m P f g = go (ltb k m) refl
     go false e = g (ltb-false k m e)
 
 -- ---- a place is a sum with its sign, or 0
-all-small : (B : ℕ) (c : List ℤ) → Small (length c) B c → (g : ℕ) → natAbs (at c g) ≤ B
-all-small B c p g =
-    below g (length c) (natAbs (at c g) ≤ B) (p .small g)
-    (λ l. subst (λ (z : ℤ). natAbs z ≤ B) (sym (List·getD-eq-default c (pos 0) {n = g} l)) (omega arith))
+module _ {q : ℕ} {c : List ℤ} (p : Periodic q c) (k : ℕ) where
+  periodic-small : natAbs (folded (at c) (periodic q k)) ≤ 94371840
+  unfolding periodic
+  periodic-small = go (eqb w 0) (ltb ((k + 1) % (2 * q)) q) refl
+    where
+      w : ℕ
+      w = (k + 1) % q
 
-periodic-small : (B q k : ℕ) (f : ℕ → ℤ) → ((g : ℕ) → natAbs (f g) ≤ B) → natAbs (folded f (periodic q k)) ≤ B
-unfolding periodic
-periodic-small B q k f s =
-    let w = (k + 1) % q in
-    go (eqb w 0) (ltb ((k + 1) % (2 * q)) q) (min w (q - w) - 1)
-  where
-    go : (a b : Bool) (g : ℕ) → natAbs (folded f (cond a [] (cond b (plus g ∷ []) (minus g ∷ [])))) ≤ B
-    go true b g = omega arith
-    go false true g = subst (λ (z : ℤ). natAbs z ≤ B) (sym (+ℤ-idr (f g))) (s g)
-    go false false g = subst (λ (z : ℤ). natAbs z ≤ B) (sym (+ℤ-idr (negℤ (f g)))) (omega (arith, abs-neg (f g), s g))
+      g : ℕ
+      g = min w (q - w) - 1
 
-pub stretched-place : {n q : ℕ} {c w : List ℤ} → Periodic q c → Stretched n q c w → (k : ℕ) → k < n → Place c (periodic q k) 94371840 (at w k)
-stretched-place {q = q} {c = c} p s k h =
-    record {
-      is = s .are k h;
-      small = subst (λ (z : ℤ). natAbs z ≤ 94371840) (sym (s .are k h)) (periodic-small 94371840 q k (at c) (all-small 94371840 c (p .sums)));
-    }
+      fine : eqb w 0 ≡ false → natAbs (at c g) ≤ 94371840
+      fine e =
+          let l : w < q = mod-lt (k + 1) (omega (arith, p .odd)) in
+          let d : w ≡ 0 → ⊥ = eqb-false w 0 e in
+          p .sums .small g (omega (arith, p .odd))
+
+      go : (a b : Bool) → eqb w 0 ≡ a → natAbs (folded (at c) (cond a [] (cond b (plus g ∷ []) (minus g ∷ [])))) ≤ 94371840
+      go true b e = omega arith
+      go false true e = subst (λ (z : ℤ). natAbs z ≤ 94371840) (sym (+ℤ-idr (at c g))) (fine e)
+      go false false e = subst (λ (z : ℤ). natAbs z ≤ 94371840) (sym (+ℤ-idr (negℤ (at c g)))) (omega (arith, abs-neg (at c g), fine e))
+
+  pub stretched-place : {n : ℕ} {w : List ℤ} → Stretched n q c w → k < n → Place c (periodic q k) 94371840 (at w k)
+  stretched-place s h = record { is = s .are k h; small = subst (λ (z : ℤ). natAbs z ≤ 94371840) (sym (s .are k h)) periodic-small }
 
 -- ---- there and back
 pub record Mirrored (q g : ℕ) (c w : List ℤ) : Type 0 where
@@ -66,37 +67,37 @@ module _ {q : ℕ} {c : List ℤ} (p : Periodic q c) where
         end = getD-replicate 32 (q - 1) (pos 0) (pos 0) (omega (arith, p .odd, p .few));
       }
 
-  pub mirror-next : {g : ℕ} {w : List ℤ} (y z : ℤ) → g < length c → y ≡ at c g → z ≡ at c g → Mirrored q g c w → Mirrored q (g + 1) c (set (set w g y) (q - 2 - g) z)
-  mirror-next {g} {w} y z h ey ez m =
+  pub mirror-next : {g : ℕ} {w : List ℤ} (z : ℤ) → g < half q → z ≡ at c g → Mirrored q g c w → Mirrored q (g + 1) c (set (set w g z) (q - 2 - g) z)
+  mirror-next {g} {w} z h e m =
       record {
-        long = length-set (set w g y) (q - 2 - g) z ∙ length-set w g y ∙ m .long;
+        long = length-set (set w g z) (q - 2 - g) z ∙ length-set w g z ∙ m .long;
         low = λ k l. low k l (ℕ-discrete k g);
         high = λ k l. high k l (ℕ-discrete k g);
         end = other (q - 1) (λ e. omega (arith, p .odd)) (λ e. omega (arith, p .odd)) ∙ m .end;
       }
     where
-      other : (k : ℕ) → (k ≡ q - 2 - g → ⊥) → (k ≡ g → ⊥) → at (set (set w g y) (q - 2 - g) z) k ≡ at w k
-      other k d e = getD-set-other (set w g y) (q - 2 - g) k z (pos 0) d ∙ getD-set-other w g k y (pos 0) e
+      other : (k : ℕ) → (k ≡ q - 2 - g → ⊥) → (k ≡ g → ⊥) → at (set (set w g z) (q - 2 - g) z) k ≡ at w k
+      other k d n = getD-set-other (set w g z) (q - 2 - g) k z (pos 0) d ∙ getD-set-other w g k z (pos 0) n
 
-      low : (k : ℕ) → k < g + 1 → Dec (k ≡ g) → at (set (set w g y) (q - 2 - g) z) k ≡ at c k
-      low k l (yes e) =
-          subst (λ (j : ℕ). at (set (set w g y) (q - 2 - g) z) j ≡ at c j) (sym e)
-          (getD-set-other (set w g y) (q - 2 - g) g z (pos 0) (λ e. omega (arith, p .odd)) ∙ getD-set-same w g y (pos 0) (omega (arith, m .long, p .odd, p .few)) ∙ ey)
+      low : (k : ℕ) → k < g + 1 → Dec (k ≡ g) → at (set (set w g z) (q - 2 - g) z) k ≡ at c k
+      low k l (yes f) =
+          subst (λ (j : ℕ). at (set (set w g z) (q - 2 - g) z) j ≡ at c j) (sym f)
+          (getD-set-other (set w g z) (q - 2 - g) g z (pos 0) (λ e. omega (arith, p .odd)) ∙ getD-set-same w g z (pos 0) (omega (arith, m .long, p .odd, p .few)) ∙ e)
       low k l (no d) = other k (λ e. omega (arith, p .odd)) d ∙ m .low k (omega arith)
 
-      high : (k : ℕ) → k < g + 1 → Dec (k ≡ g) → at (set (set w g y) (q - 2 - g) z) (q - 2 - k) ≡ at c k
-      high k l (yes e) =
-          subst (λ (j : ℕ). at (set (set w g y) (q - 2 - g) z) (q - 2 - j) ≡ at c j) (sym e)
-          (getD-set-same (set w g y) (q - 2 - g) z (pos 0) (omega (arith, length-set w g y, m .long, p .odd, p .few)) ∙ ez)
+      high : (k : ℕ) → k < g + 1 → Dec (k ≡ g) → at (set (set w g z) (q - 2 - g) z) (q - 2 - k) ≡ at c k
+      high k l (yes f) =
+          subst (λ (j : ℕ). at (set (set w g z) (q - 2 - g) z) (q - 2 - j) ≡ at c j) (sym f)
+          (getD-set-same (set w g z) (q - 2 - g) z (pos 0) (omega (arith, length-set w g z, m .long, p .odd, p .few)) ∙ e)
       high k l (no d) = other (q - 2 - k) (λ e. d (omega (arith, p .odd))) (λ e. omega (arith, p .odd)) ∙ m .high k (omega arith)
 
-  pub mirror-all : {g : ℕ} {w : List ℤ} → length c ≤ g → Mirrored q g c w → Stretched q q c w
-  mirror-all {g} {w} h m = record { long = m .long; are = λ k l. below k (length c) _ (first k) (λ e. below (k + 1) q _ (back k e) (last k l)) }
+  pub mirror-all : {g : ℕ} {w : List ℤ} → half q ≤ g → Mirrored q g c w → Stretched q q c w
+  mirror-all {g} {w} h m = record { long = m .long; are = λ k l. below k (half q) _ (first k) (λ e. below (k + 1) q _ (back k e) (last k l)) }
     where
-      first : (k : ℕ) → k < length c → at w k ≡ folded (at c) (periodic q k)
+      first : (k : ℕ) → k < half q → at w k ≡ folded (at c) (periodic q k)
       first k l = m .low k (omega arith) ∙ sym (periodic-low q k (at c) (omega (arith, p .odd)))
 
-      back : (k : ℕ) → length c ≤ k → k + 1 < q → at w k ≡ folded (at c) (periodic q k)
+      back : (k : ℕ) → half q ≤ k → k + 1 < q → at w k ≡ folded (at c) (periodic q k)
       back k e l =
           let o : q - 2 - (q - 2 - k) ≡ k = omega arith in
           ap (at w) (sym o) ∙ m .high (q - 2 - k) (omega (arith, p .odd)) ∙ sym (periodic-high q k (at c) (omega (arith, p .odd)) l)

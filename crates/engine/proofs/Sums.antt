@@ -1,23 +1,22 @@
 -- A sum of products as a loop makes it: each product adds at most 90 * 32768 to its size. Assumes nothing.
-use mathlib.Core.Path.{_≡_, refl, sym, ap, _∙_, subst}
-use mathlib.Core.Bool.{Bool, true, false, cond}
-use Prim.Native.Nat.{ℕ, _+_, _*_, _≤_, _<_}
+use mathlib.Core.Path.{_≡_, refl, ap, _∙_}
+use mathlib.Core.Bool.{Bool, true, false}
+use Prim.Native.Nat.{ℕ, _+_, _*_, _≤_}
 use native.Mathlib.Nat.{mul-le-mul}
 use native.Mathlib.Omega.{arith}
 use lib.IntN.{ℤ, pos, natAbs, _+ℤ_, _*ℤ_}
 use mir.Syntax.{w32}
-use mir.Val.{SFits, toZ, ofZ}
+use mir.Val.{toZ, ofZ}
 use mir.ValLaws.{toZ-ofZ}
 use Rattle.algebra.specs.Sum.{sum}
 use Rattle.algebra.specs.Lists.{tabulate}
 use Rattle.algebra.proofs.Order.{abs-add, abs-mul}
 use Rattle.algebra.proofs.Sum.{sum-next}
-use Rattle.algebra.proofs.Lists.{tab-cong}
 use Rattle.algebra.proofs.Word.{small}
 use Rattle.meaning.specs.Weights.{weight}
-use Rattle.meaning.specs.Line.{forwardSum, inverseSum, forwardLine, inverseLine}
+use Rattle.meaning.specs.Line.{term, forwardSum, inverseSum, forwardLine, inverseLine}
 use Rattle.engine.specs.Lines.{line}
-use Rattle.engine.specs.Product.{term, lineSum}
+use Rattle.engine.specs.Product.{lineSum}
 use Rattle.meaning.proofs.Sizes.{weightSize}
 
 pub abs-term : (forward : Bool) (kind n k i : ℕ) → natAbs (term forward kind n k i) ≤ 90

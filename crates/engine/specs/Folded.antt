@@ -6,8 +6,9 @@ use mathlib.Core.List.{List, [], _∷_}
 use Prim.Native.Nat.{ℕ, _+_, _*_, _-_, _/_, _%_, _≤_, _<_, min}
 use lib.Dec.{eqb, leb, ltb}
 use lib.ListN.{length}
-use lib.IntN.{ℤ, pos, negℤ, natAbs, _+ℤ_}
+use lib.IntN.{ℤ, pos, negℤ, natAbs, _+ℤ_, _*ℤ_}
 use Rattle.algebra.specs.Lists.{at, tabulate}
+use Rattle.meaning.specs.Weights.{S}
 use Rattle.tables.specs.Table.{Table}
 use Rattle.engine.specs.Dst.{Small, dstSum}
 
@@ -48,14 +49,24 @@ leading p m q k =
     cond (ltb k m) (plus k ∷ [])
     (cond (eqb p 3) (plus g ∷ plus (q - 2 - g) ∷ []) (minus g ∷ minus (q - 2 - g) ∷ plus (q + g) ∷ plus (2 * q - 2 - g) ∷ []))
 
--- ---- row i of a table of n points, an input, and the sums of m places so far. 94371840 = 32 * 90 * 32768.
+-- ---- 32 sums in a row, of which the first m are used. 94371840 = 32 * 90 * 32768.
+pub record Area (m : ℕ) (a : List ℤ) : Type 0 where
+  pub long : length a ≡ 32
+  pub small : (k : ℕ) → k < m → natAbs (at a k) ≤ 94371840
+
+-- row i of a table of n points, an input, and the sums of m places so far
 pub record Row (m n i : ℕ) (v : ℤ) (t a : List ℤ) : Type 0 where
   pub row : i < n
   pub width : m ≤ n
   pub few : n ≤ 32
   pub table : Table n t
   pub value : natAbs v ≤ 32768
-  pub sums : Small m 94371840 a
+  pub sums : Area m a
+
+-- the row is added
+pub record Added (m n i : ℕ) (v : ℤ) (a b : List ℤ) : Type 0 where
+  pub long : length b ≡ length a
+  pub are : (k : ℕ) → k < m → at b k ≡ at a k +ℤ S n i k *ℤ v
 
 -- a class of rows of a line of n points, of which the first m places are summed
 pub record Class (m n step : ℕ) (t x : List ℤ) : Type 0 where
@@ -68,49 +79,52 @@ pub record Class (m n step : ℕ) (t x : List ℤ) : Type 0 where
 
 -- the sums of the first m places of the line of the inputs x
 pub record Sums (m n : ℕ) (x : ℕ → ℤ) (a : List ℤ) : Type 0 where
-  pub are : a ≡ tabulate m (dstSum n x)
-  pub small : Small m 94371840 a
+  pub are : (k : ℕ) → k < m → at a k ≡ dstSum n x k
+  pub area : Area m a
+
+-- y is x less the inputs of a class
+pub record Less (n first step : ℕ) (x y : List ℤ) : Type 0 where
+  pub is : y ≡ tabulate n (cleared first step (at x))
 
 -- r is what the sums a give at a place that is folded by E
 pub record Place (a : List ℤ) (E : List Part) (B : ℕ) (r : ℤ) : Type 0 where
   pub is : r ≡ folded (at a) E
   pub small : natAbs r ≤ B
 
+-- ---- the whole line: L = 2n + 1 = p * q, p / 2 * q places of the first class, q / 2 of the second, p / 2 of the third
+abbrev pub half : ℕ → ℕ
+half p = p / 2
+
+-- p of n points. 17 is prime: there q is 1, every row is of the third class, and all of its places are summed.
+unfoldable pub outer : ℕ → ℕ
+outer n = cond (eqb n 8) 17 (cond (eqb n 32) 5 3)
+
 -- sums of (q - 1) / 2 places
 pub record Periodic (q : ℕ) (c : List ℤ) : Type 0 where
-  pub odd : q ≡ 2 * length c + 1
+  pub odd : q ≡ 2 * half q + 1
   pub few : q ≤ 32
-  pub sums : Small (length c) 94371840 c
+  pub sums : Area (half q) c
 
 -- what they give at the first n places
 pub record Stretched (n q : ℕ) (c w : List ℤ) : Type 0 where
   pub long : length w ≡ 32
   pub are : (k : ℕ) → k < n → at w k ≡ folded (at c) (periodic q k)
 
--- sums of m places, and a place at most q - 2 past them
-pub record Leading (m q k : ℕ) (a : List ℤ) : Type 0 where
-  pub past : k + 2 ≤ m + q
-  pub few : q ≤ 32
-  pub sums : Small m 94371840 a
-
--- ---- the whole line: L = p * q, (p - 1) / 2 * q places of the first class, (q - 1) / 2 of the second, (p - 1) / 2 of the third
-abbrev pub half : ℕ → ℕ
-half p = (p - 1) / 2
-
-unfoldable pub joinedTwo : ℕ → ℕ → List ℤ → List ℤ → ℕ → ℤ
-joinedTwo p q a c k = folded (at c) (periodic q k) +ℤ folded (at a) (leading p (half p * q) q k)
+-- sums of the first class; past them p is 3 or 5
+pub record Leading (p q : ℕ) (a : List ℤ) : Type 0 where
+  pub few : half p * q ≤ 32
+  pub whole : q ≤ half p * q
+  pub five : (p ≡ 3 → ⊥) → 1 < q → p ≡ 5
+  pub sums : Area (half p * q) a
 
 unfoldable pub joined : ℕ → ℕ → List ℤ → List ℤ → List ℤ → ℕ → ℤ
 joined p q a c d k = folded (at c) (periodic q k) +ℤ (folded (at d) (periodic p k) +ℤ folded (at a) (leading p (half p * q) q k))
 
 -- the sums of the classes, and room for the line
-pub record TwoSums (n m h : ℕ) (a c r : List ℤ) : Type 0 where
-  pub lead : Small m 94371840 a
-  pub second : Small h 94371840 c
-  pub long : length r ≡ n
-
-pub record ThreeSums (n m h g : ℕ) (a c d r : List ℤ) : Type 0 where
-  pub lead : Small m 94371840 a
-  pub second : Small h 94371840 c
-  pub third : Small g 94371840 d
+pub record Classes (n p q : ℕ) (a c d r : List ℤ) : Type 0 where
+  pub few : n ≤ 32
+  pub last : n + 1 ≤ half p * q + q
+  pub lead : Leading p q a
+  pub second : Periodic q c
+  pub third : Periodic p d
   pub long : length r ≡ n

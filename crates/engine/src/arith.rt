@@ -11,14 +11,6 @@ pub fn mac(a: i32, w: i32, v: i32) -> i32
     a + w * v
 }
 
-// The same, of a weight as it is stored.
-pub fn mac_stored(a: i32, w: i16, v: i32) -> i32
-    requires { ⌜ (natAbs a ≤ 1000000000) × ((natAbs w ≤ 90) × (natAbs v ≤ 32768)) ⌝ }
-    ensures { λ r. ⌜ r ≡ a +ℤ w *ℤ v ⌝ }
-{
-    a + (w as i32) * v
-}
-
 pub fn wide(a: i16) -> i32
     ensures { λ r. ⌜ (r ≡ a) × (natAbs r ≤ 32768) ⌝ }
 {

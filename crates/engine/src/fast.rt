@@ -10,22 +10,7 @@ ghost use lib.ListN.{length};
 ghost use Rattle.algebra.specs.Lists.{at, tabulate};
 ghost use Rattle.engine.specs.Dst.{Small};
 ghost use Rattle.engine.specs.Lines.{Given, Inside, input, line};
-ghost use Rattle.engine.specs.Prepared.{turned, alternated, alternates, mirrors, prepared, finished, Loaded};
-
-// Whether every second input changes its sign and the sums are read backwards: all but the inverse DST-VII. DCT-VIII is
-// DST-VII read backwards with alternate signs ("The weights"), and its own transpose.
-fn alternating(kind: u32, forward: bool) -> bool
-    ensures { λ r. ⌜ r ≡ alternates forward kind ⌝ }
-{
-    forward || kind != 1
-}
-
-// Whether the inputs are read backwards too and every second sum changes its sign: the forward DST-VII.
-fn mirrored(kind: u32, forward: bool) -> bool
-    ensures { λ r. ⌜ r ≡ mirrors forward kind ⌝ }
-{
-    forward && kind == 1
-}
+ghost use Rattle.engine.specs.Prepared.{turned, alternated, prepared, finished, Loaded};
 
 // Place k of n, counted from the end where asked.
 fn place(back: bool, n: usize, k: usize) -> usize
@@ -90,26 +75,20 @@ fn load(
     }
 }
 
-// Output j, of the core's sums.
-fn given(r: &[i32], n: usize, alternate: bool, mirror: bool, j: usize) -> i32
-    requires { ⌜ (j < n) × Small n 1000000000 (now r) ⌝ }
-    ensures { λ v. ⌜ v ≡ finished alternate mirror n (at (now (r .entry))) j ⌝ }
-{
-    sign(mirror, j, r[place(alternate, n, j)])
-}
-
 fn store(r: &[i32], n: usize, alternate: bool, mirror: bool, z: &mut [i32])
     requires { ⌜ (length (now z) ≡ n) × Small n 1000000000 (now r) ⌝ }
     ensures { λ _. ⌜ now (z .exit) ≡ tabulate n (finished alternate mirror n (at (now (r .entry)))) ⌝ }
 {
     let mut j = 0;
     while j < n {
-        z[j] = given(r, n, alternate, mirror, j);
+        z[j] = sign(mirror, j, r[place(alternate, n, j)]);
         j += 1;
     }
 }
 
-// The line, given two work areas of n numbers.
+// The line, given two work areas of n numbers. All lines but the inverse DST-VII take every second input with its sign
+// changed and hand the sums out backwards: DCT-VIII is DST-VII read so ("The weights"), and its own transpose. The forward
+// DST-VII also takes the inputs backwards and changes the sign of every second sum.
 fn worked(
     t: &[i16],
     n: usize,
@@ -126,8 +105,8 @@ fn worked(
     requires { ⌜ ((length (now a) ≡ n) × (length (now r) ≡ n)) × Given n kind forward count from step (now t) (now s) (now z) ⌝ }
     ensures { λ _. ⌜ now (z .exit) ≡ line forward kind n count (input (now (s .entry)) from step) ⌝ }
 {
-    let alternate = alternating(kind, forward);
-    let mirror = mirrored(kind, forward);
+    let alternate = forward | (kind != 1);
+    let mirror = forward & (kind == 1);
     load(s, from, step, n, count, alternate, mirror, a);
     dst(t, n, a, r);
     store(r, n, alternate, mirror, z);

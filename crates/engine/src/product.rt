@@ -9,9 +9,10 @@ ghost use Rattle.meaning.specs.Weights.{S, weight};
 ghost use Rattle.meaning.specs.Shape.{isKind};
 ghost use Rattle.engine.specs.Lines.{Spot, Inside, Given, input, line};
 ghost use Rattle.tables.specs.Table.{Table};
-ghost use Rattle.engine.specs.Product.{term, lineSum};
+ghost use Rattle.meaning.specs.Line.{term};
+ghost use Rattle.engine.specs.Product.{lineSum};
 
-fn stored(t: &[i16], n: usize, i: usize, j: usize) -> i32
+pub fn stored(t: &[i16], n: usize, i: usize, j: usize) -> i32
     requires { ⌜ Spot n i j (now t) ⌝ }
     ensures { λ r. ⌜ r ≡ S n i j ⌝ }
 {

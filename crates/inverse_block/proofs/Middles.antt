@@ -1,45 +1,49 @@
--- The vertical stage: a column that a loop writes, the rails that it counts, and the middle values column by column.
--- Assumes nothing.
+-- The vertical stage: a stretch of output y of every kept column, its middle values, and the rails row by row. Assumes nothing.
 use mathlib.Core.Path.{_≡_, refl, sym, ap, _∙_, subst}
 use mathlib.Core.Bool.{Bool, true, false}
 use mathlib.Core.List.{List}
-use Prim.Native.Nat.{ℕ, _+_, _*_, _≤_, _<_}
+use Prim.Native.Nat.{ℕ, zero, suc, _+_, _*_, _≤_, _<_, min}
 use native.Mathlib.Omega.{arith}
-use native.Mathlib.Nat.{mul-comm, not-suc-le-zero}
-use native.Mathlib.Decide.{ℕ-discrete}
-use borrow.Author.Tests.{lt-ltb, le-ltb}
-use lib.IntN.{ℤ, pos}
-use lib.ListN.{length, set, length-set}
-use lib.Seq.{getD-set-same, getD-set-other}
+use native.Mathlib.Nat.{mul-comm}
+use borrow.Author.Tests.{lt-ltb}
+use lib.IntN.{ℤ, natAbs}
+use lib.ListN.{length}
 use Rattle.algebra.specs.Sum.{sumℕ}
-use Rattle.algebra.specs.Lists.{at}
-use Rattle.algebra.proofs.Lists.{row-in, tab-at, tab-length, same-column, block-ext}
+use Rattle.algebra.specs.Lists.{at, tabulate}
+use Rattle.algebra.proofs.Lists.{place-in, tab-cong, block-at, block-length, every-place}
 use Rattle.algebra.proofs.Sum.{sumℕ-next, sumℕ-mono, sumℕ-const, sumℕ-cong}
 use Rattle.meaning.specs.declared.Shape.{Shape}
-use Rattle.meaning.specs.Shape.{keptColumns, keptRows, range}
-use Rattle.meaning.specs.Line.{inverseSum, inverseLine}
-use Rattle.meaning.specs.Inverse.{columnSum, rounded, middle, middleAt, middles, railed, count, rails}
-use Rattle.inverse_block.specs.Stages.{short, Column, railsOf}
-use Rattle.inverse_block.proofs.Tests.{below-or}
+use Rattle.meaning.specs.Shape.{isSize, keptColumns, keptRows, range}
+use Rattle.meaning.specs.Line.{inverseSum}
+use Rattle.meaning.specs.Inverse.{columnSum, rounded, middle, middleAt, railed, count, rails}
+use Rattle.meaning.proofs.Cases.{size-cases}
+use Rattle.meaning.proofs.Taken.{Taken}
+use Rattle.meaning.proofs.Small.{NoneAbove, within-places}
+use Rattle.meaning.proofs.Stages.{columns-in, rows-in, middle-in}
+use Rattle.row_sums.specs.Sums.{rowSum, Rows}
+use Rattle.row_sums.proofs.Lines.{down-given, down-sum}
+use Rattle.inverse_block.specs.Stages.{short, railsOf, Vertical, keptMiddles}
 
--- ---- a column that a loop writes
-pub column-none : (w x : ℕ) (f : ℕ → ℤ) (m : List ℤ) → Column w x 0 f m m
-column-none w x f m = record { long = refl; done = λ y h. absurd (not-suc-le-zero h); other = λ k n. refl }
+-- ---- what is kept of a size is a size
+kept-size : (n : ℕ) → isSize n ≡ true → isSize (min n 16) ≡ true
+unfolding isSize
+kept-size = size-cases (λ n. isSize (min n 16) ≡ true) refl refl refl refl
 
-pub column-next : {w x y : ℕ} {f : ℕ → ℤ} {m₀ m : List ℤ} (z : ℤ) → 0 < w → x + y * w < length m₀ → Column w x y f m₀ m → z ≡ f y
-    → Column w x (y + 1) f m₀ (set m (x + y * w) z)
-column-next {w} {x} {y} {f} {m₀} {m} z s l p e =
-    record {
-      long = length-set m (x + y * w) z ∙ p .long;
-      done = λ i h. one i h (ℕ-discrete i y);
-      other = λ k n. getD-set-other m (x + y * w) k z (pos 0) (λ q. n y (omega arith) q) ∙ p .other k (λ i h. n i (omega arith));
-    }
-  where
-    one : (i : ℕ) → i < y + 1 → Dec (i ≡ y) → at (set m (x + y * w) z) (x + i * w) ≡ f i
-    one i h (yes q) = subst (λ (i : ℕ). at (set m (x + y * w) z) (x + i * w) ≡ f i) (sym q) (getD-set-same m (x + y * w) z (pos 0) (omega (arith, p .long)) ∙ e)
-    one i h (no n) =
-        let b : i < y = omega arith in
-        getD-set-other m (x + y * w) (x + i * w) z (pos 0) (λ q. omega (arith, row-in w b)) ∙ p .done i b
+kept-some : (n : ℕ) → isSize n ≡ true → (0 < min n 16) × (min n 16 ≤ 16)
+kept-some = size-cases (λ n. (0 < min n 16) × (min n 16 ≤ 16)) (omega arith, omega arith) (omega arith, omega arith) (omega arith, omega arith) (omega arith, omega arith)
+
+module _ (sh : Shape) (t : Taken sh) where
+  pub columns-size : isSize (keptColumns sh) ≡ true
+  unfolding keptColumns
+  columns-size = kept-size (sh .width) (t .width)
+
+  pub columns-some : (0 < keptColumns sh) × (keptColumns sh ≤ 16)
+  unfolding keptColumns
+  columns-some = kept-some (sh .width) (t .width)
+
+  pub rows-some : (0 < keptRows sh) × (keptRows sh ≤ 16)
+  unfolding keptRows
+  rows-some = kept-some (sh .height) (t .height)
 
 -- ---- rails
 pub rails-none : (e : ℕ → ℤ) → railsOf 0 e ≡ 0
@@ -66,78 +70,79 @@ rails-cong h e f p =
     let g : ℤ → ℕ = λ z. count (railed short (rounded z) (middle short z)) in
     sumℕ-cong h (λ y. g (e y)) (λ y. g (f y)) (λ y l. ap g (p y l))
 
-pub column-cong : {w x h : ℕ} {f g : ℕ → ℤ} {m₀ m : List ℤ} → ((y : ℕ) → y < h → f y ≡ g y) → Column w x h f m₀ m → Column w x h g m₀ m
-column-cong e p = record { long = p .long; done = λ y h. p .done y h ∙ e y h; other = p .other }
+-- a count by rows is the count by columns
+sum-both : (n : ℕ) (f g : ℕ → ℕ) → sumℕ n (λ i. f i + g i) ≡ sumℕ n f + sumℕ n g
+unfolding sumℕ
+sum-both zero f g = refl
+sum-both (suc n) f g = omega (arith, sum-both n f g)
 
--- ---- a line's sums, one by one
-pub sums-at : (kind n count : ℕ) (x : ℕ → ℤ) (y : ℕ) → y < n → at (inverseLine kind n count x) y ≡ inverseSum kind n count x y
-unfolding inverseLine
-sums-at kind n count x y h = tab-at n (inverseSum kind n count x) y h
-
-pub sums-long : (kind n count : ℕ) (x : ℕ → ℤ) → length (inverseLine kind n count x) ≡ n
-unfolding inverseLine
-sums-long kind n count x = tab-length n (inverseSum kind n count x)
+sum-turned : (m n : ℕ) (f : ℕ → ℕ → ℕ) → sumℕ m (λ i. sumℕ n (f i)) ≡ sumℕ n (λ j. sumℕ m (λ i. f i j))
+unfolding sumℕ
+sum-turned zero n f = sym (none n)
+  where
+    none : (n : ℕ) → sumℕ n (λ j. 0) ≡ 0
+    none zero = refl
+    none (suc n) = omega (arith, none n)
+sum-turned (suc m) n f = ap (λ (k : ℕ). k + sumℕ n (f m)) (sum-turned m n f) ∙ sym (sum-both n (λ j. sumℕ m (λ i. f i j)) (f m))
 
 module _ (sh : Shape) (c : List ℤ) where
-  -- the vertical line of column x, over as many rows as are kept
-  abbrev pub columnLine : ℕ → ℕ → List ℤ
-  columnLine count x = inverseLine (sh .vertical) (sh .height) count (λ i. at c (x + i * sh .width))
+  -- ---- output y of every kept column
+  module _ {u : List ℤ} (p : Vertical sh u c) (y : ℕ) (h : y < sh .height) where
+    inside : (i j : ℕ) → i < keptRows sh → j < keptColumns sh → i * sh .width + j < length c
+    inside i j g l =
+        omega (
+          arith,
+          p .block .long,
+          mul-comm (sh .width) (sh .height),
+          columns-in sh,
+          rows-in sh,
+          place-in {x = j} {y = i} {w = sh .width} {h = sh .height} (omega (arith, columns-in sh)) (omega (arith, rows-in sh)),
+        )
 
-  pub column-sums : {e : List ℤ} {count : ℕ} (x : ℕ) → count ≡ keptRows sh → e ≡ columnLine count x → (y : ℕ) → y < sh .height → at e y ≡ columnSum sh c x y
-  unfolding columnSum
-  column-sums {count = count} x k p y h =
-      ap (λ (l : List ℤ). at l y) p ∙ sums-at (sh .vertical) (sh .height) count (λ i. at c (x + i * sh .width)) y h
-      ∙ ap (λ (n : ℕ). inverseSum (sh .vertical) (sh .height) n (λ i. at c (x + i * sh .width)) y) k
+    pub vertical-given : Rows (keptColumns sh) c 0 (sh .width) u y (sh .height) (keptRows sh)
+    vertical-given =
+        let k = rows-some sh (p .block .taken) in
+        down-given false (sh .vertical) (sh .height) (keptRows sh) (p .weights) c (sh .width) (keptColumns sh) y h (k .0) (omega arith) inside (λ i j _ _. p .block .small (i * sh .width + j))
+
+    pub column-sums : tabulate (keptColumns sh) (rowSum c 0 (sh .width) u y (sh .height) (keptRows sh)) ≡ tabulate (keptColumns sh) (λ x. columnSum sh c x y)
+    unfolding columnSum inverseSum
+    column-sums =
+        tab-cong (keptColumns sh) _ _ (λ x l. down-sum false (sh .vertical) (sh .height) (keptRows sh) (p .weights) c (sh .width) (keptColumns sh) y h x)
 
   pub middle-kept : (x y : ℕ) → x < keptColumns sh → middle short (columnSum sh c x y) ≡ middleAt sh c x y
   unfolding middleAt range
   middle-kept x y h = rw (lt-ltb x (keptColumns sh) h)
 
-  pub middle-dropped : (x y : ℕ) → keptColumns sh ≤ x → pos 0 ≡ middleAt sh c x y
-  unfolding middleAt
-  middle-dropped x y h = rw (le-ltb x (keptColumns sh) h)
+  -- ---- rails, row by row
+  abbrev pub rowRails : ℕ → ℕ
+  rowRails y = railsOf (keptColumns sh) (λ x. columnSum sh c x y)
 
-  -- ---- columns below x are made, the others are still 0
-  pub record Grid (x : ℕ) (m : List ℤ) : Type 0 where
-    pub long : length m ≡ sh .width * sh .height
-    pub made : (i y : ℕ) → i < x → y < sh .height → at m (i + y * sh .width) ≡ middleAt sh c i y
-    pub rest : (i y : ℕ) → x ≤ i → i < sh .width → y < sh .height → at m (i + y * sh .width) ≡ pos 0
-
-  pub grid-none : {m : List ℤ} → length m ≡ sh .width * sh .height → ((k : ℕ) → at m k ≡ pos 0) → Grid 0 m
-  grid-none l z = record { long = l; made = λ i y h _. absurd (not-suc-le-zero h); rest = λ i y _ _ _. z (i + y * sh .width) }
-
-  pub grid-next : {x : ℕ} {m n : List ℤ} → x < sh .width → Grid x m → Column (sh .width) x (sh .height) (middleAt sh c x) m n → Grid (x + 1) n
-  grid-next {x} {m} {n} l g p =
-      record {
-        long = p .long ∙ g .long;
-        made = λ i y h v. one i y h v (ℕ-discrete i x);
-        rest = λ i y h w v. same i y w (λ e. omega arith) ∙ g .rest i y (omega arith) w v;
-      }
-    where
-      same : (i y : ℕ) → i < sh .width → (i ≡ x → ⊥) → at n (i + y * sh .width) ≡ at m (i + y * sh .width)
-      same i y w d = p .other (i + y * sh .width) (λ y′ h e. d (same-column y y′ w l e))
-
-      one : (i y : ℕ) → i < x + 1 → y < sh .height → Dec (i ≡ x) → at n (i + y * sh .width) ≡ middleAt sh c i y
-      one i y h v (yes e) = subst (λ (i : ℕ). at n (i + y * sh .width) ≡ middleAt sh c i y) (sym e) (p .done y v)
-      one i y h v (no d) = same i y (omega arith) d ∙ g .made i y (omega arith) v
-
-  pub grid-all : {m : List ℤ} → Grid (keptColumns sh) m → m ≡ middles sh c
-  unfolding middles
-  grid-all {m} g =
-      block-ext (sh .width) (sh .height) (middleAt sh c) m (g .long ∙ mul-comm (sh .width) (sh .height))
-      (λ x y w v. below-or x (keptColumns sh) (λ h. g .made x y h v) (λ h. g .rest x y h w v ∙ middle-dropped x y h))
-
-  -- ---- rails, column by column
-  pub rails-all : sumℕ (keptColumns sh) (λ x. railsOf (sh .height) (columnSum sh c x)) ≡ rails sh c
+  pub rails-all : sumℕ (sh .height) rowRails ≡ rails sh c
   unfolding rails railsOf range
   rails-all =
-      sumℕ-cong (keptColumns sh) _ _
+      sum-turned (sh .height) (keptColumns sh) (λ y x. count (railed short (rounded (columnSum sh c x y)) (middle short (columnSum sh c x y))))
+      ∙ sumℕ-cong (keptColumns sh) _ _
       (λ x h. sumℕ-cong (sh .height) _ _ (λ y _. ap (λ (z : ℤ). count (railed short (rounded (columnSum sh c x y)) z)) (middle-kept x y h)))
 
-  pub rails-few : (x : ℕ) → sh .height ≤ 32 → sumℕ x (λ x. railsOf (sh .height) (columnSum sh c x)) ≤ x * 32
-  rails-few x h =
-      omega (arith, sumℕ-mono x (λ x. railsOf (sh .height) (columnSum sh c x)) (λ x. 32) (λ x _. omega (arith, rails-in (sh .height) (columnSum sh c x))), sumℕ-const x 32)
+  pub rails-few : (y : ℕ) → keptColumns sh ≤ 32 → sumℕ y rowRails ≤ y * 32
+  rails-few y h =
+      omega (arith, sumℕ-mono y rowRails (λ y. 32) (λ y _. omega (arith, rails-in (keptColumns sh) (λ x. columnSum sh c x y))), sumℕ-const y 32)
 
-  pub no-columns : sumℕ 0 (λ x. railsOf (sh .height) (columnSum sh c x)) ≡ 0
+  pub no-rows : sumℕ 0 rowRails ≡ 0
   unfolding sumℕ
-  no-columns = refl
+  no-rows = refl
+
+  -- ---- what stands between the stages
+  pub middles-long : length (keptMiddles sh c) ≡ sh .height * keptColumns sh
+  unfolding keptMiddles
+  middles-long = block-length (keptColumns sh) (sh .height) (middleAt sh c)
+
+  pub middles-at : (x y : ℕ) → x < keptColumns sh → y < sh .height → at (keptMiddles sh c) (x + y * keptColumns sh) ≡ middleAt sh c x y
+  unfolding keptMiddles
+  middles-at x y h v = block-at (keptColumns sh) (sh .height) (middleAt sh c) x y h v
+
+  pub middles-in : NoneAbove 32768 (keptMiddles sh c)
+  middles-in =
+      within-places 32768 (keptMiddles sh c)
+      (λ k l. every-place (keptColumns sh) (sh .height) (λ k. natAbs (at (keptMiddles sh c) k) ≤ 32768)
+      (λ x y h v. subst (λ (z : ℤ). natAbs z ≤ 32768) (sym (middles-at x y h v)) (middle-in sh c x y)) k (omega (arith, middles-long)))

@@ -1,10 +1,17 @@
 -- Tests of numbers, by what they say. Assumes nothing.
-use mathlib.Core.Path.{_≡_, refl}
-use mathlib.Core.Bool.{Bool, true, false, not}
-use Prim.Native.Nat.{ℕ, _≤_, _<_}
+use mathlib.Core.Path.{_≡_, refl, _∙_}
+use mathlib.Core.Bool.{Bool, true, false, not, _&&_}
+use mathlib.Core.List.{List}
+use Prim.Native.Nat.{ℕ, zero, suc, _+_, _≤_, _<_}
 use native.Mathlib.Omega.{arith}
-use borrow.Author.Tests.{ltb-true, ltb-false, le-leb, lt-leb}
-use lib.Dec.{ltb, leb}
+use borrow.Author.Tests.{ltb-true, ltb-false, lt-ltb, le-leb, lt-leb}
+use lib.Dec.{eqb, ltb, leb}
+use lib.IntN.{ℤ, natAbs}
+use lib.ListN.{length, drop}
+use Rattle.algebra.specs.Lists.{at}
+use Rattle.algebra.specs.First.{firstAt}
+use Rattle.algebra.proofs.First.{first-on}
+use Rattle.inverse_block.specs.Stages.{outsideAt}
 
 pub never : false ≡ true → ⊥
 never h = let z : _≡_ {A = ℕ} 0 1 = cc in omega arith
@@ -22,3 +29,21 @@ below-or a b {P} f g = go (ltb a b) refl
     go : (t : Bool) → ltb a b ≡ t → P
     go true e = f (ltb-true a b e)
     go false e = g (ltb-false a b e)
+
+-- ---- places that a hunt need not look at
+pub skip : (p : ℕ → ℤ → Bool) (l : List ℤ) (k n : ℕ) → k + n ≤ length l → ((i : ℕ) → i < n → p (k + i) (at l (k + i)) ≡ false)
+    → firstAt p k (drop k l) ≡ firstAt p (k + n) (drop (k + n) l)
+skip p l k zero h f =
+    let e : k + 0 ≡ k = omega arith in
+    rw e
+skip p l k (suc n) h f =
+    let e : k + n + 1 ≡ k + suc n = omega arith in
+    skip p l k n (omega arith) (λ i g. f i (omega arith)) ∙ first-on p l (k + n) (omega arith) (f n (omega arith)) ∙ rw e
+
+-- what is kept is not outside
+pub kept-not : (columns rows x y : ℕ) (z : ℤ) → x < columns → y < rows → outsideAt columns rows x y z ≡ false
+kept-not columns rows x y z h g = rw (lt-ltb x columns h, lt-ltb y rows g) (no (not (eqb (natAbs z) 0)))
+  where
+    no : (b : Bool) → b && false ≡ false
+    no true = refl
+    no false = refl

@@ -1,24 +1,24 @@
-// The work behind `block::inverse`: the hunt for refusal 8, then columns into middle values, then rows into residuals.
-use engine::fast::fast;
+// The work behind `block::inverse`: the hunt for refusal 8, then columns into middle values, then rows into residuals. Between
+// the stages stand the kept columns alone, row by row.
 use meaning::Shape;
 use meaning::kept_columns;
 use meaning::kept_rows;
-use tables::weights_4;
-use tables::weights_8;
-use tables::weights_16;
-use tables::weights_32;
+use row_sums::factors::factors;
+use row_sums::sums::row_sums;
 ghost use mathlib.Core.Path.{_≡_};
+ghost use mathlib.Core.Bool.{cond};
 ghost use Prim.Native.Nat.{ℕ, _≤_, _<_, _*_, min};
+ghost use lib.Dec.{ltb};
 ghost use lib.ListN.{length};
 ghost use lib.IntN.{pos, natAbs};
 ghost use Rattle.algebra.specs.Clip.{clip};
 ghost use Rattle.algebra.specs.Shift.{nearest};
 ghost use Rattle.algebra.specs.Lists.{at, tabulate, block};
 ghost use Rattle.meaning.specs.Shape.{keptColumns, keptRows};
-ghost use Rattle.meaning.specs.Inverse.{rounded, middle, railed, count, middleAt, columnSum, middles, rails, inverseBlock, firstOutside};
+ghost use Rattle.meaning.specs.Inverse.{rounded, middle, railed, count, middleAt, columnSum, rails, inverseBlock, firstOutside};
 ghost use Rattle.meaning.proofs.Accepted.{Whole};
 ghost use Rattle.meaning.proofs.Small.{NoneAbove};
-ghost use Rattle.inverse_block.specs.Stages.{outsideAt, short, Column, railsOf, Sums, Vertical, Horizontal, residualOf};
+ghost use Rattle.inverse_block.specs.Stages.{outsideAt, short, railsOf, Sums, Coefficients, Vertical, keptMiddles, Middles, Horizontal, residualOf};
 
 fn outside(n: i16, x: usize, y: usize, columns: usize, rows: usize) -> bool
     ensures { λ r. ⌜ r ≡ outsideAt columns rows x y n ⌝ }
@@ -32,20 +32,38 @@ fn outside(n: i16, x: usize, y: usize, columns: usize, rows: usize) -> bool
     rows <= y
 }
 
-// The place of the first coefficient outside the kept part, row by row, or how many there are. Where the hunt has read
-// them all, it hands on what reading tells of each: a 16-bit number is at most 32768 in size.
+// What reading tells of each coefficient: in 16 bits, a size of at most 32768. The compiler sees that this does nothing.
+fn read(c: &[i16])
+    ensures { λ _. ⌜ NoneAbove 32768 (now (c .entry)) ⌝ }
+{
+    let mut i = 0;
+    while i < c.len() {
+        let z = c[i];
+        i += 1;
+    }
+}
+
+// The first column of row y that can be outside the kept part.
+fn first_column(y: usize, columns: usize, rows: usize) -> usize
+    ensures { λ r. ⌜ r ≡ cond (ltb y rows) columns 0 ⌝ }
+{
+    if y < rows { columns } else { 0 }
+}
+
+// The place of the first coefficient outside the kept part, row by row, or how many there are.
 pub fn hunt(shape: Shape, c: &[i16]) -> usize
     requires { ⌜ length (now c) ≡ shape .width * shape .height ⌝ }
-    ensures { λ r. ⌜ (r ≡ firstOutside shape (now (c .entry))) × (length (now (c .entry)) ≤ r → NoneAbove 32768 (now (c .entry))) ⌝ }
+    ensures { λ r. ⌜ (r ≡ firstOutside shape (now (c .entry))) × NoneAbove 32768 (now (c .entry)) ⌝ }
 {
     let w = shape.width as usize;
     let h = shape.height as usize;
     let columns = kept_columns(shape);
     let rows = kept_rows(shape);
+    read(c);
     let mut place = c.len();
     let mut y = 0;
     'hunt: while y < h {
-        let mut x = 0;
+        let mut x = first_column(y, columns, rows);
         while x < w {
             let at = x + y * w;
             if outside(c[at], x, y, columns, rows) {
@@ -93,68 +111,61 @@ fn rail(v: i16) -> u32
     0
 }
 
-// Column x of the middle values, from its sums; hands back how many stand at an end.
-fn settle(e: &[i32], x: usize, w: usize, m: &mut [i16]) -> u32
-    requires { ⌜ Sums w x (now e) (now m) ⌝ }
-    ensures { λ r. ⌜ Column w x (length (now (e .entry))) (λ y. middle short (at (now (e .entry)) y)) (now (m .entry)) (now (m .exit)) × (r ≡ railsOf (length (now (e .entry))) (at (now (e .entry)))) ⌝ }
+// A stretch of middle values, from its sums; hands back how many stand at an end.
+fn settle(e: &[i32], m: &mut [i16]) -> u32
+    requires { ⌜ Sums (now e) (now m) ⌝ }
+    ensures { λ r. ⌜ (now (m .exit) ≡ tabulate (length (now (e .entry))) (λ x. middle short (at (now (e .entry)) x))) × (r ≡ railsOf (length (now (e .entry))) (at (now (e .entry)))) ⌝ }
 {
-    let mut rails: u32 = 0;
-    let mut y = 0;
-    while y < e.len() {
-        let v = clip16(round7(e[y]));
-        rails += rail(v);
-        m[x + y * w] = v;
-        y += 1;
-    }
-    rails
-}
-
-// "Each kept column goes through the vertical line over its kept rows".
-fn column(t: &[i16], shape: Shape, c: &[i16], x: usize, e: &mut [i32], m: &mut [i16]) -> u32
-    requires { ⌜ Vertical shape (now t) (now c) (now e) (now m) × (x < keptColumns shape) ⌝ }
-    ensures { λ r. ⌜ Column (shape .width) x (shape .height) (middleAt shape (now (c .entry)) x) (now (m .entry)) (now (m .exit)) × (r ≡ railsOf (shape .height) (columnSum shape (now (c .entry)) x)) ⌝ }
-{
-    let w = shape.width as usize;
-    let h = shape.height as usize;
-    fast(t, h, shape.vertical, false, c, x, w, kept_rows(shape), e);
-    settle(e, x, w, m)
-}
-
-// All kept columns. The other middle values stay 0.
-fn columns(t: &[i16], shape: Shape, c: &[i16], e: &mut [i32], m: &mut [i16]) -> u32
-    requires { ⌜ Vertical shape (now t) (now c) (now e) (now m) × ((k : ℕ) → at (now m) k ≡ pos 0) ⌝ }
-    ensures { λ r. ⌜ (now (m .exit) ≡ middles shape (now (c .entry))) × (r ≡ rails shape (now (c .entry))) ⌝ }
-{
-    let last = kept_columns(shape);
     let mut rails: u32 = 0;
     let mut x = 0;
-    while x < last {
-        rails += column(t, shape, c, x, e, m);
+    while x < e.len() {
+        let v = clip16(round7(e[x]));
+        rails += rail(v);
+        m[x] = v;
         x += 1;
     }
     rails
 }
 
-// The vertical stage, on the table of the height.
-fn vertical(shape: Shape, c: &[i16], e: &mut [i32], m: &mut [i16]) -> u32
-    requires { ⌜ Whole shape (now c) (now m) × (NoneAbove 32768 (now c) × ((length (now e) ≡ shape .height) × ((k : ℕ) → at (now m) k ≡ pos 0))) ⌝ }
-    ensures { λ r. ⌜ (now (m .exit) ≡ middles shape (now (c .entry))) × (r ≡ rails shape (now (c .entry))) ⌝ }
+// "Each kept column goes through the vertical line over its kept rows": output y of every kept column.
+fn middle_row(u: &[i16], shape: Shape, c: &[i16], y: usize, part: &mut [i16]) -> u32
+    requires { ⌜ Vertical shape (now u) (now c) × ((y < shape .height) × (length (now part) ≡ keptColumns shape)) ⌝ }
+    ensures { λ r. ⌜ (now (part .exit) ≡ tabulate (keptColumns shape) (λ x. middleAt shape (now (c .entry)) x y)) × (r ≡ railsOf (keptColumns shape) (λ x. columnSum shape (now (c .entry)) x y)) ⌝ }
 {
-    let h = shape.height;
-    if h == 4 {
-        let t = weights_4();
-        return columns(&t, shape, c, e, m);
+    let w = shape.width as usize;
+    let h = shape.height as usize;
+    let n = part.len();
+    let mut e = [0i32; 32];
+    row_sums(c, 0, w, u, y, h, kept_rows(shape), &mut e[0..n]);
+    settle(&e[0..n], part)
+}
+
+// All rows, each into its own stretch.
+fn middle_rows(u: &[i16], shape: Shape, c: &[i16], m: &mut [i16]) -> u32
+    requires { ⌜ Vertical shape (now u) (now c) × (length (now m) ≡ shape .height * keptColumns shape) ⌝ }
+    ensures { λ r. ⌜ (now (m .exit) ≡ keptMiddles shape (now (c .entry))) × (r ≡ rails shape (now (c .entry))) ⌝ }
+{
+    let n = kept_columns(shape);
+    let h = shape.height as usize;
+    let mut rails: u32 = 0;
+    let mut y = 0;
+    while y < h {
+        let a = y * n;
+        let b = a + n;
+        rails += middle_row(u, shape, c, y, &mut m[a..b]);
+        y += 1;
     }
-    if h == 8 {
-        let t = weights_8();
-        return columns(&t, shape, c, e, m);
-    }
-    if h == 16 {
-        let t = weights_16();
-        return columns(&t, shape, c, e, m);
-    }
-    let t = weights_32();
-    columns(&t, shape, c, e, m)
+    rails
+}
+
+// The vertical stage.
+fn vertical(shape: Shape, c: &[i16], u: &mut [i16], m: &mut [i16]) -> u32
+    requires { ⌜ Coefficients shape (now c) × ((length (now u) ≡ keptRows shape * shape .height) × (length (now m) ≡ shape .height * keptColumns shape)) ⌝ }
+    ensures { λ r. ⌜ (now (m .exit) ≡ keptMiddles shape (now (c .entry))) × (r ≡ rails shape (now (c .entry))) ⌝ }
+{
+    let h = shape.height as usize;
+    factors(h, shape.vertical, false, kept_rows(shape), u);
+    middle_rows(u, shape, c, m)
 }
 
 // "(r + 2^(19-d)) >> (20-d)", s being 20-d.
@@ -178,28 +189,19 @@ fn last(part: &mut [i32], s: u32)
 }
 
 // "each row goes through the horizontal line over its kept columns": row y, into its own stretch of the output.
-fn row(t: &[i16], shape: Shape, m: &[i16], y: usize, part: &mut [i32])
-    requires { ⌜ Horizontal shape (now t) (now m) × ((y < shape .height) × (length (now part) ≡ shape .width)) ⌝ }
+fn residual_row(u: &[i16], shape: Shape, m: &[i16], y: usize, part: &mut [i32])
+    requires { ⌜ Horizontal shape (now u) (now m) × ((y < shape .height) × (length (now part) ≡ shape .width)) ⌝ }
     ensures { λ _. ⌜ now (part .exit) ≡ tabulate (shape .width) (λ x. residualOf shape (now (m .entry)) x y) ⌝ }
 {
     let w = shape.width as usize;
-    fast(
-        t,
-        w,
-        shape.horizontal,
-        false,
-        m,
-        y * w,
-        1,
-        kept_columns(shape),
-        part,
-    );
+    let n = kept_columns(shape);
+    row_sums(u, 0, w, m, y * n, 1, n, part);
     last(part, 20 - shape.depth)
 }
 
 // "Each line of residuals is written into its own stretch of the output".
-fn rows(t: &[i16], shape: Shape, m: &[i16], residuals: &mut [i32])
-    requires { ⌜ Horizontal shape (now t) (now m) × (length (now residuals) ≡ shape .width * shape .height) ⌝ }
+fn residual_rows(u: &[i16], shape: Shape, m: &[i16], residuals: &mut [i32])
+    requires { ⌜ Horizontal shape (now u) (now m) × (length (now residuals) ≡ shape .width * shape .height) ⌝ }
     ensures { λ _. ⌜ now (residuals .exit) ≡ block (shape .width) (shape .height) (residualOf shape (now (m .entry))) ⌝ }
 {
     let w = shape.width as usize;
@@ -208,53 +210,35 @@ fn rows(t: &[i16], shape: Shape, m: &[i16], residuals: &mut [i32])
     while y < h {
         let a = y * w;
         let b = a + w;
-        row(t, shape, m, y, &mut residuals[a..b]);
+        residual_row(u, shape, m, y, &mut residuals[a..b]);
         y += 1;
     }
 }
 
-// The horizontal stage, on the table of the width.
-fn horizontal(shape: Shape, m: &[i16], residuals: &mut [i32])
-    requires { ⌜ Whole shape (now m) (now residuals) × NoneAbove 32768 (now m) ⌝ }
+// The horizontal stage.
+fn horizontal(shape: Shape, m: &[i16], u: &mut [i16], residuals: &mut [i32])
+    requires { ⌜ Middles shape (now m) × ((length (now u) ≡ keptColumns shape * shape .width) × (length (now residuals) ≡ shape .width * shape .height)) ⌝ }
     ensures { λ _. ⌜ now (residuals .exit) ≡ block (shape .width) (shape .height) (residualOf shape (now (m .entry))) ⌝ }
 {
-    let w = shape.width;
-    if w == 4 {
-        let t = weights_4();
-        rows(&t, shape, m, residuals);
-        return;
-    }
-    if w == 8 {
-        let t = weights_8();
-        rows(&t, shape, m, residuals);
-        return;
-    }
-    if w == 16 {
-        let t = weights_16();
-        rows(&t, shape, m, residuals);
-        return;
-    }
-    let t = weights_32();
-    rows(&t, shape, m, residuals)
+    let w = shape.width as usize;
+    factors(w, shape.horizontal, false, kept_columns(shape), u);
+    residual_rows(u, shape, m, residuals)
 }
 
-// Room for the middle values of the largest block.
-fn zeros() -> [i16; 1024]
-    ensures { λ r. ⌜ (length r ≡ 1024) × ((k : ℕ) → at r k ≡ pos 0) ⌝ }
-{
-    [0; 1024]
-}
-
-// Both stages of a block that no test refuses; hands back the rail count.
+// Both stages of a block that no test refuses; hands back the rail count. No more than 16 columns and 16 rows are kept, of 32.
 pub fn stages(shape: Shape, c: &[i16], residuals: &mut [i32]) -> u32
     requires { ⌜ Whole shape (now c) (now residuals) × NoneAbove 32768 (now c) ⌝ }
     ensures { λ r. ⌜ (r ≡ rails shape (now (c .entry))) × (now (residuals .exit) ≡ inverseBlock shape (now (c .entry))) ⌝ }
 {
-    let mut e = [0i32; 32];
-    let mut m = zeros();
+    let w = shape.width as usize;
     let h = shape.height as usize;
-    let area = c.len();
-    let rails = vertical(shape, c, &mut e[0..h], &mut m[0..area]);
-    horizontal(shape, &m[0..area], residuals);
+    let n = kept_columns(shape);
+    let down = kept_rows(shape) * h;
+    let along = n * w;
+    let area = h * n;
+    let mut u = [0i16; 512];
+    let mut m = [0i16; 512];
+    let rails = vertical(shape, c, &mut u[0..down], &mut m[0..area]);
+    horizontal(shape, &m[0..area], &mut u[0..along], residuals);
     rails
 }

@@ -7,10 +7,11 @@ ghost use mathlib.Core.Path.{_≡_};
 ghost use mathlib.Core.Bool.{true};
 ghost use Prim.Native.Nat.{_*_, _<_, _≤_};
 ghost use lib.ListN.{length};
-ghost use Rattle.algebra.specs.Lists.{tabulate, block};
+ghost use Rattle.algebra.specs.Lists.{tabulate};
 ghost use Rattle.meaning.specs.Weights.{weight};
 ghost use Rattle.meaning.specs.Line.{term};
 ghost use Rattle.meaning.specs.Shape.{isSize, isKind};
+ghost use Rattle.row_sums.specs.Factors.{laid};
 ghost use Rattle.tables.specs.Table.{Table};
 
 // "DCT-VIII: C[i][j] = (-1)^i * S[i][N-1-j]": no weight is larger than 90, so its sign can change in 16 bits.
@@ -49,7 +50,7 @@ fn factor_row(t: &[i16], n: usize, kind: u32, forward: bool, i: usize, part: &mu
 
 fn factor_rows(t: &[i16], n: usize, kind: u32, forward: bool, count: usize, u: &mut [i16])
     requires { ⌜ (isKind kind ≡ true) × ((count ≤ n) × (Table n (now t) × (length (now u) ≡ count * n))) ⌝ }
-    ensures { λ _. ⌜ now (u .exit) ≡ block n count (λ k i. term forward kind n k i) ⌝ }
+    ensures { λ _. ⌜ now (u .exit) ≡ laid forward kind n count ⌝ }
 {
     let mut i = 0;
     while i < count {
@@ -63,7 +64,7 @@ fn factor_rows(t: &[i16], n: usize, kind: u32, forward: bool, count: usize, u: &
 // The rows of the first `count` inputs.
 pub fn factors(n: usize, kind: u32, forward: bool, count: usize, u: &mut [i16])
     requires { ⌜ (isSize n ≡ true) × ((isKind kind ≡ true) × ((count ≤ n) × (length (now u) ≡ count * n))) ⌝ }
-    ensures { λ _. ⌜ now (u .exit) ≡ block n count (λ k i. term forward kind n k i) ⌝ }
+    ensures { λ _. ⌜ now (u .exit) ≡ laid forward kind n count ⌝ }
 {
     if n == 4 {
         let t = weights_4();

@@ -1,137 +1,34 @@
-// The sums of a class of rows: first, first + step, and so on below n. An input that is 0 adds nothing and is passed over.
-use crate::dst::row::row_1;
-use crate::dst::row::row_2;
-use crate::dst::row::row_3;
-use crate::dst::row::row_5;
-use crate::dst::row::row_6;
-use crate::dst::row::row_8;
-use crate::dst::row::row_11;
-use crate::dst::row::row_26;
-ghost use Rattle.engine.specs.Folded.{Class, Sums, masked};
+// The sums of a class of rows: first, first + step, and so on below n, over the first m places of each row.
+use crate::arith::mac;
+use crate::product::stored;
 ghost use Rattle.algebra.specs.Lists.{at};
+ghost use Rattle.engine.specs.Folded.{Row, Added, Class, Sums, Less, masked};
 
-pub fn front_1(t: &[i16], n: usize, x: &[i32], first: usize, step: usize) -> [i32; 1]
-    requires { ⌜ Class 1 n step (now t) (now x) ⌝ }
-    ensures { λ r. ⌜ Sums 1 n (masked first step (at (now (x .entry)))) r ⌝ }
+// Row i times v, added to the sums.
+fn row(t: &[i16], n: usize, m: usize, i: usize, v: i32, a: &mut [i32; 32])
+    requires { ⌜ Row m n i v (now t) (now a) ⌝ }
+    ensures { λ _. ⌜ Added m n i v (now (a .entry)) (now (a .exit)) ⌝ }
 {
-    let mut a = [0i32; 1];
-    let mut i = first;
-    while i < n {
-        let v = x[i];
-        if v != 0 {
-            row_1(t, n, i, v, &mut a);
-        }
-        i += step;
+    let mut j = 0;
+    while j < m {
+        a[j] = mac(a[j], stored(t, n, i, j), v);
+        j += 1;
     }
-    a
 }
 
-pub fn front_2(t: &[i16], n: usize, x: &[i32], first: usize, step: usize) -> [i32; 2]
-    requires { ⌜ Class 2 n step (now t) (now x) ⌝ }
-    ensures { λ r. ⌜ Sums 2 n (masked first step (at (now (x .entry)))) r ⌝ }
+// An input that is 0 adds nothing and is passed over. Each input that is taken becomes 0, so that the next class need not
+// tell the rows apart.
+pub fn front(t: &[i16], n: usize, m: usize, x: &mut [i32], first: usize, step: usize) -> [i32; 32]
+    requires { ⌜ Class m n step (now t) (now x) ⌝ }
+    ensures { λ r. ⌜ Sums m n (masked first step (at (now (x .entry)))) r × Less n first step (now (x .entry)) (now (x .exit)) ⌝ }
 {
-    let mut a = [0i32; 2];
+    let mut a = [0i32; 32];
     let mut i = first;
     while i < n {
         let v = x[i];
+        x[i] = 0;
         if v != 0 {
-            row_2(t, n, i, v, &mut a);
-        }
-        i += step;
-    }
-    a
-}
-
-pub fn front_3(t: &[i16], n: usize, x: &[i32], first: usize, step: usize) -> [i32; 3]
-    requires { ⌜ Class 3 n step (now t) (now x) ⌝ }
-    ensures { λ r. ⌜ Sums 3 n (masked first step (at (now (x .entry)))) r ⌝ }
-{
-    let mut a = [0i32; 3];
-    let mut i = first;
-    while i < n {
-        let v = x[i];
-        if v != 0 {
-            row_3(t, n, i, v, &mut a);
-        }
-        i += step;
-    }
-    a
-}
-
-pub fn front_5(t: &[i16], n: usize, x: &[i32], first: usize, step: usize) -> [i32; 5]
-    requires { ⌜ Class 5 n step (now t) (now x) ⌝ }
-    ensures { λ r. ⌜ Sums 5 n (masked first step (at (now (x .entry)))) r ⌝ }
-{
-    let mut a = [0i32; 5];
-    let mut i = first;
-    while i < n {
-        let v = x[i];
-        if v != 0 {
-            row_5(t, n, i, v, &mut a);
-        }
-        i += step;
-    }
-    a
-}
-
-pub fn front_6(t: &[i16], n: usize, x: &[i32], first: usize, step: usize) -> [i32; 6]
-    requires { ⌜ Class 6 n step (now t) (now x) ⌝ }
-    ensures { λ r. ⌜ Sums 6 n (masked first step (at (now (x .entry)))) r ⌝ }
-{
-    let mut a = [0i32; 6];
-    let mut i = first;
-    while i < n {
-        let v = x[i];
-        if v != 0 {
-            row_6(t, n, i, v, &mut a);
-        }
-        i += step;
-    }
-    a
-}
-
-pub fn front_8(t: &[i16], n: usize, x: &[i32], first: usize, step: usize) -> [i32; 8]
-    requires { ⌜ Class 8 n step (now t) (now x) ⌝ }
-    ensures { λ r. ⌜ Sums 8 n (masked first step (at (now (x .entry)))) r ⌝ }
-{
-    let mut a = [0i32; 8];
-    let mut i = first;
-    while i < n {
-        let v = x[i];
-        if v != 0 {
-            row_8(t, n, i, v, &mut a);
-        }
-        i += step;
-    }
-    a
-}
-
-pub fn front_11(t: &[i16], n: usize, x: &[i32], first: usize, step: usize) -> [i32; 11]
-    requires { ⌜ Class 11 n step (now t) (now x) ⌝ }
-    ensures { λ r. ⌜ Sums 11 n (masked first step (at (now (x .entry)))) r ⌝ }
-{
-    let mut a = [0i32; 11];
-    let mut i = first;
-    while i < n {
-        let v = x[i];
-        if v != 0 {
-            row_11(t, n, i, v, &mut a);
-        }
-        i += step;
-    }
-    a
-}
-
-pub fn front_26(t: &[i16], n: usize, x: &[i32], first: usize, step: usize) -> [i32; 26]
-    requires { ⌜ Class 26 n step (now t) (now x) ⌝ }
-    ensures { λ r. ⌜ Sums 26 n (masked first step (at (now (x .entry)))) r ⌝ }
-{
-    let mut a = [0i32; 26];
-    let mut i = first;
-    while i < n {
-        let v = x[i];
-        if v != 0 {
-            row_26(t, n, i, v, &mut a);
+            row(t, n, m, i, v, &mut a);
         }
         i += step;
     }

@@ -2,7 +2,7 @@
 use mathlib.Core.Path.{_∙_}
 use lib.IntN.{negℤ, +ℤ-idl}
 use mir.Syntax.{w32}
-use Rattle.algebra.proofs.Machine.{MV, arg≤, lit, sub, sub-fits, val}
+use Rattle.algebra.proofs.Machine.{arg≤, lit, sub, sub-fits, val}
 use Rattle.engine.proofs.arith.negated.Statement.{statement}
 use Rattle.engine.proofs.arith.negated.Tie as tie
 

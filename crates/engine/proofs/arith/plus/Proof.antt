@@ -1,5 +1,4 @@
 -- `arith::plus` meets its contract. Assumes nothing.
-use mir.Syntax.{w32}
 use Rattle.algebra.proofs.Machine.{arg≤, add, add-fits, val}
 use Rattle.engine.proofs.arith.plus.Statement.{statement}
 use Rattle.engine.proofs.arith.plus.Tie as tie

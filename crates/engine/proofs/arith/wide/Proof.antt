@@ -1,10 +1,10 @@
 -- `arith::wide` meets its contract. Assumes nothing.
-use mathlib.Core.Path.{_≡_, sym, subst}
+use mathlib.Core.Path.{sym, subst}
 use Prim.Native.Nat.{_≤_}
 use lib.IntN.{ℤ, natAbs}
-use mir.Syntax.{w16, w32}
+use mir.Syntax.{w32}
 use Rattle.algebra.proofs.Order.{in-fits}
-use Rattle.algebra.proofs.Machine.{MV, arg, cast, cast-fits, val}
+use Rattle.algebra.proofs.Machine.{arg, cast, cast-fits, val}
 use Rattle.engine.proofs.arith.wide.Statement.{statement}
 use Rattle.engine.proofs.arith.wide.Tie as tie
 

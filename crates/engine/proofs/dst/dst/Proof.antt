@@ -1,41 +1,75 @@
--- `dst::dst` meets its contract: each size by its own line. Assumes nothing.
+-- `dst::dst` meets its contract: the law at each size. Assumes nothing.
 use borrow.Author.Needs.{needs}
-use mathlib.Core.Path.{_≡_, refl, sym, ap, _∙_, subst}
-use mathlib.Core.Bool.{true}
+use native.Mathlib.Omega.{arith}
+use mathlib.Core.Path.{_∙_}
 use mathlib.Core.List.{List}
-use Prim.Native.Nat.{ℕ}
+use Prim.Native.Nat.{ℕ, _+_, _*_, _/_, _≤_, _<_}
 use lib.IntN.{ℤ}
-use Rattle.algebra.specs.Lists.{at}
-use Rattle.meaning.specs.Shape.{isSize}
-use Rattle.meaning.proofs.Cases.{size-cases}
-use Rattle.engine.specs.Dst.{Core, dstLine}
+use Rattle.tables.specs.Table.{Table}
+use Rattle.engine.specs.Dst.{Small}
+use Rattle.engine.specs.Folded.{Class}
+use Rattle.engine.proofs.Folding.{Split, split-of, left-small, three}
 use Rattle.engine.proofs.dst.dst.Statement.{statement}
 use Rattle.engine.proofs.dst.dst.Tie as tie
 
--- a size that is none of the others
-last : (n : ℕ) → isSize n ≡ true → (n ≡ 4 → ⊥) → (n ≡ 8 → ⊥) → (n ≡ 16 → ⊥) → n ≡ 32
-last = size-cases (λ n. (n ≡ 4 → ⊥) → (n ≡ 8 → ⊥) → (n ≡ 16 → ⊥) → n ≡ 32) (λ a b c. absurd (a refl)) (λ a b c. absurd (b refl)) (λ a b c. absurd (c refl)) (λ a b c. refl)
+abbrev q : tie.After-outer → ℕ
+q c = (2 * c .before .args .n + 1) / c .outer .result
 
-is-32 : (c : tie.Else3) → c .before .before .before .args .n ≡ 32
-is-32 c = last _ (c .before .before .before .pre .size) (c .before .before .if1 .left) (c .before .if2 .left) (c .if3 .left)
+split : (c : tie.After-outer) → Split (c .before .args .n) (c .outer .result) (q c)
+split c = split-of (c .before .args .n) (c .outer .result) (c .before .pre .size) (c .outer .ensures)
 
-core : {n m : ℕ} {t x r : List ℤ} → n ≡ m → Core n t x r → Core m t x r
-core {t = t} {x = x} {r = r} e p = subst (λ (k : ℕ). Core k t x r) e p
+-- what a loop over a class is given
+given : {m n step : ℕ} {t x : List ℤ} → (m ≤ n) × ((n ≤ 32) × ((0 < step) × (step ≤ 32))) → Table n t → Small n 32768 x → Class m n step t x
+given p t x = record { width = p .0; few = p .1 .0; moves = p .1 .1 .0; near = p .1 .1 .1; table = t; input = x }
 
-same : (x : ℕ → ℤ) {n m : ℕ} {r : List ℤ} → n ≡ m → r ≡ dstLine m x → r ≡ dstLine n x
-same x e p = p ∙ ap (λ (k : ℕ). dstLine k x) (sym e)
+outer-requires : tie.Need-outer-requires
+outer-requires c κs = search needs
 
-dst-4-requires : tie.Need-dst-4-requires
-dst-4-requires c κs = core (c .before .before .if1 .taken) (c .before .before .before .pre)
+mul-q : tie.Need-mul-q
+mul-q c = omega (arith, split c .numbers)
 
-dst-8-requires : tie.Need-dst-8-requires
-dst-8-requires c κs = core (c .before .before .if2 .taken) (c .before .before .before .before .pre)
+add-q : tie.Need-add-q
+add-q c = omega (arith, split c .numbers)
 
-dst-16-requires : tie.Need-dst-16-requires
-dst-16-requires c κs = core (c .before .before .if3 .taken) (c .before .before .before .before .before .pre)
+div-q : tie.Need-div-q
+div-q c = omega (arith, split c .numbers)
 
-dst-32-requires : tie.Need-dst-32-requires
-dst-32-requires c κs = core (is-32 (c .before .before)) (c .before .before .before .before .before .pre)
+front-requires : tie.Need-front-requires
+front-requires c κs =
+    let O = c .before in
+    given (omega (arith, split O .numbers)) (O .before .pre .table) (O .before .pre .input)
+
+front-requires-2 : tie.Need-front-requires-2
+front-requires-2 c κs =
+    let C = c .before .before in
+    let O = C .before .before in
+    given (omega (arith, split O .numbers)) (O .before .pre .table) (left-small (C .front .ensures .1) (O .before .pre .input))
+
+mul-front : tie.Need-mul-front
+mul-front c = omega (arith, split (c .before .before .before .before .before .before) .numbers)
+
+front-requires-3 : tie.Need-front-requires-3
+front-requires-3 c κs =
+    let D = c .before .before in
+    let C = D .before .before .before in
+    let O = C .before .before in
+    given (omega (arith, split O .numbers)) (O .before .pre .table) (left-small (D .front2 .ensures .1) (left-small (C .front .ensures .1) (O .before .pre .input)))
+
+spread-requires : tie.Need-spread-requires
+spread-requires c κs =
+    let A = c .before .before .before .before .before in
+    let D = A .before .before .before in
+    let C = D .before .before .before in
+    let O = C .before .before in
+    let N = split O .numbers in
+    record {
+      few = N .0;
+      last = omega (arith, N);
+      lead = record { few = omega (arith, N); whole = omega (arith, N); five = split O .five; sums = A .front3 .ensures .0 .area };
+      second = record { odd = omega (arith, N); few = omega (arith, N); sums = C .front .ensures .0 .area };
+      third = record { odd = omega (arith, N); few = omega (arith, N); sums = D .front2 .ensures .0 .area };
+      long = O .before .pre .long;
+    }
 
 same-length : tie.Need-same-length
 same-length c = search needs
@@ -44,52 +78,27 @@ same-length-2 : tie.Need-same-length-2
 same-length-2 c = search needs
 
 returns : tie.Need-returns
-returns c = same (at (c .before .before .before .before .before .before .args .x .now)) (c .before .before .before .before .before .if1 .taken) (c .before .before .dst-4 .ensures)
-
-same-length-3 : tie.Need-same-length-3
-same-length-3 c = search needs
-
-same-length-4 : tie.Need-same-length-4
-same-length-4 c = search needs
-
-returns-2 : tie.Need-returns-2
-returns-2 c = same (at (c .before .before .before .before .before .before .before .args .x .now)) (c .before .before .before .before .before .if2 .taken) (c .before .before .dst-8 .ensures)
-
-same-length-5 : tie.Need-same-length-5
-same-length-5 c = search needs
-
-same-length-6 : tie.Need-same-length-6
-same-length-6 c = search needs
-
-returns-3 : tie.Need-returns-3
-returns-3 c = same (at (c .before .before .before .before .before .before .before .before .args .x .now)) (c .before .before .before .before .before .if3 .taken) (c .before .before .dst-16 .ensures)
-
-same-length-7 : tie.Need-same-length-7
-same-length-7 c = search needs
-
-same-length-8 : tie.Need-same-length-8
-same-length-8 c = search needs
-
-returns-4 : tie.Need-returns-4
-returns-4 c = same (at (c .before .before .before .before .before .before .before .before .args .x .now)) (is-32 (c .before .before .before .before .before)) (c .before .before .dst-32 .ensures)
+returns c =
+    let A = c .before .before .before .before .before .before .before in
+    let D = A .before .before .before in
+    let C = D .before .before .before in
+    let O = C .before .before in
+    c .before .spread .ensures
+    ∙ three (O .before .args .n) (O .outer .result) (q O) (split O .test) (C .front .ensures .0) (C .front .ensures .1) (D .front2 .ensures .0) (D .front2 .ensures .1) (A .front3 .ensures .0)
 
 pub dst-spec : {M : Type 1} → statement M
 dst-spec =
     tie.close
     (tie.spec
-    dst-4-requires
-    dst-8-requires
-    dst-16-requires
-    dst-32-requires
+    outer-requires
+    mul-q
+    add-q
+    div-q
+    front-requires
+    front-requires-2
+    mul-front
+    front-requires-3
+    spread-requires
     same-length
     same-length-2
-    returns
-    same-length-3
-    same-length-4
-    returns-2
-    same-length-5
-    same-length-6
-    returns-3
-    same-length-7
-    same-length-8
-    returns-4)
+    returns)

@@ -6,31 +6,31 @@ use Rattle.engine.proofs.fast.fast.Statement.{statement}
 use Rattle.engine.proofs.fast.fast.Tie as tie
 
 sub-worked : tie.Need-sub-worked
-sub-worked c = search needs
+sub-worked c = omega arith
 
 part-a-start : tie.Need-part-a-start
-part-a-start c = search needs
+part-a-start c = omega arith
 
 part-a-end : tie.Need-part-a-end
 part-a-end c = omega (arith, size-in (c .args .n) (c .pre .size))
 
 sub-worked-2 : tie.Need-sub-worked-2
-sub-worked-2 c = search needs
+sub-worked-2 c = omega arith
 
 part-r-start : tie.Need-part-r-start
-part-r-start c = search needs
+part-r-start c = omega arith
 
 part-r-end : tie.Need-part-r-end
 part-r-end c = omega (arith, size-in (c .before .args .n) (c .before .pre .size))
 
 worked-requires : tie.Need-worked-requires
-worked-requires c κs = search needs
+worked-requires c κs = ((search needs, search needs), c .before .before .before .pre)
 
 same-length : tie.Need-same-length
 same-length c = search needs
 
 returns : tie.Need-returns
-returns c = search needs
+returns c = c .before .before .before .worked .ensures
 
 pub fast-spec : {M : Type 1} → statement M
 fast-spec =

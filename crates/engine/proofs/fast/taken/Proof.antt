@@ -11,7 +11,7 @@ use mir.Syntax.{w16, w32}
 use mir.Val.{toZ, ofZ}
 use mir.ValLaws.{toZ-ofZ}
 use Rattle.engine.specs.Lines.{input}
-use Rattle.engine.specs.Prepared.{alternated, prepared}
+use Rattle.engine.specs.Prepared.{alternated}
 use Rattle.meaning.proofs.Sizes.{abs-signed}
 use Rattle.engine.proofs.Around.{prepared-some, prepared-none}
 use Rattle.engine.proofs.fast.taken.Statement.{statement}

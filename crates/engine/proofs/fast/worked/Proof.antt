@@ -1,17 +1,11 @@
 -- `fast::worked` meets its contract: the loaded area, the core's sums of it and the stored outputs are the line.
 -- Assumes nothing.
 use borrow.Author.Needs.{needs}
-use mathlib.Core.Path.{_∙_}
+use mathlib.Core.Path.{refl, _∙_}
 use Rattle.engine.specs.Lines.{input}
 use Rattle.engine.proofs.Around.{core-small, around}
 use Rattle.engine.proofs.fast.worked.Statement.{statement}
 use Rattle.engine.proofs.fast.worked.Tie as tie
-
-alternating-requires : tie.Need-alternating-requires
-alternating-requires c κs = search needs
-
-mirrored-requires : tie.Need-mirrored-requires
-mirrored-requires c κs = search needs
 
 load-requires : tie.Need-load-requires
 load-requires c κs = search needs
@@ -23,7 +17,7 @@ store-requires : tie.Need-store-requires
 store-requires c κs =
     let d = c .before .before .before .before in
     let l = d .before .before .before .before in
-    let s = l .before .before .before .before in
+    let s = l .before .before in
     (s .pre .1 .long, core-small (s .args .n) (s .pre .1 .size) _ _ (l .load .ensures .input) (d .dst .ensures))
 
 same-length : tie.Need-same-length
@@ -39,20 +33,16 @@ returns : tie.Need-returns
 returns c =
     let d = c .before .before .before .before .before .before in
     let l = d .before .before .before .before in
-    let m = l .before .before in
-    let a = m .before in
-    let s = a .before in
+    let s = l .before .before in
     let g = s .args in
     c .before .store .ensures
     ∙ around (g .forward) (g .kind) (g .n) (g .count) (input (g .s .now) (g .from) (g .step)) (s .pre .1 .known) (s .pre .1 .size) (s .pre .1 .some)
-    (a .alternating .ensures) (m .mirrored .ensures) (s .pre .1 .all) _ _ (l .load .ensures .holds) (d .dst .ensures)
+    refl refl (s .pre .1 .all) _ _ (l .load .ensures .holds) (d .dst .ensures)
 
 pub worked-spec : {M : Type 1} → statement M
 worked-spec =
     tie.close
     (tie.spec
-    alternating-requires
-    mirrored-requires
     load-requires
     dst-requires
     store-requires

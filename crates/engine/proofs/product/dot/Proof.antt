@@ -1,26 +1,19 @@
+-- `product::dot` meets its contract: the sum of the products before i. Assumes nothing.
 use borrow.Author.Needs.{needs}
 use native.Mathlib.Omega.{arith}
-use mathlib.Core.Path.{_≡_, refl, sym, ap, ap₂, _∙_, subst}
-use mathlib.Core.Bool.{Bool, true, false, cond}
+use mathlib.Core.Path.{_≡_, sym, ap, _∙_, subst}
 use Prim.Native.Nat.{ℕ, _+_, _*_, _-_, _<_, _≤_}
 use lib.ListN.{length}
-use lib.IntN.{ℤ, pos, natAbs, _+ℤ_, _*ℤ_}
+use lib.IntN.{ℤ, natAbs, _+ℤ_, _*ℤ_}
 use mir.Syntax.{w16, w32}
 use mir.Val.{toZ, ofZ}
 use mir.ValLaws.{toZ-ofZ}
-use Rattle.algebra.specs.Sum.{sum}
-use Rattle.algebra.proofs.Sum.{sum-next}
-use Rattle.algebra.proofs.Word.{small}
 use Rattle.engine.specs.Lines.{input}
-use Rattle.engine.specs.Product.{term, lineSum}
+use Rattle.meaning.specs.Line.{term}
+use Rattle.engine.specs.Product.{lineSum}
 use Rattle.engine.proofs.Sums.{grown, none-yet, one-more, reads, abs-term}
 use Rattle.engine.proofs.product.dot.Statement.{statement}
 use Rattle.engine.proofs.product.dot.Tie as tie
-use Rattle.engine.proofs.product.dot.Reads as reads
-use Rattle.engine.proofs.product.dot.Lts as lts
-use Rattle.engine.proofs.arith.mac.Reads as mac-reads
-use Rattle.engine.proofs.arith.wide.Reads as wide-reads
-use Rattle.engine.proofs.product.factor.Reads as factor-reads
 
 abbrev Inv-loop : tie.InvT-loop
 Inv-loop t n kind forward s from step count k sum₀ i₀ sum i =
@@ -36,40 +29,32 @@ sofar : (c : tie.In-loop Inv-loop μ-loop) → let s = c .before .before .args i
     toZ w32 (c .before .loop .sum) ≡ lineSum (s .forward) (s .kind) (s .n) (c .before .loop .i) (input (s .s .now) (s .from) (s .step)) (s .k)
 sofar c = reads (c .before .loop .inv .1 .0) (c .before .loop .inv .1 .1) (omega arith)
 
--- src/product.rt:45:5
 loop-holds : tie.Need-loop-holds Inv-loop μ-loop
 loop-holds c =
     let s = c .args in
     let e = none-yet (s .forward) (s .kind) (s .n) (input (s .s .now) (s .from) (s .step)) (s .k) in
     (omega arith, (rw e, rw e (omega arith)))
 
--- src/product.rt:46:24
 factor-requires : tie.Need-factor-requires Inv-loop μ-loop
 factor-requires c κs =
     let s = c .before .before in
     (s .pre .0, record { row = s .pre .1 .0; column = omega arith; table = s .pre .1 .1 .1 .1 .1 })
 
--- src/product.rt:46:73
 mul-wide : tie.Need-mul-wide Inv-loop μ-loop
 mul-wide c = omega (arith, place (c .before))
 
--- src/product.rt:46:66
 add-wide : tie.Need-add-wide Inv-loop μ-loop
 add-wide c = omega (arith, place (c .before))
 
--- src/product.rt:46:64
 mul-wide-2 : tie.Need-mul-wide-2 Inv-loop μ-loop
 mul-wide-2 c = omega (arith, place (c .before))
 
--- src/product.rt:46:64
 shared-slice-copy-out-wide : tie.Need-shared-slice-copy-out-wide Inv-loop μ-loop
 shared-slice-copy-out-wide c = place (c .before)
 
--- src/product.rt:46:59
 wide-requires : tie.Need-wide-requires Inv-loop μ-loop
 wide-requires c κs = search needs
 
--- src/product.rt:46:9
 mac-requires : tie.Need-mac-requires Inv-loop μ-loop
 mac-requires c κs =
     let L = c .before .before .before in
@@ -81,7 +66,6 @@ mac-requires c κs =
       ),
     )
 
--- src/product.rt:47:9
 add-i : tie.Need-add-i Inv-loop μ-loop
 add-i c = search needs
 
@@ -99,11 +83,9 @@ next c =
     ∙ (λ t. sofar (c .before .before .before .before) t +ℤ (toZ-ofZ w32 (c .before .before .before .factor .result) (search needs) ∙ c .before .before .before .factor .ensures) t *ℤ wideness (c .before) t)
     ∙ sym (one-more (s .forward) (s .kind) (s .n) (input (s .s .now) (s .from) (s .step)) (s .k) (L .loop .i))
 
--- src/product.rt:45:5
 loop-less : tie.Need-loop-less Inv-loop μ-loop
 loop-less c = search needs
 
--- src/product.rt:45:5
 loop-again : tie.Need-loop-again Inv-loop μ-loop
 loop-again c =
     let L = c .before .before .before .before .before in
@@ -118,7 +100,6 @@ loop-again c =
       ),
     )
 
--- src/product.rt:39:1
 returns : tie.Need-returns Inv-loop μ-loop
 returns c =
     let s = c .before .before .args in

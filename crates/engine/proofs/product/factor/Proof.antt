@@ -1,32 +1,25 @@
+-- `product::factor` meets its contract: a row or a column of the weights. Assumes nothing.
 use borrow.Author.Needs.{needs}
 use mathlib.Core.Path.{_∙_, sym, ap}
 use mathlib.Core.Bool.{Bool, cond}
-use lib.IntN.{ℤ}
 use mir.Syntax.{w32}
 use mir.ValLaws.{toZ-ofZ}
 use Rattle.meaning.specs.Weights.{weight}
 use Rattle.engine.proofs.product.factor.Statement.{statement}
 use Rattle.engine.proofs.product.factor.Tie as tie
-use Rattle.engine.proofs.product.factor.Reads as reads
-use Rattle.engine.proofs.product.factor.Lts as lts
-use Rattle.engine.proofs.product.entry.Reads as entry-reads
 
--- src/product.rt:35:18
 entry-requires : tie.Need-entry-requires
 entry-requires c κs = (c .before .pre .0, c .before .pre .1)
 
--- src/product.rt:35:51
 entry-requires-2 : tie.Need-entry-requires-2
 entry-requires-2 c κs = (c .before .pre .0, record { row = c .before .pre .1 .column; column = c .before .pre .1 .row; table = c .before .pre .1 .table })
 
--- src/product.rt:31:1
 returns : tie.Need-returns
 returns c =
     let s = c .before .before .args in
     toZ-ofZ w32 _ (search needs) ∙ c .entry .ensures
     ∙ ap (λ (b : Bool). cond b (weight (s .kind) (s .n) (s .k) (s .i)) (weight (s .kind) (s .n) (s .i) (s .k))) (sym (c .before .if1 .taken))
 
--- src/product.rt:31:1
 returns-2 : tie.Need-returns-2
 returns-2 c =
     let s = c .before .before .args in

@@ -1,8 +1,8 @@
+-- `product::product` meets its contract: the outputs before k are written. Assumes nothing.
 use borrow.Author.Needs.{needs}
 use native.Mathlib.Omega.{arith}
-use mathlib.Core.Path.{_≡_, refl, sym, ap, _∙_, subst}
-use Prim.Native.Nat.{ℕ, _+_, _*_, _-_, _<_, _≤_}
-use lib.ListN.{length}
+use mathlib.Core.Path.{_≡_, _∙_, subst}
+use Prim.Native.Nat.{ℕ, _-_, _≤_}
 use mir.Syntax.{w32}
 use mir.ValLaws.{toZ-ofZ}
 use Rattle.algebra.proofs.Lists.{Filled, fill-none, fill-first, filled}
@@ -12,9 +12,6 @@ use Rattle.meaning.proofs.Cases.{size-in}
 use Rattle.engine.proofs.Sums.{line-sums}
 use Rattle.engine.proofs.product.product.Statement.{statement}
 use Rattle.engine.proofs.product.product.Tie as tie
-use Rattle.engine.proofs.product.product.Reads as reads
-use Rattle.engine.proofs.product.product.Lts as lts
-use Rattle.engine.proofs.product.dot.Reads as dot-reads
 
 abbrev Inv-loop : tie.InvT-loop
 Inv-loop t n kind forward s from step count z₀ k₀ z k =
@@ -23,46 +20,37 @@ Inv-loop t n kind forward s from step count z₀ k₀ z k =
 abbrev μ-loop : tie.MeasureT-loop
 μ-loop t n kind forward s from step count z₀ k₀ z k = n - k
 
--- src/product.rt:57:5
 loop-holds : tie.Need-loop-holds Inv-loop μ-loop
 loop-holds c = (omega arith, fill-none 0 _ _)
 
--- src/product.rt:58:16
 dot-requires : tie.Need-dot-requires Inv-loop μ-loop
 dot-requires c κs =
     let p = c .before .before .pre in
     (p .known, (c .loop-test .taken, (p .some, (size-in _ (p .size), (p .inside, p .table)))))
 
--- src/product.rt:58:9
 mul-t13 : tie.Need-mul-t13 Inv-loop μ-loop
 mul-t13 c = search needs
 
--- src/product.rt:58:9
 slice-set-from-z : tie.Need-slice-set-from-z Inv-loop μ-loop
 slice-set-from-z c =
     let L = c .before .before in
     omega (arith, L .loop .inv .1 .long, L .before .pre .long)
 
--- src/product.rt:59:9
 add-k : tie.Need-add-k Inv-loop μ-loop
 add-k c = search needs
 
--- src/product.rt:57:5
 loop-less : tie.Need-loop-less Inv-loop μ-loop
 loop-less c = search needs
 
--- src/product.rt:57:5
 loop-again : tie.Need-loop-again Inv-loop μ-loop
 loop-again c =
     let L = c .before .before in
     let s = L .before in
     (omega arith, fill-first _ (omega (arith, s .pre .long)) (L .loop .inv .1) (toZ-ofZ w32 (c .dot .result) (search needs) ∙ c .dot .ensures))
 
--- src/product.rt:52:1
 same-length : tie.Need-same-length Inv-loop μ-loop
 same-length c = c .before .loop .inv .1 .long
 
--- src/product.rt:52:1
 returns : tie.Need-returns Inv-loop μ-loop
 returns c =
     let s = c .before .before in

@@ -1,3 +1,4 @@
+-- `product::stored` meets its contract: its place lies in the table. Assumes nothing.
 use borrow.Author.Needs.{needs}
 use mathlib.Core.Path.{_∙_}
 use native.Mathlib.Omega.{arith}
@@ -8,34 +9,25 @@ use mir.Syntax.{w16, w32}
 use mir.ValLaws.{toZ-ofZ}
 use Rattle.engine.proofs.product.stored.Statement.{statement}
 use Rattle.engine.proofs.product.stored.Tie as tie
-use Rattle.engine.proofs.product.stored.Reads as reads
-use Rattle.engine.proofs.product.stored.Lts as lts
-use Rattle.engine.proofs.arith.wide.Reads as wide-reads
 
 spot : (c : tie.Start) → c .args .i * c .args .n + c .args .j < length (c .args .t .now)
 spot c = omega (arith, digits-lt (c .pre .row) (c .pre .column), c .pre .table .long)
 
--- src/product.rt:15:12
 mul-wide : tie.Need-mul-wide
 mul-wide c = omega (arith, spot c)
 
--- src/product.rt:15:12
 add-wide : tie.Need-add-wide
 add-wide c = omega (arith, spot c)
 
--- src/product.rt:15:10
 mul-wide-2 : tie.Need-mul-wide-2
 mul-wide-2 c = omega (arith, spot c)
 
--- src/product.rt:15:10
 shared-slice-copy-out-wide : tie.Need-shared-slice-copy-out-wide
 shared-slice-copy-out-wide c = omega (arith, spot c)
 
--- src/product.rt:15:5
 wide-requires : tie.Need-wide-requires
 wide-requires c κs = search needs
 
--- src/product.rt:11:1
 returns : tie.Need-returns
 returns c =
     let s = c .before .before in

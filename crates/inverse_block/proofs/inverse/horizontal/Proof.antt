@@ -1,114 +1,67 @@
--- `inverse::horizontal` meets its contract: each arm lends the table of its width. Assumes nothing.
+-- `inverse::horizontal` meets its contract. Assumes nothing.
 use borrow.Author.Needs.{needs}
-use mathlib.Core.Path.{_≡_, sym, subst}
+use native.Mathlib.Omega.{arith}
+use mathlib.Core.Path.{_≡_, sym, ap, _∙_}
+use mathlib.Core.Bool.{false}
 use mathlib.Core.List.{List}
-use Prim.Native.Nat.{ℕ}
+use Prim.Native.Nat.{ℕ, _*_}
+use lib.ListN.{length}
 use lib.IntN.{ℤ}
-use Rattle.tables.specs.Table.{Table}
-use Rattle.inverse_block.specs.Stages.{Horizontal}
-use Rattle.meaning.proofs.Cases.{thirty-two}
+use Rattle.algebra.proofs.Lists.{block-length}
+use Rattle.meaning.specs.Line.{term}
+use Rattle.meaning.specs.Shape.{keptColumns}
+use Rattle.meaning.proofs.Stages.{columns-in}
+use Rattle.row_sums.specs.Factors.{laid}
 use Rattle.inverse_block.proofs.inverse.horizontal.Statement.{statement}
 use Rattle.inverse_block.proofs.inverse.horizontal.Tie as tie
 
-given : (s : tie.Start) {n : ℕ} {t : List ℤ} → s .args .shape .width ≡ n → Table n t → Horizontal (s .args .shape) t (s .args .m .now)
-given s {t = t} e p =
-    record {
-      taken = s .pre .0 .taken;
-      long = s .pre .0 .long;
-      small = s .pre .1;
-      table = subst (λ (n : ℕ). Table n t) (sym e) p;
-    }
+cast-w : tie.Need-cast-w
+cast-w c = search needs
 
-weights-4-requires : tie.Need-weights-4-requires
-weights-4-requires c κs = search needs
+kept-columns-requires : tie.Need-kept-columns-requires
+kept-columns-requires c κs = search needs
 
-slice-aggregate-rows : tie.Need-slice-aggregate-rows
-slice-aggregate-rows c = search needs
+factors-requires : tie.Need-factors-requires
+factors-requires c κs =
+    let s = c .before .before .before in
+    let t = s .pre .0 .taken in
+    let k = c .before .kept-columns .ensures in
+    (t .width, (t .horizontal, (omega (arith, k, columns-in (s .args .shape)), s .pre .1 .0 ∙ ap (λ (n : ℕ). n * s .args .shape .width) (sym k))))
 
-rows-requires : tie.Need-rows-requires
-rows-requires c κs =
-    let s = c .before .before .before .before in
-    (given s (c .before .before .before .if1 .taken) (c .before .before .weights-4 .ensures), s .pre .0 .room)
+-- the weights of the kept columns
+made : (c : tie.After-factors) → let s = c .before .before .before .before .args in
+    c .factors .last .1 .1 .1 .1 .0 ≡ laid false (s .shape .horizontal) (s .shape .width) (keptColumns (s .shape))
+made c =
+    let s = c .before .before .before .before .args in
+    c .factors .ensures ∙ ap (laid false (s .shape .horizontal) (s .shape .width)) (c .before .before .kept-columns .ensures)
+
+residual-rows-requires : tie.Need-residual-rows-requires
+residual-rows-requires c κs =
+    let f = c .before .before .before in
+    let s = f .before .before .before .before in
+    (record { middles = s .pre .0; weights = made f }, s .pre .1 .1)
 
 same-length : tie.Need-same-length
-same-length c = search needs
-
-returns : tie.Need-returns
-returns c = search needs
-
-weights-8-requires : tie.Need-weights-8-requires
-weights-8-requires c κs = search needs
-
-slice-aggregate-rows-2 : tie.Need-slice-aggregate-rows-2
-slice-aggregate-rows-2 c = search needs
-
-rows-requires-2 : tie.Need-rows-requires-2
-rows-requires-2 c κs =
-    let s = c .before .before .before .before .before in
-    (given s (c .before .before .before .if2 .taken) (c .before .before .weights-8 .ensures), s .pre .0 .room)
+same-length c =
+    let f = c .before .before .before .before .before in
+    let s = f .before .before .before .before in
+    let a = s .args .shape in
+    ap length (made f) ∙ block-length (a .width) (keptColumns a) (λ k i. term false (a .horizontal) (a .width) k i) ∙ sym (s .pre .1 .0)
 
 same-length-2 : tie.Need-same-length-2
 same-length-2 c = search needs
 
-returns-2 : tie.Need-returns-2
-returns-2 c = search needs
-
-weights-16-requires : tie.Need-weights-16-requires
-weights-16-requires c κs = search needs
-
-slice-aggregate-rows-3 : tie.Need-slice-aggregate-rows-3
-slice-aggregate-rows-3 c = search needs
-
-rows-requires-3 : tie.Need-rows-requires-3
-rows-requires-3 c κs =
-    let s = c .before .before .before .before .before .before in
-    (given s (c .before .before .before .if3 .taken) (c .before .before .weights-16 .ensures), s .pre .0 .room)
-
-same-length-3 : tie.Need-same-length-3
-same-length-3 c = search needs
-
-returns-3 : tie.Need-returns-3
-returns-3 c = search needs
-
-weights-32-requires : tie.Need-weights-32-requires
-weights-32-requires c κs = search needs
-
-slice-aggregate-rows-4 : tie.Need-slice-aggregate-rows-4
-slice-aggregate-rows-4 c = search needs
-
-rows-requires-4 : tie.Need-rows-requires-4
-rows-requires-4 c κs =
-    let s = c .before .before .before .before .before .before in
-    let e = thirty-two (s .args .shape .width) (s .pre .0 .taken .width) (c .before .before .before .before .before .if1 .left) (c .before .before .before .before .if2 .left) (c .before .before .before .if3 .left) in
-    (given s e (c .before .before .weights-32 .ensures), s .pre .0 .room)
-
-same-length-4 : tie.Need-same-length-4
-same-length-4 c = search needs
-
-returns-4 : tie.Need-returns-4
-returns-4 c = search needs
+returns : tie.Need-returns
+returns c = search needs
 
 pub horizontal-spec : {M : Type 1} → statement M
 horizontal-spec =
     tie.close
     (tie.spec
-    weights-4-requires
-    slice-aggregate-rows
-    rows-requires
+    cast-w
+    kept-columns-requires
+    factors-requires
+    residual-rows-requires
     same-length
-    returns
-    weights-8-requires
-    slice-aggregate-rows-2
-    rows-requires-2
     same-length-2
-    returns-2
-    weights-16-requires
-    slice-aggregate-rows-3
-    rows-requires-3
-    same-length-3
-    returns-3
-    weights-32-requires
-    slice-aggregate-rows-4
-    rows-requires-4
-    same-length-4
-    returns-4)
+    returns)

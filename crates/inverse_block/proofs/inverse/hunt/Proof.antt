@@ -2,23 +2,24 @@
 use borrow.Author.Needs.{needs}
 use native.Mathlib.Omega.{arith}
 use mathlib.Core.Path.{_≡_, refl, sym, ap, _∙_}
-use mathlib.Core.Bool.{Bool}
+use mathlib.Core.Bool.{Bool, true, false, cond}
 use mathlib.Core.List.{List}
 use Prim.Native.Nat.{ℕ, _+_, _*_, _-_, _/_, _%_, _<_, _≤_}
-use native.Mathlib.Nat.{zero-mul, zero-add, add-mul, one-mul, mul-comm, le-antisymm}
+use native.Mathlib.Nat.{zero-mul, add-mul, one-mul, mul-comm, le-antisymm}
 use lib.ListN.{length, drop}
-use lib.IntN.{ℤ, natAbs}
-use borrow.Author.Count.{below-more}
+use lib.IntN.{ℤ}
+use borrow.Author.Tests.{ltb-true}
+use lib.Dec.{ltb}
 use mir.Syntax.{w16}
 use mir.ValLaws.{toZ-ofZ}
 use Rattle.algebra.specs.Lists.{at}
 use Rattle.algebra.specs.First.{firstAt}
-use Rattle.algebra.proofs.Lists.{place-in, row-of, column-of}
+use Rattle.algebra.proofs.Lists.{place-in, row-in, row-of, column-of}
 use Rattle.algebra.proofs.First.{first-on, first-here, first-none}
-use Rattle.algebra.proofs.Order.{in-fits}
 use Rattle.meaning.specs.Inverse.{outside}
-use Rattle.meaning.proofs.Small.{within-places}
+use Rattle.meaning.proofs.Stages.{columns-in}
 use Rattle.inverse_block.specs.Stages.{outsideAt}
+use Rattle.inverse_block.proofs.Tests.{skip, kept-not}
 use Rattle.inverse_block.proofs.inverse.hunt.Statement.{statement}
 use Rattle.inverse_block.proofs.inverse.hunt.Tie as tie
 
@@ -29,18 +30,14 @@ test w columns rows k z = outsideAt columns rows (k % w) (k / w) z
 abbrev Left : ℕ → ℕ → ℕ → List ℤ → ℕ → Type 0
 Left w columns rows c k = firstAt (test w columns rows) 0 c ≡ firstAt (test w columns rows) k (drop k c)
 
--- what reading told of the numbers before place k
-abbrev Read : List ℤ → ℕ → Type 0
-Read c k = (i : ℕ) → i < k → natAbs (at c i) ≤ 32768
-
 abbrev Inv-loop : tie.InvT-loop
-Inv-loop c w h columns rows place₀ y x₀ place x = (x ≤ w) × ((place ≡ length c) × (Left w columns rows c (x + y * w) × Read c (x + y * w)))
+Inv-loop c w h columns rows place₀ y x₀ place x = (x ≤ w) × ((place ≡ length c) × Left w columns rows c (x + y * w))
 
 abbrev μ-loop : tie.MeasureT-loop
 μ-loop c w h columns rows place₀ y x₀ place x = w - x
 
 abbrev Inv-hunt : tie.InvT-hunt
-Inv-hunt c w h columns rows place₀ y₀ place y = (y ≤ h) × ((place ≡ length c) × (Left w columns rows c (y * w) × Read c (y * w)))
+Inv-hunt c w h columns rows place₀ y₀ place y = (y ≤ h) × ((place ≡ length c) × Left w columns rows c (y * w))
 
 abbrev μ-hunt : tie.MeasureT-hunt
 μ-hunt c w h columns rows place₀ y₀ place y = h - y
@@ -49,12 +46,12 @@ abbrev width : tie.Start Inv-loop μ-loop Inv-hunt μ-hunt → ℕ
 width s = s .args .shape .width
 
 -- in a turn the place is in the slice
-within : (c : tie.In-loop Inv-loop μ-loop Inv-hunt μ-hunt) → let H = c .before .before .before in let s = H .before .before .before .before .before in
+within : (c : tie.In-loop Inv-loop μ-loop Inv-hunt μ-hunt) → let H = c .before .before .before .before in let s = H .before .before .before .before .before .before in
     c .before .loop .x + H .hunt .y * width s < length (s .args .c .now)
 within c =
-    let H = c .before .before .before in
-    let s = H .before .before .before .before .before in
-    omega (arith, s .pre, mul-comm (s .args .shape .width) (s .args .shape .height), place-in {w = width s} (c .loop-test .taken) (c .before .before .hunt-test .taken))
+    let H = c .before .before .before .before in
+    let s = H .before .before .before .before .before .before in
+    omega (arith, s .pre, mul-comm (s .args .shape .width) (s .args .shape .height), place-in {w = width s} (c .loop-test .taken) (c .before .before .before .hunt-test .taken))
 
 cast-w : tie.Need-cast-w Inv-loop μ-loop Inv-hunt μ-hunt
 cast-w c = search needs
@@ -68,13 +65,49 @@ kept-columns-requires c κs = search needs
 kept-rows-requires : tie.Need-kept-rows-requires Inv-loop μ-loop Inv-hunt μ-hunt
 kept-rows-requires c κs = search needs
 
+read-requires : tie.Need-read-requires Inv-loop μ-loop Inv-hunt μ-hunt
+read-requires c κs = search needs
+
 hunt-holds : tie.Need-hunt-holds Inv-loop μ-loop Inv-hunt μ-hunt
-hunt-holds c = (omega arith, (refl, (rw zero-mul, λ i h. absurd (omega (arith, zero-mul (width (c .before .before .before .before)))))))
+hunt-holds c = (omega arith, (refl, rw zero-mul))
+
+first-column-requires : tie.Need-first-column-requires Inv-loop μ-loop Inv-hunt μ-hunt
+first-column-requires c κs = search needs
+
+-- the kept columns of a kept row are passed over
+passed : (w h columns rows y : ℕ) (l : List ℤ) → columns ≤ w → y < h → length l ≡ w * h → Left w columns rows l (y * w)
+    → let x = cond (ltb y rows) columns 0 in (x ≤ w) × Left w columns rows l (x + y * w)
+passed w h columns rows y l k v e p = go (ltb y rows) refl
+  where
+    start : 0 + y * w ≡ y * w
+    start = omega arith
+
+    turned : y * w + columns ≡ columns + y * w
+    turned = omega arith
+
+    place : (i : ℕ) → y * w + i ≡ i + y * w
+    place i = omega arith
+
+    go : (b : Bool) → ltb y rows ≡ b → let x = cond b columns 0 in (x ≤ w) × Left w columns rows l (x + y * w)
+    go false t = (omega arith, p ∙ rw start)
+    go true t = (
+      k,
+      p ∙ skip (test w columns rows) l (y * w) columns (omega (arith, e, mul-comm w h, row-in w v))
+          (λ i g.
+          let d : i < w = omega arith in
+          rw (place i, column-of {x = i} {w = w} y d, row-of {x = i} {w = w} y d) (kept-not columns rows i y (at l (i + y * w)) g (ltb-true y rows t)))
+          ∙ rw turned,
+    )
 
 loop-holds : tie.Need-loop-holds Inv-loop μ-loop Inv-hunt μ-hunt
 loop-holds c =
-    let H = c .before .hunt .inv .1 in
-    (omega arith, (H .0, (rw zero-add (H .1 .0), rw zero-add (H .1 .1))))
+    let H = c .before .before in
+    let s = H .before .before .before .before .before .before in
+    let k = H .before .before .before .kept-columns .result in
+    let l : k ≤ width s = omega (arith, H .before .before .before .kept-columns .ensures, columns-in (s .args .shape)) in
+    let q = passed (width s) (s .args .shape .height) k (H .before .before .kept-rows .result) (H .hunt .y) (s .args .c .now) l (c .before .hunt-test .taken) (s .pre) (H .hunt .inv .1 .1) in
+    let e = c .first-column .ensures in
+    (rw e (q .0), (H .hunt .inv .1 .0, rw e (q .1)))
 
 mul-at : tie.Need-mul-at Inv-loop μ-loop Inv-hunt μ-hunt
 mul-at c = omega (arith, within c)
@@ -93,13 +126,13 @@ outside-requires : tie.Need-outside-requires Inv-loop μ-loop Inv-hunt μ-hunt
 outside-requires c κs = search needs
 
 -- what `outside` said is the test at this place
-told : (c : tie.After-outside Inv-loop μ-loop Inv-hunt μ-hunt) → let L = c .before .before .before in let H = L .before .before in
-    let s = H .before .before .before .before .before in let k = L .loop .x + H .hunt .y * width s in
-    test (width s) (H .before .before .kept-columns .result) (H .before .kept-rows .result) k (at (s .args .c .now) k) ≡ c .outside .result
+told : (c : tie.After-outside Inv-loop μ-loop Inv-hunt μ-hunt) → let L = c .before .before .before in let H = L .before .before .before in
+    let s = H .before .before .before .before .before .before in let k = L .loop .x + H .hunt .y * width s in
+    test (width s) (H .before .before .before .kept-columns .result) (H .before .before .kept-rows .result) k (at (s .args .c .now) k) ≡ c .outside .result
 told c =
     let L = c .before .before .before in
-    let H = L .before .before in
-    let s = H .before .before .before .before .before in
+    let H = L .before .before .before in
+    let s = H .before .before .before .before .before .before in
     let k = L .loop .x + H .hunt .y * width s in
     rw (column-of {x = L .loop .x} {w = width s} (H .hunt .y) (c .before .before .loop-test .taken), row-of {x = L .loop .x} {w = width s} (H .hunt .y) (c .before .before .loop-test .taken))
     (sym (c .outside .ensures ∙ rw (toZ-ofZ w16 (at (s .args .c .now) k) (record { sfits = c .before .outside-arg .given }))))
@@ -113,19 +146,15 @@ loop-less c = search needs
 loop-again : tie.Need-loop-again Inv-loop μ-loop Inv-hunt μ-hunt
 loop-again c =
     let L = c .before .before .before .before in
-    let H = L .before .before in
-    let s = H .before .before .before .before .before in
+    let H = L .before .before .before in
+    let s = H .before .before .before .before .before .before in
     let k = L .loop .x + H .hunt .y * width s in
     let e : L .loop .x + 1 + H .hunt .y * width s ≡ k + 1 = omega arith in
-    let p = test (width s) (H .before .before .kept-columns .result) (H .before .kept-rows .result) in
-    let r : natAbs (at (s .args .c .now) k) ≤ 32768 = in-fits {w = w16} {z = at (s .args .c .now) k} (record { sfits = c .before .before .outside-arg .given }) .within in (
+    let p = test (width s) (H .before .before .before .kept-columns .result) (H .before .before .kept-rows .result) in (
       omega arith,
       (
         L .loop .inv .1 .0,
-        (
-          L .loop .inv .1 .1 .0 ∙ rw e (first-on p (s .args .c .now) k (within (c .before .before .before)) (told (c .before) ∙ c .if1 .left)),
-          rw e (below-more (λ i. natAbs (at (s .args .c .now) i) ≤ 32768) k (L .loop .inv .1 .1 .1) r),
-        ),
+        L .loop .inv .1 .1 ∙ rw e (first-on p (s .args .c .now) k (within (c .before .before .before)) (told (c .before) ∙ c .if1 .left)),
       ),
     )
 
@@ -138,37 +167,37 @@ hunt-less c = search needs
 hunt-again : tie.Need-hunt-again Inv-loop μ-loop Inv-hunt μ-hunt
 hunt-again c =
     let L = c .before in
-    let H = L .before .before in
-    let w = width (H .before .before .before .before .before) in
+    let H = L .before .before .before in
+    let w = width (H .before .before .before .before .before .before) in
     let e : L .loop .x + H .hunt .y * w ≡ (H .hunt .y + 1) * w = omega (arith, add-mul (H .hunt .y) 1 w, one-mul w, c .loop-test .left) in
-    (omega arith, (L .loop .inv .1 .0, (L .loop .inv .1 .1 .0 ∙ rw e, rw e at (L .loop .inv .1 .1 .1))))
+    (omega arith, (L .loop .inv .1 .0, L .loop .inv .1 .1 ∙ rw e))
 
 -- the contract's own test is this one
-asked : (c : tie.At-hunt Inv-loop μ-loop Inv-hunt μ-hunt) → let s = c .before .before .before .before .before in
-    firstAt (test (width s) (c .before .before .kept-columns .result) (c .before .kept-rows .result)) 0 (s .args .c .now) ≡ firstAt (outside (s .args .shape)) 0 (s .args .c .now)
-asked c = rw (c .before .before .kept-columns .ensures, c .before .kept-rows .ensures)
+asked : (c : tie.At-hunt Inv-loop μ-loop Inv-hunt μ-hunt) → let s = c .before .before .before .before .before .before in
+    firstAt (test (width s) (c .before .before .before .kept-columns .result) (c .before .before .kept-rows .result)) 0 (s .args .c .now) ≡ firstAt (outside (s .args .shape)) 0 (s .args .c .now)
+asked c = rw (c .before .before .before .kept-columns .ensures, c .before .before .kept-rows .ensures)
 
 returns : tie.Need-returns Inv-loop μ-loop Inv-hunt μ-hunt
 returns c =
     let H = c .before in
-    let s = H .before .before .before .before .before in
+    let s = H .before .before .before .before .before .before in
     let k = H .hunt .y * width s in
     let e : H .hunt .y ≡ s .args .shape .height = le-antisymm (H .hunt .inv .0) (c .hunt-test .left) in
     let n : k ≡ length (s .args .c .now) = ap (λ (y : ℕ). y * width s) e ∙ mul-comm (s .args .shape .height) (width s) ∙ sym (s .pre) in
-    let p = test (width s) (H .before .before .kept-columns .result) (H .before .kept-rows .result) in (
-      H .hunt .inv .1 .0 ∙ sym n ∙ sym (first-none p (s .args .c .now) k (omega arith)) ∙ sym (H .hunt .inv .1 .1 .0) ∙ asked H,
-      λ _. within-places 32768 (s .args .c .now) (λ i h. H .hunt .inv .1 .1 .1 i (omega arith)),
+    let p = test (width s) (H .before .before .before .kept-columns .result) (H .before .before .kept-rows .result) in (
+      H .hunt .inv .1 .0 ∙ sym n ∙ sym (first-none p (s .args .c .now) k (omega arith)) ∙ sym (H .hunt .inv .1 .1) ∙ asked H,
+      H .before .read .ensures,
     )
 
 returns-2 : tie.Need-returns-2 Inv-loop μ-loop Inv-hunt μ-hunt
 returns-2 c =
     let L = c .before .before .before .before in
-    let H = L .before .before in
-    let s = H .before .before .before .before .before in
+    let H = L .before .before .before in
+    let s = H .before .before .before .before .before .before in
     let k = L .loop .x + H .hunt .y * width s in
-    let p = test (width s) (H .before .before .kept-columns .result) (H .before .kept-rows .result) in (
-      sym (first-here p (s .args .c .now) k (within (c .before .before .before)) (told (c .before) ∙ c .if1 .taken)) ∙ sym (L .loop .inv .1 .1 .0) ∙ asked H,
-      λ h. absurd (omega (arith, within (c .before .before .before))),
+    let p = test (width s) (H .before .before .before .kept-columns .result) (H .before .before .kept-rows .result) in (
+      sym (first-here p (s .args .c .now) k (within (c .before .before .before)) (told (c .before) ∙ c .if1 .taken)) ∙ sym (L .loop .inv .1 .1) ∙ asked H,
+      H .before .read .ensures,
     )
 
 pub hunt-spec : {M : Type 1} → statement M
@@ -183,7 +212,9 @@ hunt-spec =
     cast-h
     kept-columns-requires
     kept-rows-requires
+    read-requires
     hunt-holds
+    first-column-requires
     loop-holds
     mul-at
     add-at

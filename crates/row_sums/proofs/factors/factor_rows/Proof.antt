@@ -2,45 +2,31 @@
 -- Assumes nothing.
 use borrow.Author.Needs.{needs}
 use native.Mathlib.Omega.{arith}
-use mathlib.Core.Path.{_≡_, refl, ap, _∙_}
-use mathlib.Core.List.{List, _++_, append-nil}
-use Prim.Native.Nat.{ℕ, _+_, _*_, _-_, _≤_, _<_}
-use native.Mathlib.Nat.{zero-mul, add-mul, one-mul, mul-le-mul-right}
-use lib.ListN.{length, take, drop, length-append, length-take, length-drop, drop-of-length-le}
-use lib.IntN.{ℤ}
-use Rattle.algebra.specs.Lists.{block}
-use Rattle.algebra.proofs.Lists.{row-in, block-none, block-more, block-length, part-back}
+use mathlib.Core.Path.{_≡_}
+use Prim.Native.Nat.{_+_, _*_, _-_, _≤_}
+use lib.ListN.{length, take, drop, length-take, length-drop}
+use Rattle.algebra.proofs.Lists.{row-in, Rows, rows-none, rows-long, rows-next, rows-all}
 use Rattle.meaning.specs.Line.{term}
 use Rattle.row_sums.proofs.factors.factor_rows.Statement.{statement}
 use Rattle.row_sums.proofs.factors.factor_rows.Tie as tie
 
 abbrev Inv-loop : tie.InvT-loop
-Inv-loop t n kind forward count u₀ i₀ u i = (i ≤ count) × (u ≡ block n i (λ k i. term forward kind n k i) ++ drop (i * n) u₀)
+Inv-loop t n kind forward count u₀ i₀ u i = (i ≤ count) × Rows n i (λ k i. term forward kind n k i) u u₀
 
 abbrev μ-loop : tie.MeasureT-loop
 μ-loop t n kind forward count u₀ i₀ u i = count - i
-
-abbrev done : tie.At-loop Inv-loop μ-loop → List ℤ
-done c =
-    let s = c .before .args in
-    block (s .n) (c .loop .i) (λ k i. term (s .forward) (s .kind) (s .n) k i)
-
-front : (c : tie.At-loop Inv-loop μ-loop) → length (done c) ≡ c .loop .i * c .before .args .n
-front c =
-    let s = c .before .args in
-    block-length (s .n) (c .loop .i) (λ k i. term (s .forward) (s .kind) (s .n) k i)
 
 area : (c : tie.At-loop Inv-loop μ-loop) → length (c .before .args .u .now) ≡ c .before .args .count * c .before .args .n
 area c = c .before .pre .1 .1 .1
 
 long : (c : tie.At-loop Inv-loop μ-loop) → length (c .loop .u) ≡ length (c .before .args .u .now)
-long c = ap length (c .loop .inv .1) ∙ simp (length-append, front c, length-drop) (omega (arith, area c, mul-le-mul-right (c .before .args .n) (c .loop .inv .0)))
+long c = rows-long (c .loop .inv .1) (c .loop .inv .0) (area c)
 
 row-here : (c : tie.In-loop Inv-loop μ-loop) → let n = c .before .before .args .n in c .before .loop .i * n + n ≤ length (c .before .before .args .u .now)
 row-here c = omega (arith, area (c .before), row-in (c .before .before .args .n) (c .loop-test .taken))
 
 loop-holds : tie.Need-loop-holds Inv-loop μ-loop
-loop-holds c = (omega arith, rw (zero-mul, block-none))
+loop-holds c = (omega arith, rows-none _ _ _)
 
 mul-a : tie.Need-mul-a Inv-loop μ-loop
 mul-a c = omega (arith, row-here c)
@@ -73,16 +59,7 @@ loop-less : tie.Need-loop-less Inv-loop μ-loop
 loop-less c = search needs
 
 loop-again : tie.Need-loop-again Inv-loop μ-loop
-loop-again c =
-    let L = c .before .before .before .before in
-    let s = L .before .args in
-    let a = L .loop .i * s .n in
-    let k : a + s .n - a ≡ s .n = omega arith in
-    let e : (L .loop .i + 1) * s .n ≡ a + s .n = omega (arith, add-mul (L .loop .i) 1 (s .n), one-mul (s .n)) in (
-      omega (arith, c .before .before .before .loop-test .taken),
-      rw (k, L .loop .inv .1, block-more, e)
-          (part-back (done L) (s .u .now) (c .before .factor-row .last .1 .1 .1 .1 .1 .0) a (s .n) (a + s .n) (front L) refl ∙ rw (c .before .factor-row .ensures)),
-    )
+loop-again c = (omega (arith, c .before .before .before .loop-test .taken), rows-next (c .before .before .before .before .loop .inv .1) (c .before .factor-row .ensures))
 
 same-length : tie.Need-same-length Inv-loop μ-loop
 same-length c = long (c .before)
@@ -90,10 +67,8 @@ same-length c = long (c .before)
 returns : tie.Need-returns Inv-loop μ-loop
 returns c =
     let L = c .before in
-    let s = L .before .args in
-    let e : L .loop .i ≡ s .count = omega (arith, L .loop .inv .0, c .loop-test .left) in
-    let l : length (s .u .now) ≤ s .count * s .n = omega (arith, area L) in
-    L .loop .inv .1 ∙ rw (e, drop-of-length-le (s .u .now) l) (append-nil (block (s .n) (s .count) (λ k i. term (s .forward) (s .kind) (s .n) k i)))
+    let e : L .loop .i ≡ L .before .args .count = omega (arith, L .loop .inv .0, c .loop-test .left) in
+    rows-all (L .loop .inv .1) e (area L)
 
 pub factor-rows-spec : {M : Type 1} → statement M
 factor-rows-spec =

@@ -79,7 +79,7 @@ returns-2 c =
     ∙ sym (past (c .before .before .before) ∙ rw l)
 
 stages-requires : tie.Need-stages-requires
-stages-requires c κs = (taken (c .before .before .before), c .before .before .hunt .ensures .1 (c .before .if2 .left))
+stages-requires c κs = (taken (c .before .before .before), c .before .before .hunt .ensures .1)
 
 acceptance-requires : tie.Need-acceptance-requires
 acceptance-requires c κs = search needs

@@ -2,10 +2,10 @@
 use native.Mathlib.Omega.{arith}
 use mathlib.Core.Path.{_≡_}
 use Prim.Native.Nat.{_+_, _-_, _≤_}
-use lib.ListN.{length}
 use mir.Syntax.{w32}
 use mir.Val.{toZ, ofZ}
 use Rattle.algebra.specs.Lists.{at}
+use Rattle.engine.specs.Folded.{half}
 use Rattle.engine.proofs.Adding.{read-back}
 use Rattle.engine.proofs.Stretches.{Mirrored, mirror-none, mirror-next, mirror-all}
 use Rattle.engine.proofs.dst.stretch.mirrored.Statement.{statement}
@@ -15,7 +15,7 @@ abbrev Inv-loop : tie.InvT-loop
 Inv-loop c q w₀ g₀ w g = Mirrored q g c w
 
 abbrev μ-loop : tie.MeasureT-loop
-μ-loop c q w₀ g₀ w g = length c - g
+μ-loop c q w₀ g₀ w g = half q - g
 
 -- the last of the first stretch but one lies within
 room : (c : tie.In-loop Inv-loop μ-loop) → c .before .loop .g + c .before .loop .g + 3 ≤ c .before .before .args .q
@@ -30,46 +30,40 @@ back c =
 loop-holds : tie.Need-loop-holds Inv-loop μ-loop
 loop-holds c = mirror-none (c .pre)
 
+mul-v : tie.Need-mul-v Inv-loop μ-loop
+mul-v c = omega (arith, room c, c .before .before .pre .few)
+
+element-copy-out-v : tie.Need-element-copy-out-v Inv-loop μ-loop
+element-copy-out-v c = omega (arith, room c, c .before .before .pre .few)
+
 mul-w : tie.Need-mul-w Inv-loop μ-loop
-mul-w c = omega (arith, room c, c .before .before .pre .few)
-
-shared-slice-copy-out-w : tie.Need-shared-slice-copy-out-w Inv-loop μ-loop
-shared-slice-copy-out-w c = c .loop-test .taken
-
-mul-w-2 : tie.Need-mul-w-2 Inv-loop μ-loop
-mul-w-2 c = omega (arith, room (c .before), c .before .before .before .pre .few)
+mul-w c = omega (arith, room (c .before), c .before .before .before .pre .few)
 
 array-set-from-w : tie.Need-array-set-from-w Inv-loop μ-loop
 array-set-from-w c = omega (arith, room (c .before), c .before .before .before .pre .few)
 
-mul-w-3 : tie.Need-mul-w-3 Inv-loop μ-loop
-mul-w-3 c = omega (arith, room (c .before), c .before .before .before .pre .few)
-
-shared-slice-copy-out-w-2 : tie.Need-shared-slice-copy-out-w-2 Inv-loop μ-loop
-shared-slice-copy-out-w-2 c = c .before .loop-test .taken
-
 sub-w : tie.Need-sub-w Inv-loop μ-loop
-sub-w c = omega (arith, room (c .before .before))
+sub-w c = omega (arith, room (c .before))
 
 sub-w-2 : tie.Need-sub-w-2 Inv-loop μ-loop
-sub-w-2 c = omega (arith, room (c .before .before))
+sub-w-2 c = omega (arith, room (c .before))
 
-mul-w-4 : tie.Need-mul-w-4 Inv-loop μ-loop
-mul-w-4 c = omega (arith, room (c .before .before), c .before .before .before .before .pre .few)
+mul-w-2 : tie.Need-mul-w-2 Inv-loop μ-loop
+mul-w-2 c = omega (arith, room (c .before), c .before .before .before .pre .few)
 
 array-set-from-w-2 : tie.Need-array-set-from-w-2 Inv-loop μ-loop
-array-set-from-w-2 c = omega (arith, room (c .before .before), c .before .before .before .before .pre .few)
+array-set-from-w-2 c = omega (arith, room (c .before), c .before .before .before .pre .few)
 
 add-g : tie.Need-add-g Inv-loop μ-loop
-add-g c = omega (arith, room (c .before .before), c .before .before .before .before .pre .few)
+add-g c = omega (arith, room (c .before), c .before .before .before .pre .few)
 
 loop-less : tie.Need-loop-less Inv-loop μ-loop
-loop-less c = omega (arith, c .before .before .loop-test .taken)
+loop-less c = omega (arith, c .before .loop-test .taken)
 
 loop-again : tie.Need-loop-again Inv-loop μ-loop
 loop-again c =
-    let I = c .before .before in
-    mirror-next (I .before .before .pre) _ _ (I .loop-test .taken) (back I) (back I) (I .before .loop .inv)
+    let I = c .before in
+    mirror-next (I .before .before .pre) _ (I .loop-test .taken) (back I) (I .before .loop .inv)
 
 returns : tie.Need-returns Inv-loop μ-loop
 returns c = mirror-all (c .before .before .pre) (c .loop-test .left) (c .before .loop .inv)
@@ -81,15 +75,13 @@ mirrored-spec =
     Inv-loop
     μ-loop
     loop-holds
+    mul-v
+    element-copy-out-v
     mul-w
-    shared-slice-copy-out-w
-    mul-w-2
     array-set-from-w
-    mul-w-3
-    shared-slice-copy-out-w-2
     sub-w
     sub-w-2
-    mul-w-4
+    mul-w-2
     array-set-from-w-2
     add-g
     loop-less

@@ -25,7 +25,7 @@ earlier : (c : tie.In-loop Inv-loop μ-loop) → let s = c .before .before .befo
 earlier c =
     let s = c .before .before .before in
     let L = c .before .loop in
-    stretched-place (s .pre .0) (L .inv .1 .1) (L .k - s .args .q) (omega (arith, L .inv .0, s .pre .0 .odd))
+    stretched-place (s .pre .0) (L .k - s .args .q) (L .inv .1 .1) (omega (arith, L .inv .0, s .pre .0 .odd))
 
 room : (c : tie.In-loop Inv-loop μ-loop) → c .before .loop .k < 32
 room c = omega (arith, c .loop-test .taken, c .before .before .before .pre .1)

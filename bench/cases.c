@@ -1,0 +1,102 @@
+/* The cases of the benchmark: every implementation reads the same input, and writes where the others did. */
+#include "cases.h"
+
+#include "random.h"
+
+#include <stdio.h>
+#include <string.h>
+
+enum { DEPTH = 10 };
+
+static int16_t input[LARGEST];
+static int16_t coefficients[LARGEST];
+static int32_t sums[LARGEST];
+
+typedef hoengtila_answer line_call(uint32_t n, uint32_t kind, const int16_t *x, size_t x_len, int32_t *y, size_t y_len);
+
+static const char *const block_names[] = {"library", "reference", "triple", "rows", "folded", "butterfly"};
+static inverse_block *const inverses[] = {0, reference_inverse, triple_inverse, rows_inverse, folded_inverse, butterfly_inverse};
+static forward_block *const forwards[] = {0, reference_forward, triple_forward, rows_forward, folded_forward, butterfly_forward};
+static const char *const line_names[] = {"fast", "product"};
+static line_call *const inverse_lines[] = {hoengtila_line_inverse, hoengtila_line_inverse_product};
+static line_call *const forward_lines[] = {hoengtila_line_forward, hoengtila_line_forward_product};
+
+void prepare(void) {
+    reference_prepare();
+    triple_prepare();
+    rows_prepare();
+    folded_prepare();
+}
+
+const char *implementation_name(int i) { return block_names[i]; }
+inverse_block *inverse_of(int i) { return inverses[i]; }
+forward_block *forward_of(int i) { return forwards[i]; }
+
+static hoengtila_shape shape_of(uint32_t width, uint32_t height, uint32_t kind) {
+    return (hoengtila_shape){width, height, kind, kind, DEPTH};
+}
+
+static int make_blocks(bench_case *cases, int forward) {
+    static const uint32_t sizes[][2] = {{4, 4}, {8, 8}, {16, 16}, {32, 32}, {32, 8}};
+    static const char *const fills[] = {"dense", "corner", "one"};
+    int count = 0;
+    for (int s = 0; s < 5; s++)
+        for (int f = 0; f < 3; f++)
+            cases[count++] = (bench_case){0, forward, shape_of(sizes[s][0], sizes[s][1], DST_VII), fills[f]};
+    cases[count++] = (bench_case){0, forward, shape_of(16, 16, DCT_VIII), "dct8"};
+    return count;
+}
+
+static int make_lines(bench_case *cases, int forward) {
+    int count = 0;
+    for (uint32_t n = 4; n <= LONGEST; n *= 2)
+        cases[count++] = (bench_case){1, forward, shape_of(n, 1, DST_VII), "dense"};
+    return count;
+}
+
+int make_cases(bench_case *cases) {
+    int count = 0;
+    for (int forward = 0; forward < 2; forward++) count += make_blocks(cases + count, forward);
+    for (int forward = 0; forward < 2; forward++) count += make_lines(cases + count, forward);
+    return count;
+}
+
+int implementations_of(const bench_case *c) { return c->line ? 2 : IMPLEMENTATIONS; }
+
+const char *case_name(const bench_case *c, int i, char *name) {
+    const char *direction = c->forward ? "forward" : "inverse";
+    if (c->line) sprintf(name, "%s-line %u %s %s", direction, c->shape.width, c->fill, line_names[i]);
+    else sprintf(name, "%s %ux%u %s %s", direction, c->shape.width, c->shape.height, c->fill, block_names[i]);
+    return name;
+}
+
+/* "dense": every number that may be other than 0 is; "corner": the first four columns and rows; "one": the first. */
+static int filled(const bench_case *c, uint32_t x, uint32_t y) {
+    if (!strcmp(c->fill, "one")) return x == 0 && y == 0;
+    if (!strcmp(c->fill, "corner")) return x < 4 && y < 4;
+    return c->forward || c->line || (x < KEPT && y < KEPT);
+}
+
+void fill_case(const bench_case *c) {
+    uint32_t w = c->shape.width, h = c->shape.height;
+    seed_random(1);
+    for (uint32_t k = 0; k < w * h; k++) input[k] = filled(c, k % w, k / w) ? other_than_zero(1023) : 0;
+}
+
+static void run_line(const bench_case *c, int i) {
+    uint32_t n = c->shape.width;
+    (c->forward ? forward_lines : inverse_lines)[i](n, c->shape.horizontal, input, n, sums, n);
+}
+
+static void run_library(const bench_case *c) {
+    size_t area = (size_t)c->shape.width * c->shape.height;
+    if (c->forward) hoengtila_block_forward(c->shape, input, area, coefficients, area);
+    else hoengtila_block_inverse(c->shape, input, area, sums, area);
+}
+
+void run_case(const bench_case *c, int i) {
+    if (c->line) run_line(c, i);
+    else if (i == 0) run_library(c);
+    else if (c->forward) forwards[i](c->shape, input, coefficients);
+    else inverses[i](c->shape, input, sums);
+}

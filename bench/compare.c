@@ -1,0 +1,99 @@
+/* Every implementation against the library, and the library's weights against the fold rule. */
+#include "cases.h"
+
+#include "random.h"
+
+#include <stdio.h>
+#include <string.h>
+
+enum { BLOCKS_OF_A_SHAPE = 12 };
+
+static int16_t input[LARGEST], output16[2][LARGEST];
+static int32_t output32[2][LARGEST];
+static int blocks;
+
+/* Numbers of every size, both ends of the range among them, and more zeros in later blocks. */
+static int16_t number(int most, int block) {
+    uint32_t r = next_random();
+    if (r % 12 < (uint32_t)block) return 0;
+    if (r % 97 == 0) return (int16_t)(most == 32767 ? -32768 : -most);
+    if (r % 89 == 0) return (int16_t)most;
+    return other_than_zero(block % 2 ? most : most / 64);
+}
+
+static void fill(hoengtila_shape s, int most, int kept_only, int block) {
+    for (uint32_t k = 0; k < s.width * s.height; k++)
+        input[k] = kept_only && (k % s.width >= KEPT || k / s.width >= KEPT) ? 0 : number(most, block);
+}
+
+static int differ(hoengtila_shape s, const char *direction, int i) {
+    printf("bench: FAILED: %s %ux%u, kinds %u %u, depth %u: %s differs from the library\n", direction, s.width, s.height,
+           s.horizontal, s.vertical, s.depth, implementation_name(i));
+    return 1;
+}
+
+static int compare_inverse(hoengtila_shape s, int block) {
+    size_t area = (size_t)s.width * s.height;
+    fill(s, 32767, 1, block);
+    if (hoengtila_block_inverse(s, input, area, output32[0], area).number != 0) return differ(s, "inverse", 0);
+    for (int i = 1; i < IMPLEMENTATIONS; i++) {
+        memset(output32[1], 0x55, sizeof output32[1]);
+        inverse_of(i)(s, input, output32[1]);
+        if (memcmp(output32[0], output32[1], area * sizeof **output32)) return differ(s, "inverse", i);
+    }
+    return 0;
+}
+
+static int compare_forward(hoengtila_shape s, int block) {
+    size_t area = (size_t)s.width * s.height;
+    fill(s, (1 << s.depth) - 1, 0, block);
+    if (hoengtila_block_forward(s, input, area, output16[0], area).number != 0) return differ(s, "forward", 0);
+    for (int i = 1; i < IMPLEMENTATIONS; i++) {
+        memset(output16[1], 0x55, sizeof output16[1]);
+        forward_of(i)(s, input, output16[1]);
+        if (memcmp(output16[0], output16[1], area * sizeof **output16)) return differ(s, "forward", i);
+    }
+    return 0;
+}
+
+static int compare_shape(hoengtila_shape s) {
+    for (int block = 0; block < BLOCKS_OF_A_SHAPE; block++, blocks += 2)
+        if (compare_inverse(s, block) || compare_forward(s, block)) return 1;
+    return 0;
+}
+
+static int compare_lines(uint32_t n, uint32_t kind) {
+    hoengtila_shape s = {n, 1, kind, kind, 10};
+    for (int block = 0; block < BLOCKS_OF_A_SHAPE; block++) {
+        fill(s, 32767, 0, block);
+        hoengtila_line_inverse(n, kind, input, n, output32[0], n);
+        hoengtila_line_inverse_product(n, kind, input, n, output32[1], n);
+        if (memcmp(output32[0], output32[1], n * sizeof **output32)) return differ(s, "inverse line", 0);
+        hoengtila_line_forward(n, kind, input, n, output32[0], n);
+        hoengtila_line_forward_product(n, kind, input, n, output32[1], n);
+        if (memcmp(output32[0], output32[1], n * sizeof **output32)) return differ(s, "forward line", 0);
+    }
+    for (uint32_t k = 0; k < n * n; k++)
+        if (hoengtila_weight(kind, n, k / n, k % n) != weight((int)kind, (int)n, (int)(k / n), (int)(k % n)))
+            return differ(s, "weight", 0);
+    return 0;
+}
+
+/* Kinds and depths change from shape to shape, and all four pairs of kinds come up at each size. */
+static int compare_size(uint32_t w, uint32_t h) {
+    for (uint32_t kinds = 0; kinds < 4; kinds++)
+        for (uint32_t depth = 8 + kinds % 2; depth <= 12; depth += 2)
+            if (compare_shape((hoengtila_shape){w, h, 1 + kinds % 2, 1 + kinds / 2, depth})) return 1;
+    return 0;
+}
+
+int compare(void) {
+    seed_random(7);
+    for (uint32_t w = 4; w <= LONGEST; w *= 2) {
+        if (compare_lines(w, DST_VII) || compare_lines(w, DCT_VIII)) return 1;
+        for (uint32_t h = 4; h <= LONGEST; h *= 2)
+            if (compare_size(w, h)) return 1;
+    }
+    printf("bench: the library and the baselines give the same on %d blocks\n", blocks);
+    return 0;
+}

@@ -1,0 +1,71 @@
+# Tables and the aims, from lines of: measure, direction, size, fill, implementation, number.
+
+{ if (!($1 in seen)) { seen[$1] = 1; measure[++measures] = $1 } }
+$1 == "skipped" { skipped += $6; next }
+{
+    name = $2 " " $3 " " $4
+    if (!(name in known)) { known[name] = 1; line[name] = $2 ~ /-line$/; order[++names] = name }
+    value[$1, name, $5] = $6
+}
+
+function has(m, name, who) { return (m, name, who) in value }
+
+function best(m, name,    k, who, least) {
+    least = 0
+    for (k = 1; k <= BASELINES; k++) if (has(m, name, baseline[k])) {
+        who = value[m, name, baseline[k]]
+        if (!least || who < least) least = who
+    }
+    return least
+}
+
+function ratio(a, b) { return b ? sprintf("%.2f", a / b) : "-" }
+function number(m, v) { return m == "ns" ? sprintf("%.1f", v) : v }
+
+function blocks(m,    k, j, name, library) {
+    printf "\n%-22s %10s", m, "library"
+    for (j = 1; j <= BASELINES; j++) printf " %10s", baseline[j]
+    printf " %14s %14s\n", "reference/lib.", "lib./best of C"
+    for (k = 1; k <= names; k++) if (!line[name = order[k]] && has(m, name, "library")) {
+        library = value[m, name, "library"]
+        printf "%-22s %10s", name, number(m, library)
+        for (j = 1; j <= BASELINES; j++) printf " %10s", has(m, name, baseline[j]) ? number(m, value[m, name, baseline[j]]) : "-"
+        printf " %14s %14s\n", ratio(value[m, name, "reference"], library), ratio(library, best(m, name))
+    }
+}
+
+function lines(m,    k, name, head, fast, product) {
+    for (k = 1; k <= names; k++) if (line[name = order[k]] && has(m, name, "fast")) {
+        if (!head++) printf "\n%-22s %10s %10s %14s\n", m, "fast", "product", "product/fast"
+        fast = value[m, name, "fast"]; product = value[m, name, "product"]
+        printf "%-22s %10s %10s %14s\n", name, number(m, fast), number(m, product), ratio(product, fast)
+    }
+}
+
+# The ratio of two numbers of a case, which is to be at least or at most so much.
+function aim(m, name, over, under, bound, limit,    a, b) {
+    if (!has(m, name, "library") || !has(m, name, "reference")) return
+    a = over == "best of C" ? best(m, name) : value[m, name, over]
+    b = under == "best of C" ? best(m, name) : value[m, name, under]
+    printf "%-8s %-22s %-20s %5.2f, %s %.2f\n", (bound == "at least" ? a / b >= limit : a / b <= limit) ? "reached" : "short",
+        name, over "/" under, a / b, bound, limit
+}
+
+function aims(m,    k, f) {
+    print "\naims, in " m
+    for (k = 1; k <= 2; k++) aim(m, "inverse " large[k] " dense", "reference", "library", "at least", 2)
+    for (k = 1; k <= 2; k++) aim(m, "inverse " large[k] " dense", "library", "best of C", "at most", 1.4)
+    for (f = 2; f <= 3; f++) for (k = 1; k <= 3; k++) aim(m, "inverse " large[k] " " fill[f], "reference", "library", "at least", 4)
+    for (k = 1; k <= 2; k++) for (f = 1; f <= 3; f++) aim(m, "inverse " small[k] " " fill[f], "reference", "library", "at least", 1)
+}
+
+END {
+    BASELINES = split("reference triple rows folded butterfly", baseline)
+    split("16x16 32x32 32x8", large)
+    split("4x4 8x8", small)
+    split("dense corner one", fill)
+    for (k = 1; k <= measures; k++) if (measure[k] != "skipped") { blocks(measure[k]); lines(measure[k]) }
+    if (skipped) print "\n" skipped " instructions were left out of the cycles, since llvm-mca does not know them"
+    if ("ns" in seen) aims("ns")
+    else if ("cycles" in seen) aims("cycles")
+}
