@@ -3,28 +3,30 @@ use mathlib.Core.Path.{_≡_, refl, sym, ap, _∙_, subst}
 use mathlib.Core.Bool.{Bool, true, false, cond, _&&_}
 use mathlib.Core.List.{List}
 use Prim.Native.Nat.{ℕ, _+_, _*_, _-_, _^_, _≤_, _<_, min}
-use native.Mathlib.Nat.{mul-comm, le-trans, mul-le-mul, mul-le-mul-right}
+use native.Mathlib.Nat.{add-comm, mul-comm, mul-one, le-trans, mul-le-mul, mul-le-mul-right}
 use native.Mathlib.Omega.{arith}
 use borrow.Author.Tests.{ltb-true, ltb-false}
 use lib.Dec.{eqb, ltb}
 use lib.Pow.{pow-mono}
 use lib.ListN.{length}
-use lib.IntN.{ℤ, pos, natAbs, _*ℤ_, *ℤ-comm}
+use lib.IntN.{ℤ, pos, natAbs, _*ℤ_}
+use Rattle.algebra.specs.Sum.{sum}
 use Rattle.algebra.specs.Shift.{nearest}
 use Rattle.algebra.specs.Lists.{at, tabulate, block}
-use Rattle.algebra.proofs.Order.{abs-mul}
 use Rattle.algebra.proofs.Sum.{sum-cong}
-use Rattle.algebra.proofs.Lists.{place-in, row-in, block-ext, block-at, block-length, block-cong, tab-at}
+use Rattle.algebra.proofs.Lists.{place-in, row-in, block-ext, block-cong, tab-at}
 use Rattle.meaning.specs.declared.Shape.{Shape}
 use Rattle.meaning.specs.Weights.{weight}
-use Rattle.meaning.specs.Line.{term, forwardSum}
+use Rattle.meaning.specs.Line.{forwardSum}
 use Rattle.meaning.specs.Shape.{isSize, keptColumns, keptRows}
 use Rattle.meaning.specs.Forward.{log2, rowShift, columnShift, rowValue, columnValue, coefficient, forwardBlock}
 use Rattle.meaning.proofs.Cases.{size-cases, size-in, depth-cases, pick}
-use Rattle.meaning.proofs.Sizes.{weightSize, forwardSum-short}
+use Rattle.meaning.proofs.Sizes.{forwardSum-short}
 use Rattle.meaning.proofs.Taken.{Taken}
-use Rattle.meaning.proofs.Stages.{columns-in, rows-in, value-short, rowStage-in, rowValue-in, columnValue-in}
+use Rattle.meaning.proofs.Stages.{columns-in, rows-in, value-short, rowStage, rowStage-in, rowValue-in, columnValue-in}
+use Rattle.row_sums.specs.Factors.{laid}
 use Rattle.row_sums.specs.Sums.{rowSum}
+use Rattle.row_sums.proofs.Lines.{along-given, along-sum, down-given, down-sum}
 use Rattle.forward_block.specs.Forward.{Lines, Stage, Residuals, Between, Middle, Room, lineValue, columnOf, keptValue}
 
 -- log2 is between 2 and 5
@@ -40,20 +42,6 @@ size-some = size-cases (λ n. 0 < n) (omega arith) (omega arith) (omega arith) (
 kept-size : (n : ℕ) → isSize n ≡ true → isSize (min n 16) ≡ true
 unfolding isSize
 kept-size = size-cases (λ n. isSize (min n 16) ≡ true) refl refl refl refl
-
-product-in : (a b : ℤ) → natAbs a ≤ 32768 → natAbs b ≤ 90 → natAbs (a *ℤ b) ≤ 2949120
-product-in a b h g = rw (abs-mul a b) (mul-le-mul h g)
-
--- the weights of a line, as they are laid out: input i has its weight in output k at k + i * n
-abbrev pub weights : ℕ → ℕ → List ℤ
-weights kind n = block n n (λ k i. term true kind n k i)
-
-module _ (kind n : ℕ) where
-  weight-at : (k i : ℕ) → k < n → i < n → at (weights kind n) (k + i * n) ≡ weight kind n k i
-  weight-at k i h g = block-at n n (λ k i. term true kind n k i) k i h g
-
-  weights-long : length (weights kind n) ≡ n * n
-  weights-long = block-length n n (λ k i. term true kind n k i)
 
 module _ (sh : Shape) where
   area : sh .height * sh .width ≡ sh .width * sh .height
@@ -81,58 +69,42 @@ module _ (sh : Shape) where
         let p : 2 ^ sh .depth ≤ 4096 = pow-mono {j = 12} (depth-cases (sh .depth) (g .taken .depth) .1) in
         omega (arith, g .small k)
 
-    -- the weight that row i of the factors has in column x
-    factor-at : (x i : ℕ) → x < keptColumns sh → i < sh .width → at (weights (sh .horizontal) (sh .width)) (0 + i * sh .width + x) ≡ weight (sh .horizontal) (sh .width) x i
-    factor-at x i hx hi =
-        let q : 0 + i * sh .width + x ≡ x + i * sh .width = omega arith in
-        ap (at (weights (sh .horizontal) (sh .width))) q ∙ weight-at (sh .horizontal) (sh .width) x i (omega (arith, columns-in sh)) hi
+    module _ {u : List ℤ} (f : u ≡ laid true (sh .horizontal) (sh .width) (sh .width)) where
+      row-sum : (x y : ℕ) → x < keptColumns sh → rowSum u 0 (sh .width) r (y * sh .width) 1 (sh .width) x ≡ rowStage sh r x y
+      unfolding forwardSum
+      row-sum x y hx =
+          along-sum true (sh .horizontal) (sh .width) (sh .width) f r (y * sh .width) (keptColumns sh) (columns-in sh) x (omega (arith, columns-in sh))
+          ∙ sum-cong (sh .width) _ _ (λ i h. ap (λ (k : ℕ). weight (sh .horizontal) (sh .width) x i *ℤ at r k) (add-comm (y * sh .width) i))
 
-    row-sum : (x y : ℕ) → x < keptColumns sh
-        → rowSum (weights (sh .horizontal) (sh .width)) 0 (sh .width) r (y * sh .width) 1 (sh .width) x ≡ forwardSum (sh .horizontal) (sh .width) (λ j. at r (j + y * sh .width)) x
-    unfolding rowSum forwardSum
-    row-sum x y hx =
-        sum-cong (sh .width) _ _
-        (λ i hi.
-        let q : y * sh .width + i * 1 ≡ i + y * sh .width = omega arith in
-        (λ t. at r (q t) *ℤ factor-at x i hx hi t) ∙ *ℤ-comm (at r (i + y * sh .width)) (weight (sh .horizontal) (sh .width) x i))
+      row-same : (x y : ℕ) → x < keptColumns sh → lineValue u (sh .width) r (sh .width) 1 (sh .width) (rowShift sh) x y ≡ rowValue sh r x y
+      unfolding rowValue
+      row-same x y hx = ap (nearest (rowShift sh)) (row-sum x y hx)
 
-    row-same : (x y : ℕ) → x < keptColumns sh → lineValue (weights (sh .horizontal) (sh .width)) (sh .width) r (sh .width) 1 (sh .width) (rowShift sh) x y ≡ rowValue sh r x y
-    unfolding rowValue
-    row-same x y hx = ap (nearest (rowShift sh)) (row-sum x y hx)
-
-    pub row-lines : (room : ℕ) → sh .height * keptColumns sh ≤ room
-        → Lines (keptColumns sh) (keptColumns sh) (sh .height) (weights (sh .horizontal) (sh .width)) (sh .width) r (sh .width) 1 (sh .width) (rowShift sh) room
-    row-lines room e =
-        let w = sh .width in
-        let t = g .taken in
-        let d = depth-cases (sh .depth) (t .depth) in
-        let l = log-in w in
-        record {
-          within = omega arith;
-          held = omega arith;
-          each = λ y hy. record {
-            size = columns-size (t .width);
-            narrow = narrow;
-            some = omega arith;
-            few = omega arith;
-            given = record {
-              some = size-some w (t .width);
-              few = size-in w (t .width);
-              held = λ i x hi hx. omega (arith, row-in w hi, columns-in sh, weights-long (sh .horizontal) w);
-              there = λ i hi. omega (arith, row-in w hy, area, g .long);
-              small = λ i x hi hx.
-                  product-in (at r (y * w + i * 1)) _ (residual-in (y * w + i * 1))
-                  (subst (λ (z : ℤ). natAbs z ≤ 90) (sym (factor-at x i hx hi)) (weightSize (sh .horizontal) w x i));
+      pub row-lines : (room : ℕ) → sh .height * keptColumns sh ≤ room
+          → Lines (keptColumns sh) (keptColumns sh) (sh .height) u (sh .width) r (sh .width) 1 (sh .width) (rowShift sh) room
+      row-lines room e =
+          let w = sh .width in
+          let t = g .taken in
+          let d = depth-cases (sh .depth) (t .depth) in
+          let l = log-in w in
+          record {
+            within = omega arith;
+            held = omega arith;
+            each = λ y hy. record {
+              size = columns-size (t .width);
+              narrow = narrow;
+              some = omega arith;
+              few = omega arith;
+              given = along-given true (sh .horizontal) w w f r (y * w) (keptColumns sh) (columns-in sh) (size-some w (t .width)) (size-in w (t .width))
+                  (λ i hi. omega (arith, row-in w hy, area, g .long)) (λ i hi. residual-in (y * w + i));
+              small = λ x hx. subst (λ (z : ℤ). natAbs z ≤ 67108864) (sym (row-sum x y hx)) (rowStage-in sh t r (g .small) x y (omega (arith, columns-in sh)));
+              short = λ x hx. subst (λ (z : ℤ). natAbs z ≤ 32767) (sym (row-same x y hx)) (le-trans (rowValue-in sh t r (g .small) x y (omega (arith, columns-in sh))) (value-short sh t));
             };
-            small = λ x hx. subst (λ (z : ℤ). natAbs z ≤ 67108864) (sym (row-sum x y hx)) (rowStage-in sh t r (g .small) x y (omega (arith, columns-in sh)));
-            short = λ x hx. subst (λ (z : ℤ). natAbs z ≤ 32767) (sym (row-same x y hx)) (le-trans (rowValue-in sh t r (g .small) x y (omega (arith, columns-in sh))) (value-short sh t));
-          };
-        }
+          }
 
-    pub rows-done : (a a₀ : List ℤ) → sh .height * keptColumns sh ≤ length a₀
-        → Stage (keptColumns sh) (keptColumns sh) (sh .height) (lineValue (weights (sh .horizontal) (sh .width)) (sh .width) r (sh .width) 1 (sh .width) (rowShift sh)) a a₀
-        → Between sh r a
-    rows-done a a₀ l s = record { long = omega (arith, s .long); value = λ x y hx hy. s .done x y hx hy ∙ row-same x y hx }
+      pub rows-done : (a a₀ : List ℤ) → sh .height * keptColumns sh ≤ length a₀
+          → Stage (keptColumns sh) (keptColumns sh) (sh .height) (lineValue u (sh .width) r (sh .width) 1 (sh .width) (rowShift sh)) a a₀ → Between sh r a
+      rows-done a a₀ l s = record { long = omega (arith, s .long); value = λ x y hx hy. s .done x y hx hy ∙ row-same x y hx }
 
     -- ---- between the stages
     module _ {m : List ℤ} (b : Between sh r m) where
@@ -168,23 +140,20 @@ module _ (sh : Shape) where
       both-done e = e ∙ both-stages
 
   -- ---- columns
-  module _ (m : List ℤ) (g : Middle sh m) where
-    value-at : (x i : ℕ) → at m (0 + i * keptColumns sh + x) ≡ at m (x + i * keptColumns sh)
-    value-at x i = let q : 0 + i * keptColumns sh + x ≡ x + i * keptColumns sh = omega arith in ap (at m) q
-
-    weight-here : (y i : ℕ) → y < sh .height → i < sh .height → at (weights (sh .vertical) (sh .height)) (y * 1 + i * sh .height) ≡ weight (sh .vertical) (sh .height) y i
-    weight-here y i hy hi =
-        let q : y * 1 + i * sh .height ≡ y + i * sh .height = omega arith in
-        ap (at (weights (sh .vertical) (sh .height))) q ∙ weight-at (sh .vertical) (sh .height) y i hy hi
+  module _ (m : List ℤ) (g : Middle sh m) {u : List ℤ} (f : u ≡ laid true (sh .vertical) (sh .height) (sh .height)) where
+    -- a line counts its weights by steps of 1
+    by-one : {y : ℕ} → y < sh .height → y * 1 < sh .height
+    by-one {y} h = omega arith
 
     column-sum : (x y : ℕ) → y < sh .height
-        → rowSum m 0 (keptColumns sh) (weights (sh .vertical) (sh .height)) (y * 1) (sh .height) (sh .height) x
-        ≡ forwardSum (sh .vertical) (sh .height) (λ j. at m (x + j * keptColumns sh)) y
-    unfolding rowSum forwardSum
-    column-sum x y hy = sum-cong (sh .height) _ _ (λ i hi t. weight-here y i hy hi t *ℤ value-at x i t)
+        → rowSum m 0 (keptColumns sh) u (y * 1) (sh .height) (sh .height) x ≡ forwardSum (sh .vertical) (sh .height) (λ j. at m (x + j * keptColumns sh)) y
+    unfolding forwardSum
+    column-sum x y hy =
+        down-sum true (sh .vertical) (sh .height) (sh .height) f m (keptColumns sh) (keptColumns sh) (y * 1) (by-one hy) x
+        ∙ ap (λ (k : ℕ). sum (sh .height) (λ j. weight (sh .vertical) (sh .height) k j *ℤ at m (x + j * keptColumns sh))) (mul-one y)
 
     pub column-lines : (room : ℕ) → room ≡ sh .width * sh .height
-        → Lines (keptColumns sh) (sh .width) (keptRows sh) m (keptColumns sh) (weights (sh .vertical) (sh .height)) 1 (sh .height) (sh .height) (columnShift sh) room
+        → Lines (keptColumns sh) (sh .width) (keptRows sh) m (keptColumns sh) u 1 (sh .height) (sh .height) (columnShift sh) room
     column-lines room e =
         let w = sh .width in
         let h = sh .height in
@@ -201,17 +170,9 @@ module _ (sh : Shape) where
                 narrow = narrow;
                 some = omega arith;
                 few = omega arith;
-                given = record {
-                  some = size-some h (t .height);
-                  few = size-in h (t .height);
-                  held = λ i x hi hx. omega (arith, row-in k hi, g .long);
-                  there = λ i hi. omega (arith, row-in h hi, weights-long (sh .vertical) h);
-                  small = λ i x hi hx.
-                      rw (*ℤ-comm (at (weights (sh .vertical) h) (y * 1 + i * h)) (at m (0 + i * k + x)))
-                      (product-in (at m (0 + i * k + x)) _
-                      (subst (λ (z : ℤ). natAbs z ≤ 32768) (sym (value-at x i)) (g .small x i hx hi))
-                      (subst (λ (z : ℤ). natAbs z ≤ 90) (sym (weight-here y i hy hi)) (weightSize (sh .vertical) h y i)));
-                };
+                given = down-given true (sh .vertical) h h f m k k (y * 1) (by-one hy) (size-some h (t .height)) (size-in h (t .height))
+                    (λ i x hi hx. omega (arith, row-in k hi, g .long))
+                    (λ i x hi hx. subst (λ (p : ℕ). natAbs (at m p) ≤ 32768) (add-comm x (i * k)) (g .small x i hx hi));
                 small = λ x hx.
                     subst (λ (z : ℤ). natAbs z ≤ 67108864) (sym (column-sum x y hy))
                     (forwardSum-short (sh .vertical) h (t .vertical) (t .height) (λ j. at m (x + j * k)) (λ j hj. g .small x j hx hj) y hy);
@@ -220,7 +181,7 @@ module _ (sh : Shape) where
         }
 
     pub columns-done : (a a₀ : List ℤ) → length a₀ ≡ sh .width * sh .height → a₀ ≡ tabulate (length a₀) (λ _. pos 0)
-        → Stage (keptColumns sh) (sh .width) (keptRows sh) (lineValue m (keptColumns sh) (weights (sh .vertical) (sh .height)) 1 (sh .height) (sh .height) (columnShift sh)) a a₀
+        → Stage (keptColumns sh) (sh .width) (keptRows sh) (lineValue m (keptColumns sh) u 1 (sh .height) (sh .height) (columnShift sh)) a a₀
         → a ≡ block (sh .width) (sh .height) (keptValue sh m)
     columns-done a a₀ l z s =
         block-ext (sh .width) (sh .height) (keptValue sh m) a (s .long ∙ l ∙ sym area)

@@ -37,8 +37,8 @@ clear-requires c κs = search needs
 lines-requires : tie.Need-lines-requires
 lines-requires c κs =
     let s = c .before .before .before .before .before .before .before .before .before .before .before .before .before in
-    rw (c .before .before .before .before .before .before .before .before .column-shift .ensures, c .before .before .before .before .before .before .before .before .before .before .kept-columns .ensures, c .before .before .before .before .before .before .before .before .before .kept-rows .ensures, c .before .before .before .before .before .before .factors .ensures)
-    (column-lines (s .args .shape) (s .args .m .now) (s .pre .0) _ (cleared (c .before .before .before) ∙ s .pre .1 .1))
+    rw (c .before .before .before .before .before .before .before .before .column-shift .ensures, c .before .before .before .before .before .before .before .before .before .before .kept-columns .ensures, c .before .before .before .before .before .before .before .before .before .kept-rows .ensures)
+    (column-lines (s .args .shape) (s .args .m .now) (s .pre .0) (c .before .before .before .before .before .before .factors .ensures) _ (cleared (c .before .before .before) ∙ s .pre .1 .1))
 
 same-length : tie.Need-same-length
 same-length c = search needs
@@ -50,8 +50,8 @@ returns : tie.Need-returns
 returns c =
     let s = c .before .before .before .before .before .before .before .before .before .before .before .before .before .before .before in
     let l = cleared (c .before .before .before .before .before) in
-    columns-done (s .args .shape) (s .args .m .now) (s .pre .0) _ _ (l ∙ s .pre .1 .1) (c .before .before .before .before .before .clear .ensures ∙ ap (λ (k : ℕ). tabulate k (λ _. pos 0)) (sym l))
-    (rw (c .before .before .before .before .before .before .before .before .before .before .column-shift .ensures, c .before .before .before .before .before .before .before .before .before .before .before .before .kept-columns .ensures, c .before .before .before .before .before .before .before .before .before .before .before .kept-rows .ensures, c .before .before .before .before .before .before .before .before .factors .ensures) at (c .before .lines .ensures))
+    columns-done (s .args .shape) (s .args .m .now) (s .pre .0) (c .before .before .before .before .before .before .before .before .factors .ensures) _ _ (l ∙ s .pre .1 .1) (c .before .before .before .before .before .clear .ensures ∙ ap (λ (k : ℕ). tabulate k (λ _. pos 0)) (sym l))
+    (rw (c .before .before .before .before .before .before .before .before .before .before .column-shift .ensures, c .before .before .before .before .before .before .before .before .before .before .before .before .kept-columns .ensures, c .before .before .before .before .before .before .before .before .before .before .before .kept-rows .ensures) at (c .before .lines .ensures))
 
 pub columns-spec : {M : Type 1} → statement M
 columns-spec =

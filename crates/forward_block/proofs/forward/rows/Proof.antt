@@ -23,8 +23,8 @@ factors-requires c κs = search needs
 lines-requires : tie.Need-lines-requires
 lines-requires c κs =
     let s = c .before .before .before .before .before .before .before .before .before in
-    rw (c .before .before .before .before .before .row-shift .ensures, c .before .before .before .before .before .before .kept-columns .ensures, c .before .before .before .factors .ensures)
-    (row-lines (s .args .shape) (s .args .residuals .now) (s .pre .0) (length (s .args .m .now)) (s .pre .1 .1))
+    rw (c .before .before .before .before .before .row-shift .ensures, c .before .before .before .before .before .before .kept-columns .ensures)
+    (row-lines (s .args .shape) (s .args .residuals .now) (s .pre .0) (c .before .before .before .factors .ensures) (length (s .args .m .now)) (s .pre .1 .1))
 
 same-length : tie.Need-same-length
 same-length c = search needs
@@ -35,8 +35,8 @@ same-length-2 c = search needs
 returns : tie.Need-returns
 returns c =
     let s = c .before .before .before .before .before .before .before .before .before .before .before in
-    rows-done (s .args .shape) (s .args .residuals .now) (s .pre .0) _ (s .args .m .now) (s .pre .1 .1)
-    (rw (c .before .before .before .before .before .before .before .row-shift .ensures, c .before .before .before .before .before .before .before .before .kept-columns .ensures, c .before .before .before .before .before .factors .ensures) at (c .before .lines .ensures))
+    rows-done (s .args .shape) (s .args .residuals .now) (s .pre .0) (c .before .before .before .before .before .factors .ensures) _ (s .args .m .now) (s .pre .1 .1)
+    (rw (c .before .before .before .before .before .before .before .row-shift .ensures, c .before .before .before .before .before .before .before .before .kept-columns .ensures) at (c .before .lines .ensures))
 
 pub rows-spec : {M : Type 1} → statement M
 rows-spec =
