@@ -1,94 +1,103 @@
--- Values that a loop puts at places `step` apart, and lines that a stage puts one after the other. Assumes nothing.
+-- A part of a buffer that was lent and came back, and lines that a stage puts one below the other. Assumes nothing.
 use mathlib.Core.Path.{_≡_, refl, sym, ap, _∙_, subst}
 use mathlib.Core.List.{List, _++_}
 use Prim.Native.Nat.{ℕ, _+_, _*_, _-_, _≤_, _<_}
 use native.Mathlib.Nat.{not-suc-le-zero}
 use native.Mathlib.Decide.{ℕ-discrete}
 use native.Mathlib.Omega.{arith}
-use lib.ListN.{length, take, set, length-set, length-append}
-use lib.Seq.{getD-set-same, getD-set-other, take-at}
+use lib.ListN.{length, take, drop, length-append, length-take, length-drop, List·getD-append}
+use lib.Seq.{getD-append-add, getD-take, getD-drop, length-take-le}
 use lib.IntN.{ℤ, pos, natAbs}
 use Rattle.algebra.specs.Shift.{nearest}
-use Rattle.algebra.specs.Lists.{at}
-use Rattle.algebra.proofs.Lists.{row-in, tab-length, tab-at}
-use Rattle.meaning.specs.Line.{forwardSum, forwardLine}
-use Rattle.meaning.proofs.Sizes.{forwardSum-short}
-use Rattle.engine.specs.Lines.{input}
-use Rattle.forward_block.specs.Forward.{Sums, Put, Line, Lines, Stage, lineValue}
+use Rattle.algebra.specs.Lists.{at, tabulate}
+use Rattle.algebra.proofs.Lists.{Filled, row-in, part-same, tab-length, tab-at}
+use Rattle.row_sums.specs.Sums.{rowSum}
+use Rattle.forward_block.specs.Forward.{Sums, Line, Stage}
 
--- ---- a part from the start of a local buffer, that was lent and came back as L
+-- ---- a part from the start of a buffer, that was lent and came back as L
 pub front : {A : Type 0} (L Z P : List A) (n : ℕ) → length L ≡ n → Z ≡ L → take (n - 0) (Z ++ P) ≡ L
-front L Z P n l e =
-    let q : n - 0 ≡ n = omega arith in
-    rw (q, e) (take-at L P n l)
+front L Z P n l e = rw e (part-same n L P l)
 
 pub front-in : {A : Type 0} (L Z P : List A) (n : ℕ) → length L ≡ n → Z ≡ L → n ≤ length (Z ++ P)
 front-in L Z P n l e = rw e (omega (arith, length-append L P))
 
+-- ---- a part of k numbers from a on, that was lent and came back as f 0, f 1, ..
+pub part-in : (l : List ℤ) (a k : ℕ) → a + k ≤ length l → length (take (a + k - a) (drop a l)) ≡ k
+part-in l a k h = simp (length-take, length-drop) (omega arith)
+
+pub part-filled : (l ys : List ℤ) (a k : ℕ) (f : ℕ → ℤ) → a + k ≤ length l → ys ≡ tabulate (length (take (a + k - a) (drop a l))) f
+    → Filled a k (take a l ++ (ys ++ drop (a + k - a) (drop a l))) l f
+part-filled l ys a k f h e =
+    record {
+      long = simp (length-append, length-drop) (omega (arith, front-long, ys-long));
+      done = λ i g. past i ∙ List·getD-append ys (drop (a + k - a) (drop a l)) (pos 0) i (omega (arith, ys-long)) ∙ ap (λ (u : List ℤ). at u i) ys-all ∙ tab-at k f i g;
+      before = λ i g. List·getD-append (take a l) (ys ++ drop (a + k - a) (drop a l)) (pos 0) i (omega (arith, front-long)) ∙ getD-take a l i (pos 0) g;
+      after = λ i g. beyond i (i - (a + k)) (omega arith);
+    }
+  where
+    front-long : length (take a l) ≡ a
+    front-long = length-take-le a l (omega arith)
+
+    ys-all : ys ≡ tabulate k f
+    ys-all = e ∙ ap (λ (n : ℕ). tabulate n f) (part-in l a k h)
+
+    ys-long : length ys ≡ k
+    ys-long = ap length ys-all ∙ tab-length k f
+
+    past : (i : ℕ) → at (take a l ++ (ys ++ drop (a + k - a) (drop a l))) (a + i) ≡ at (ys ++ drop (a + k - a) (drop a l)) i
+    past i =
+        let q : a + i ≡ length (take a l) + i = omega (arith, front-long) in
+        ap (at (take a l ++ (ys ++ drop (a + k - a) (drop a l)))) q ∙ getD-append-add (take a l) (ys ++ drop (a + k - a) (drop a l)) i (pos 0)
+
+    beyond : (i j : ℕ) → i ≡ a + (k + j) → at (take a l ++ (ys ++ drop (a + k - a) (drop a l))) i ≡ at l i
+    beyond i j q =
+        let v : k + j ≡ length ys + j = omega (arith, ys-long) in
+        let u : a + (a + k - a + j) ≡ i = omega arith in
+        ap (at (take a l ++ (ys ++ drop (a + k - a) (drop a l)))) q ∙ past (k + j) ∙ ap (at (ys ++ drop (a + k - a) (drop a l))) v
+        ∙ getD-append-add ys (drop (a + k - a) (drop a l)) j (pos 0)
+        ∙ getD-drop (a + k - a) (drop a l) j (pos 0) ∙ getD-drop a l (a + k - a + j) (pos 0) ∙ ap (at l) u
+
 -- ---- the sums of a line
-module _ (kind n : ℕ) (x : ℕ → ℤ) where
-  pub sums-length : length (forwardLine kind n x) ≡ n
-  unfolding forwardLine
-  sums-length = tab-length n (forwardSum kind n x)
-
-  pub sums-at : (k : ℕ) → k < n → at (forwardLine kind n x) k ≡ forwardSum kind n x k
-  unfolding forwardLine
-  sums-at = tab-at n (forwardSum kind n x)
-
-pub line-sums : {n kind shift count from step room : ℕ} (s : List ℤ) → Line n kind shift count from step s room
-    → Sums shift count from step (forwardLine kind n (input s from step)) room
-line-sums {n} {kind} {shift} {count} {from} {step} s g =
-    let x = input s from step in
+pub line-sums : {kept apart p step count shift : ℕ} (rows weights : List ℤ) → Line kept rows apart weights p step count shift
+    → Sums shift (tabulate kept (rowSum rows 0 apart weights p step count))
+line-sums {kept} {apart} {p} {step} {count} {shift} rows weights g =
+    let f = rowSum rows 0 apart weights p step count in
     record {
       some = g .some;
       few = g .few;
-      far = g .far;
-      there = omega (arith, g .kept, sums-length kind n x);
-      held = g .held;
-      small = λ i h. rw (sums-at kind n x i (omega (arith, g .kept))) (forwardSum-short kind n (g .known) (g .size) x (g .small) i (omega (arith, g .kept)));
-      short = λ i h. rw (sums-at kind n x i (omega (arith, g .kept))) (g .short i (omega (arith, g .kept)));
+      small = λ x h. subst (λ (z : ℤ). natAbs z ≤ 67108864) (sym (tab-at kept f x (omega (arith, tab-length kept f)))) (g .small x (omega (arith, tab-length kept f)));
+      short = λ x h. subst (λ (z : ℤ). natAbs (nearest shift z) ≤ 32767) (sym (tab-at kept f x (omega (arith, tab-length kept f)))) (g .short x (omega (arith, tab-length kept f)));
     }
 
--- ---- places that a loop fills
+-- ---- lines
+module _ {kept wide : ℕ} {f : ℕ → ℕ → ℤ} where
+  pub stage-none : (a : List ℤ) → Stage kept wide 0 f a a
+  stage-none a =
+      record { long = refl; done = λ x y h g. absurd (not-suc-le-zero g); beside = λ x y h v g. absurd (not-suc-le-zero g); below = λ k h. refl }
 
-pub put-none : (from step : ℕ) (f : ℕ → ℤ) (a : List ℤ) → Put 0 from step f a a
-put-none from step f a = record { long = refl; done = λ i h. absurd (not-suc-le-zero h); rest = λ p n. refl }
-
-pub put-next : {from step j : ℕ} {f : ℕ → ℤ} {a a₀ : List ℤ} (z : ℤ) → 0 < step → from + j * step < length a₀ → Put j from step f a a₀ → z ≡ f j
-    → Put (j + 1) from step f (set a (from + j * step) z) a₀
-put-next {from} {step} {j} {f} {a} {a₀} z far l p e =
-    record {
-      long = length-set a (from + j * step) z ∙ p .long;
-      done = λ i h. one i h (ℕ-discrete i j);
-      rest = λ k n. getD-set-other a (from + j * step) k z (pos 0) (n j (omega arith)) ∙ p .rest k (λ i h. n i (omega arith));
-    }
-  where
-    one : (i : ℕ) → i < j + 1 → Dec (i ≡ j) → at (set a (from + j * step) z) (from + i * step) ≡ f i
-    one i h (yes q) = subst (λ (m : ℕ). at (set a (from + j * step) z) (from + m * step) ≡ f m) (sym q) (getD-set-same a (from + j * step) z (pos 0) (omega (arith, p .long)) ∙ e)
-    one i h (no n) =
-        let l : i < j = omega arith in
-        getD-set-other a (from + j * step) (from + i * step) z (pos 0) (λ q. omega (arith, row-in step l)) ∙ p .done i l
-
-pub put-same : {count from step : ℕ} {f g : ℕ → ℤ} {a a₀ : List ℤ} → ((i : ℕ) → i < count → f i ≡ g i) → Put count from step f a a₀ → Put count from step g a a₀
-put-same e p = record { long = p .long; done = λ i h. p .done i h ∙ e i h; rest = p .rest }
-
-module _ {n kind shift count apart step : ℕ} {s : List ℤ} where
-  pub stage-none : (a : List ℤ) → Stage n kind shift 0 count apart step s a a
-  stage-none a = record { long = refl; done = λ i k h. absurd (not-suc-le-zero h); rest = λ p n. refl }
-
-  -- one line more: it touches no place of the lines before it
-  pub stage-next : {lines room j : ℕ} {b a a₀ : List ℤ} → Lines n kind shift lines count apart step s room → j < lines
-      → Stage n kind shift j count apart step s a a₀ → Put count (j * apart) step (lineValue shift kind n s (j * apart) step) b a
-      → Stage n kind shift (j + 1) count apart step s b a₀
-  stage-next {lines} {room} {j} {b} {a} g l p q =
+  -- one line more: it touches no row before it, and none after it
+  pub stage-next : {y : ℕ} {b a a₀ : List ℤ} → kept ≤ wide → Stage kept wide y f a a₀ → Filled (y * wide) kept b a (λ x. f x y) → Stage kept wide (y + 1) f b a₀
+  stage-next {y} {b} {a} {a₀} w p q =
       record {
         long = q .long ∙ p .long;
-        done = λ i k h v. one i k h v (ℕ-discrete i j);
-        rest = λ z m. q .rest z (λ k v. m j k (omega arith) v) ∙ p .rest z (λ i k h. m i k (omega arith));
+        done = λ x v h g. in-line x v h g (ℕ-discrete v y);
+        beside = λ x v h l g. off-line x v h l g (ℕ-discrete v y);
+        below = λ k h. q .after k (omega arith) ∙ p .below k (omega arith);
       }
     where
-      one : (i k : ℕ) → i < j + 1 → k < count → Dec (i ≡ j) → at b (i * apart + k * step) ≡ lineValue shift kind n s (i * apart) step k
-      one i k h v (yes e) = subst (λ (m : ℕ). at b (m * apart + k * step) ≡ lineValue shift kind n s (m * apart) step k) (sym e) (q .done k v)
-      one i k h v (no d) =
-          let f : i < j = omega arith in
-          q .rest (i * apart + k * step) (λ m u e. d (g .alone i j k m (omega arith) l v u e)) ∙ p .done i k f v
+      in-line : (x v : ℕ) → x < kept → v < y + 1 → Dec (v ≡ y) → at b (x + v * wide) ≡ f x v
+      in-line x v h g (yes e) =
+          let s : x + y * wide ≡ y * wide + x = omega arith in
+          subst (λ (m : ℕ). at b (x + m * wide) ≡ f x m) (sym e) (ap (at b) s ∙ q .done x h)
+      in-line x v h g (no n) =
+          let l : v < y = omega arith in
+          q .before (x + v * wide) (omega (arith, row-in wide l)) ∙ p .done x v h l
+
+      off-line : (x v : ℕ) → kept ≤ x → x < wide → v < y + 1 → Dec (v ≡ y) → at b (x + v * wide) ≡ at a₀ (x + v * wide)
+      off-line x v h u g (yes e) =
+          let s : y * wide + kept ≤ x + v * wide = subst (λ (m : ℕ). y * wide + kept ≤ x + m * wide) (sym e) (omega arith) in
+          let t : y * wide ≤ x + v * wide = omega arith in
+          q .after (x + v * wide) s ∙ p .below (x + v * wide) t
+      off-line x v h u g (no n) =
+          let l : v < y = omega arith in
+          q .before (x + v * wide) (omega (arith, row-in wide l)) ∙ p .beside x v h u l

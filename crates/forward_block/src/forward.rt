@@ -1,13 +1,10 @@
-// Forward blocks: rows first, then columns, each sum rounded. Both are one stage: lines of a buffer, whose rounded sums
-// go to the same places of another.
-use engine::fast::fast;
+// Forward blocks: rows first, then columns, each sum rounded. Both are stretches of weighted sums of rows: of the rows of
+// factors with the residuals as weights, then of the rows of what stands between with the factors as weights.
 use meaning::Shape;
 use meaning::kept_columns;
 use meaning::kept_rows;
-use tables::weights_4;
-use tables::weights_8;
-use tables::weights_16;
-use tables::weights_32;
+use row_sums::factors::factors;
+use row_sums::sums::row_sums;
 ghost use mathlib.Core.Path.{_≡_};
 ghost use mathlib.Core.Bool.{true};
 ghost use Prim.Native.Nat.{_+_, _*_, _-_, _^_, _<_, _≤_};
@@ -19,10 +16,10 @@ ghost use mir.Syntax.{w32};
 ghost use mir.Val.{SFits};
 ghost use Rattle.algebra.specs.Shift.{nearest};
 ghost use Rattle.algebra.specs.Lists.{at, tabulate, block};
-ghost use Rattle.meaning.specs.Shape.{isSize, isDepth, keptColumns, keptRows};
-ghost use Rattle.meaning.specs.Forward.{log2, rowShift, columnShift, rowValue, firstTooLarge, forwardBlock};
-ghost use Rattle.tables.specs.Table.{Table};
-ghost use Rattle.forward_block.specs.Forward.{Sums, Line, Lines, Residuals, Middle, Put, Stage, lineValue, keptValue};
+ghost use Rattle.meaning.specs.Shape.{isDepth, keptColumns};
+ghost use Rattle.meaning.specs.Forward.{log2, rowShift, columnShift, firstTooLarge, forwardBlock};
+ghost use Rattle.row_sums.specs.Sums.{rowSum};
+ghost use Rattle.forward_block.specs.Forward.{Sums, Line, Lines, Stage, Residuals, Between, Middle, Room, lineValue, keptValue};
 
 // The size, in 32 bits: 16 do not hold that of -32768.
 fn size(z: i16) -> u32
@@ -91,101 +88,70 @@ fn rounded(e: i32, n: u32) -> i16
     down(e + power(n - 1) as i32, n) as i16
 }
 
-// The first `count` of the sums e, rounded, from place `from` on, `step` apart.
-fn put(e: &[i32], shift: u32, count: usize, out: &mut [i16], from: usize, step: usize)
-    requires { ⌜ Sums shift count from step (now e) (length (now out)) ⌝ }
-    ensures { λ _. ⌜ Put count from step (λ i. nearest shift (at (now (e .entry)) i)) (now (out .exit)) (now (out .entry)) ⌝ }
+fn put(e: &[i32], shift: u32, part: &mut [i16])
+    requires { ⌜ Sums shift (now e) × (length (now e) ≡ length (now part)) ⌝ }
+    ensures { λ _. ⌜ now (part .exit) ≡ tabulate (length (now (part .entry))) (λ x. nearest shift (at (now (e .entry)) x)) ⌝ }
 {
-    let mut i = 0;
-    while i < count {
-        out[from + i * step] = rounded(e[i], shift);
-        i += 1;
+    let mut x = 0;
+    while x < part.len() {
+        part[x] = rounded(e[x], shift);
+        x += 1;
     }
 }
 
-// Room for the sums of the longest line, and for the largest block: of either, only its length is told.
-fn line_room() -> [i32; 32]
-    ensures { λ r. ⌜ 32 ≡ length r ⌝ }
-{
-    [0; 32]
-}
-
-fn block_room() -> [i16; 1024]
-    ensures { λ r. ⌜ 1024 ≡ length r ⌝ }
-{
-    [0; 1024]
-}
-
-// One line: the numbers of s from place `from` on, `step` apart; the first `count` of its sums go to these places of out.
+// One line of a stage: as many sums as there is room for, rounded.
 fn line(
-    t: &[i16],
-    n: usize,
-    kind: u32,
-    s: &[i16],
-    from: usize,
+    rows: &[i16],
+    apart: usize,
+    weights: &[i16],
+    p: usize,
     step: usize,
-    shift: u32,
     count: usize,
-    out: &mut [i16],
+    shift: u32,
+    part: &mut [i16],
 )
-    requires { ⌜ Table n (now t) × Line n kind shift count from step (now s) (length (now out)) ⌝ }
-    ensures { λ _. ⌜ Put count from step (lineValue shift kind n (now (s .entry)) from step) (now (out .exit)) (now (out .entry)) ⌝ }
+    requires { ⌜ Line (length (now part)) (now rows) apart (now weights) p step count shift ⌝ }
+    ensures { λ _. ⌜ now (part .exit) ≡ tabulate (length (now (part .entry))) (λ x. nearest shift (rowSum (now (rows .entry)) 0 apart (now (weights .entry)) p step count x)) ⌝ }
 {
-    let mut e = line_room();
-    fast(t, n, kind, true, s, from, step, n, &mut e[0..n]);
-    put(&e[0..n], shift, count, out, from, step);
+    let n = part.len();
+    let mut e = [0i32; 16];
+    row_sums(rows, 0, apart, weights, p, step, count, &mut e[0..n]);
+    put(&e[0..n], shift, part);
 }
 
-// Lines of a block; line i starts at i * apart.
+// A stage: line y has its weights from y * far on, and goes to the first `kept` places of row y of out; a row of out is
+// `wide` long.
 fn lines(
-    t: &[i16],
-    n: usize,
-    kind: u32,
-    s: &[i16],
-    some: usize,
+    rows: &[i16],
     apart: usize,
+    weights: &[i16],
+    far: usize,
     step: usize,
-    shift: u32,
     count: usize,
+    shift: u32,
+    some: usize,
+    kept: usize,
+    wide: usize,
     out: &mut [i16],
 )
-    requires { ⌜ Table n (now t) × Lines n kind shift some count apart step (now s) (length (now out)) ⌝ }
-    ensures { λ _. ⌜ Stage n kind shift some count apart step (now (s .entry)) (now (out .exit)) (now (out .entry)) ⌝ }
+    requires { ⌜ Lines kept wide some (now rows) apart (now weights) far step count shift (length (now out)) ⌝ }
+    ensures { λ _. ⌜ Stage kept wide some (lineValue (now (rows .entry)) apart (now (weights .entry)) far step count shift) (now (out .exit)) (now (out .entry)) ⌝ }
 {
-    let mut i = 0;
-    while i < some {
-        line(t, n, kind, s, i * apart, step, shift, count, out);
-        i += 1;
-    }
-}
-
-// The same, with the table of its size.
-fn stage(
-    n: usize,
-    kind: u32,
-    s: &[i16],
-    some: usize,
-    apart: usize,
-    step: usize,
-    shift: u32,
-    count: usize,
-    out: &mut [i16],
-)
-    requires { ⌜ (isSize n ≡ true) × Lines n kind shift some count apart step (now s) (length (now out)) ⌝ }
-    ensures { λ _. ⌜ Stage n kind shift some count apart step (now (s .entry)) (now (out .exit)) (now (out .entry)) ⌝ }
-{
-    if n == 4 {
-        let t = weights_4();
-        lines(&t, n, kind, s, some, apart, step, shift, count, out);
-    } else if n == 8 {
-        let t = weights_8();
-        lines(&t, n, kind, s, some, apart, step, shift, count, out);
-    } else if n == 16 {
-        let t = weights_16();
-        lines(&t, n, kind, s, some, apart, step, shift, count, out);
-    } else {
-        let t = weights_32();
-        lines(&t, n, kind, s, some, apart, step, shift, count, out);
+    let mut y = 0;
+    while y < some {
+        let a = y * wide;
+        let b = a + kept;
+        line(
+            rows,
+            apart,
+            weights,
+            y * far,
+            step,
+            count,
+            shift,
+            &mut out[a..b],
+        );
+        y += 1;
     }
 }
 
@@ -228,39 +194,53 @@ fn column_shift(shape: Shape) -> u32
     log(shape.height) + 6
 }
 
-// "Rows first": what stands between the stages.
-fn rows(shape: Shape, residuals: &[i16], m: &mut [i16])
-    requires { ⌜ Residuals shape (now residuals) × (length (now m) ≡ shape .width * shape .height) ⌝ }
-    ensures { λ _. ⌜ now (m .exit) ≡ block (shape .width) (shape .height) (rowValue shape (now (residuals .entry))) ⌝ }
+// "Rows first": what stands between the stages. "Coefficients outside the kept rows and columns are written 0", so only the
+// kept columns are made.
+fn rows(shape: Shape, residuals: &[i16], u: &mut [i16], m: &mut [i16])
+    requires { ⌜ Residuals shape (now residuals) × ((length (now u) ≡ shape .width * shape .width) × (shape .height * keptColumns shape ≤ length (now m))) ⌝ }
+    ensures { λ _. ⌜ Between shape (now (residuals .entry)) (now (m .exit)) ⌝ }
 {
     let w = shape.width as usize;
     let h = shape.height as usize;
-    let kind = shape.horizontal;
+    let kept = kept_columns(shape);
     let shift = row_shift(shape);
-    stage(w, kind, residuals, h, w, 1, shift, w, m);
+    factors(w, shape.horizontal, true, w, u);
+    lines(u, w, residuals, w, 1, w, shift, h, kept, kept, m);
 }
 
-// "Then columns", the kept ones; "Coefficients outside the kept rows and columns are written 0".
-fn columns(shape: Shape, m: &[i16], coefficients: &mut [i16])
-    requires { ⌜ Middle shape (now m) × (length (now coefficients) ≡ shape .width * shape .height) ⌝ }
+// "Then columns", the kept rows of them.
+fn columns(shape: Shape, m: &[i16], u: &mut [i16], coefficients: &mut [i16])
+    requires { ⌜ Middle shape (now m) × ((length (now u) ≡ shape .height * shape .height) × (length (now coefficients) ≡ shape .width * shape .height)) ⌝ }
     ensures { λ _. ⌜ now (coefficients .exit) ≡ block (shape .width) (shape .height) (keptValue shape (now (m .entry))) ⌝ }
 {
     let w = shape.width as usize;
     let h = shape.height as usize;
-    let wide = kept_columns(shape);
-    let high = kept_rows(shape);
-    let kind = shape.vertical;
+    let kept = kept_columns(shape);
+    let some = kept_rows(shape);
     let shift = column_shift(shape);
+    factors(h, shape.vertical, true, h, u);
     clear(coefficients);
-    stage(h, kind, m, wide, 1, w, shift, high, coefficients);
+    lines(m, kept, u, 1, h, h, shift, some, kept, w, coefficients);
+}
+
+// Both stages in lent buffers: u for the weights of either stage, m for what stands between them.
+fn both(shape: Shape, residuals: &[i16], u: &mut [i16], m: &mut [i16], coefficients: &mut [i16])
+    requires { ⌜ Residuals shape (now residuals) × (Room shape (length (now u)) (length (now m)) × (length (now coefficients) ≡ shape .width * shape .height)) ⌝ }
+    ensures { λ _. ⌜ now (coefficients .exit) ≡ forwardBlock shape (now (residuals .entry)) ⌝ }
+{
+    let w = shape.width as usize;
+    let h = shape.height as usize;
+    let wide = w * w;
+    let high = h * h;
+    rows(shape, residuals, &mut u[0..wide], m);
+    columns(shape, m, &mut u[0..high], coefficients);
 }
 
 pub fn stages(shape: Shape, residuals: &[i16], coefficients: &mut [i16])
     requires { ⌜ Residuals shape (now residuals) × (length (now coefficients) ≡ shape .width * shape .height) ⌝ }
     ensures { λ _. ⌜ now (coefficients .exit) ≡ forwardBlock shape (now (residuals .entry)) ⌝ }
 {
-    let area = shape.width as usize * shape.height as usize;
-    let mut m = block_room();
-    rows(shape, residuals, &mut m[0..area]);
-    columns(shape, &m[0..area], coefficients);
+    let mut u = [0i16; 1024];
+    let mut m = [0i16; 512];
+    both(shape, residuals, &mut u, &mut m, coefficients);
 }

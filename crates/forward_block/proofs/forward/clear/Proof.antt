@@ -1,10 +1,10 @@
 -- `forward::clear` meets its contract. Assumes nothing.
 use borrow.Author.Needs.{needs}
 use native.Mathlib.Omega.{arith}
-use mathlib.Core.Path.{_≡_, refl, sym, ap, _∙_, subst}
+use mathlib.Core.Path.{_≡_, refl, subst}
 use Prim.Native.Nat.{ℕ, _-_, _≤_}
-use lib.ListN.{length, length-set}
-use lib.IntN.{ℤ, pos}
+use lib.ListN.{length}
+use lib.IntN.{pos}
 use Rattle.algebra.proofs.Lists.{Filled, fill-none, fill-first, filled}
 use Rattle.forward_block.proofs.forward.clear.Statement.{statement}
 use Rattle.forward_block.proofs.forward.clear.Tie as tie
