@@ -1,12 +1,12 @@
 -- Laws of clipping, over any range of ends. Assumes nothing.
-use mathlib.Core.Path.{_≡_, refl, sym, ap, _∙_, subst}
+use mathlib.Core.Path.{_≡_, refl}
 use mathlib.Core.Bool.{Bool, true, false, not, cond}
 use native.Mathlib.Omega.{arith}
 use lib.Dec.{T}
 use lib.IntN.{ℤ}
-use lib.Signed.{ltZ, _≤ℤ_, _<ℤ_, ltZ-yes, ltZ-no, ≤ℤ-refl}
+use lib.Signed.{ltZ, _≤ℤ_, _<ℤ_, ltZ-yes, ltZ-no}
 use Rattle.algebra.specs.Clip.{Range, clip}
-use Rattle.algebra.proofs.Order.{le-parts, lt-parts, parts-le}
+use Rattle.algebra.proofs.Order.{le-parts, lt-parts}
 
 -- a test of order, by what it says
 pub order-cases : (a b : ℤ) (P : Bool → Type 0) → (a <ℤ b → P true) → (b ≤ℤ a → P false) → P (ltZ a b)
@@ -16,9 +16,6 @@ order-cases a b P below above = go (ltZ a b) (λ t. below (ltZ-yes t)) (λ t. ab
     go true f g = f tt
     go false f g = g tt
 
-<-≤ : {a b : ℤ} → a <ℤ b → a ≤ℤ b
-<-≤ {a} {b} h = parts-le a b (omega (arith, lt-parts h))
-
 -- by cases: below the range, above it, in it
 pub clip-cases : (r : Range) (z : ℤ) (P : ℤ → Type 0) → (z <ℤ r .low → P (r .low)) → (r .high <ℤ z → P (r .high)) → (r .low ≤ℤ z → z ≤ℤ r .high → P z) → P (clip r z)
 clip-cases r z P low high inside =
@@ -26,12 +23,6 @@ clip-cases r z P low high inside =
     (λ l. order-cases (r .high) z (λ (b : Bool). P (cond b (r .high) z)) high (λ h. inside l h))
 
 module _ (r : Range) (z : ℤ) where
-  pub clip-low : r .low ≤ℤ r .high → r .low ≤ℤ clip r z
-  clip-low h = clip-cases r z (λ (x : ℤ). r .low ≤ℤ x) (λ _. ≤ℤ-refl (r .low)) (λ _. h) (λ l _. l)
-
-  pub clip-high : r .low ≤ℤ r .high → clip r z ≤ℤ r .high
-  clip-high h = clip-cases r z (λ (x : ℤ). x ≤ℤ r .high) (λ _. h) (λ _. ≤ℤ-refl (r .high)) (λ _ l. l)
-
   -- unchanged inside
   pub clip-same : r .low ≤ℤ z → z ≤ℤ r .high → clip r z ≡ z
   clip-same l h =

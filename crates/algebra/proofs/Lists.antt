@@ -8,7 +8,7 @@ use native.Mathlib.Omega.{arith}
 use native.Mathlib.Decide.{ℕ-discrete}
 use lib.Arith.{digits-mod, digits-div}
 use lib.ListN.{length, take, drop, getD, set, replicate, length-append, length-set, length-drop, List·getD-append, drop-of-length-le}
-use lib.Seq.{ext-getD, getD-at, getD-append-add, getD-set-same, getD-set-other, take-at, drop-at, drop-drop, drop-cons, set-at, append-snoc, length-take-le}
+use lib.Seq.{ext-getD, getD-at, getD-append-add, getD-set-same, getD-set-other, take-at, drop-at, drop-drop, length-take-le}
 use lib.IntN.{ℤ, pos}
 use Rattle.algebra.specs.Lists.{at, tabulate, block, flat}
 use Rattle.algebra.proofs.Table.{last}
@@ -79,12 +79,6 @@ column-of {x} {w} y h = ap (λ (k : ℕ). k % w) (add-comm x (y * w)) ∙ digits
 
 pub row-of : {x w : ℕ} (y : ℕ) → x < w → (x + y * w) / w ≡ y
 row-of {x} {w} y h = ap (λ (k : ℕ). k / w) (add-comm x (y * w)) ∙ digits-div y h
-
-pub same-column : {x x′ w : ℕ} (y y′ : ℕ) → x < w → x′ < w → x + y * w ≡ x′ + y′ * w → x ≡ x′
-same-column {w = w} y y′ h h′ e = sym (column-of y h) ∙ ap (λ (k : ℕ). k % w) e ∙ column-of y′ h′
-
-pub same-row : {x x′ w : ℕ} (y y′ : ℕ) → x < w → x′ < w → x + y * w ≡ x′ + y′ * w → y ≡ y′
-same-row {w = w} y y′ h h′ e = sym (row-of y h) ∙ ap (λ (k : ℕ). k / w) e ∙ row-of y′ h′
 
 -- what holds of every column of every row holds of every place
 pub every-place : (w h : ℕ) (P : ℕ → Type 0) → ((x y : ℕ) → x < w → y < h → P (x + y * w)) → (k : ℕ) → k < h * w → P k

@@ -1,12 +1,12 @@
 -- A reflective normaliser for ring identities over ℤ. Assumes nothing.
 --   ring (a ∷ b ∷ c ∷ []) ((ν 0 ⊕ ν 1) ⊗ ν 2 ⊖ ν 0 ⊗ ν 2) (ν 1 ⊗ ν 2) refl : (a +ℤ b) *ℤ c -ℤ a *ℤ c ≡ b *ℤ c
-use mathlib.Core.Path.{_≡_, refl, sym, ap, _∙_, subst}
+use mathlib.Core.Path.{_≡_, refl, sym, ap, _∙_}
 use mathlib.Core.List.{List, [], _∷_}
 use mathlib.Core.Bool.{Bool, true, false}
 use Prim.Native.Nat.{ℕ, zero, suc}
 use lib.Dec.{T, ltb, eqb, eqb→eq}
-use lib.IntN.{ℤ, pos, negsuc, negℤ, _+ℤ_, _-ℤ_, _*ℤ_, +ℤ-idl, +ℤ-idr, +ℤ-assoc, +ℤ-comm, +ℤ-invr, zero-*ℤ, *ℤ-zero, *ℤ-comm, negℤ-+ℤ}
-use Rattle.algebra.proofs.Ring.{+ℤ-left-comm, add-*ℤ, *ℤ-add, neg-*ℤ, *ℤ-neg, *ℤ-assoc, *ℤ-left-comm, one-*ℤ}
+use lib.IntN.{ℤ, pos, negsuc, negℤ, _+ℤ_, _-ℤ_, _*ℤ_, +ℤ-idl, +ℤ-idr, +ℤ-assoc, +ℤ-comm, +ℤ-invr, zero-*ℤ, *ℤ-zero, *ℤ-comm}
+use Rattle.algebra.proofs.Ring.{+ℤ-left-comm, add-*ℤ, *ℤ-add, neg-*ℤ, *ℤ-assoc, *ℤ-left-comm, one-*ℤ}
 
 infixl 6 _⊕_ _⊖_
 infixl 7 _⊗_

@@ -1,15 +1,14 @@
 -- Size and order of integers, and their linear arithmetic handed to omega. Assumes nothing.
-use mathlib.Core.Path.{_≡_, refl, sym, ap, _∙_, subst}
-use mathlib.Core.List.{List, [], _∷_}
+use mathlib.Core.Path.{_≡_, refl, ap}
+use mathlib.Core.List.{List}
 use mathlib.Core.Bool.{Bool, true, false, not, cond}
 use Prim.Native.Nat.{ℕ, zero, suc, _+_, _-_, _*_, _^_, _≤_, _<_, min}
 use native.Mathlib.Omega.{arith}
-use native.Mathlib.Nat.{mul-le-mul, le-trans, mul-zero, zero-mul, lt-of-le-of-lt, lt-of-lt-of-le}
-use lib.Pow.{pow-mono}
-use lib.Dec.{T, ltb, leb, ltb→lt, nltb→le, leb→le, le→leb, lt→ltb}
-use lib.IntN.{ℤ, pos, negsuc, negℤ, natAbs, subℕ, _+ℤ_, _-ℤ_, _*ℤ_}
-use lib.Signed.{mag, leZ, ltZ, _≤ℤ_, _<ℤ_, leZ-yes, ltZ-yes}
-use mir.Syntax.{Width, w8, w16, w32, w64}
+use native.Mathlib.Nat.{mul-zero, zero-mul, lt-of-le-of-lt}
+use lib.Dec.{T, ltb, ltb→lt, nltb→le, leb→le, le→leb}
+use lib.IntN.{ℤ, pos, negsuc, negℤ, natAbs, subℕ, _+ℤ_, _*ℤ_}
+use lib.Signed.{mag, _≤ℤ_, _<ℤ_, leZ-yes}
+use mir.Syntax.{Width}
 use mir.Val.{SFits, hbits}
 use Rattle.algebra.proofs.Normal.{Expr, ν, κ, _⊕_, _⊖_, _⊗_, ⊝, nth, eval}
 
@@ -107,12 +106,6 @@ lt-parts {a = pos a} {b = negsuc b} h = absurd (h .lt)
 lt-parts {a = negsuc a} {b = pos b} h = omega arith
 lt-parts {a = negsuc a} {b = negsuc b} h = omega (arith, ltb→lt b a (h .lt))
 
-pub parts-lt : (a b : ℤ) → up a + dn b < up b + dn a → a <ℤ b
-parts-lt (pos a) (pos b) h = ltZ-yes (lt→ltb a b (omega arith))
-parts-lt (pos a) (negsuc b) h = absurd (omega arith)
-parts-lt (negsuc a) (pos b) h = ltZ-yes tt
-parts-lt (negsuc a) (negsuc b) h = ltZ-yes (lt→ltb b a (omega arith))
-
 pub eq-parts : {a b : ℤ} → a ≡ b → up a + dn b ≡ up b + dn a
 eq-parts {a} {b} h = rw h
 
@@ -139,32 +132,10 @@ pub parts-fit : (w : Width) (z : ℤ) → up z < dn z + 2 ^ hbits w → dn z ≤
 parts-fit w (pos n) h g = record { sfits = omega arith }
 parts-fit w (negsuc n) h g = record { sfits = omega arith }
 
-pub fit-parts : {w : Width} {z : ℤ} → SFits w z → (up z < dn z + 2 ^ hbits w) × (dn z ≤ up z + 2 ^ hbits w)
-fit-parts {w} {z = pos n} f = (omega (arith, f .sfits), omega arith)
-fit-parts {w} {z = negsuc n} f = (omega arith, omega (arith, f .sfits))
-
 -- ---- the same at expressions: what omega proves, and what it is handed
 module _ (ρ : List ℤ) where
-  pub lin≤ : (e f : Expr) → upE ρ e + dnE ρ f ≤ upE ρ f + dnE ρ e → eval ρ e ≤ℤ eval ρ f
-  lin≤ e f h = parts-le (eval ρ e) (eval ρ f) (omega (arith, parts ρ e, parts ρ f))
-
-  pub lin< : (e f : Expr) → upE ρ e + dnE ρ f < upE ρ f + dnE ρ e → eval ρ e <ℤ eval ρ f
-  lin< e f h = parts-lt (eval ρ e) (eval ρ f) (omega (arith, parts ρ e, parts ρ f))
-
-  pub lin≡ : (e f : Expr) → upE ρ e + dnE ρ f ≡ upE ρ f + dnE ρ e → eval ρ e ≡ eval ρ f
-  lin≡ e f h = parts-eq (eval ρ e) (eval ρ f) (omega (arith, parts ρ e, parts ρ f))
-
   pub linAbs : (e : Expr) (B : ℕ) → upE ρ e ≤ dnE ρ e + B → dnE ρ e ≤ upE ρ e + B → natAbs (eval ρ e) ≤ B
   linAbs e B h g = parts-abs (eval ρ e) B (omega (arith, parts ρ e)) (omega (arith, parts ρ e))
-
-  pub linFit : (w : Width) (e : Expr) → upE ρ e < dnE ρ e + 2 ^ hbits w → dnE ρ e ≤ upE ρ e + 2 ^ hbits w → SFits w (eval ρ e)
-  linFit w e h g = parts-fit w (eval ρ e) (omega (arith, parts ρ e)) (omega (arith, parts ρ e))
-
-  pub fact≤ : (e f : Expr) → eval ρ e ≤ℤ eval ρ f → upE ρ e + dnE ρ f ≤ upE ρ f + dnE ρ e
-  fact≤ e f h = omega (arith, parts ρ e, parts ρ f, le-parts h)
-
-  pub fact< : (e f : Expr) → eval ρ e <ℤ eval ρ f → upE ρ e + dnE ρ f < upE ρ f + dnE ρ e
-  fact< e f h = omega (arith, parts ρ e, parts ρ f, lt-parts h)
 
   pub fact≡ : (e f : Expr) → eval ρ e ≡ eval ρ f → upE ρ e + dnE ρ f ≡ upE ρ f + dnE ρ e
   fact≡ e f h = omega (arith, parts ρ e, parts ρ f, eq-parts h)
@@ -192,24 +163,6 @@ pub record Within (B : ℕ) (z : ℤ) : Type 0 where
 pub within : {B : ℕ} (z : ℤ) → natAbs z ≤ B → Within B z
 within z h = record { within = h }
 
-pub lit-in : (z : ℤ) → Within (natAbs z) z
-lit-in z = record { within = omega arith }
-
-pub add-in : {A B : ℕ} {a b : ℤ} → Within A a → Within B b → Within (A + B) (a +ℤ b)
-add-in {a} {b} p q = record { within = omega (arith, p .within, q .within, abs-add a b) }
-
-pub neg-in : {A : ℕ} {a : ℤ} → Within A a → Within A (negℤ a)
-neg-in {a} p = record { within = omega (arith, p .within, abs-neg a) }
-
-pub sub-in : {A B : ℕ} {a b : ℤ} → Within A a → Within B b → Within (A + B) (a -ℤ b)
-sub-in p q = add-in p (neg-in q)
-
-pub mul-in : {A B : ℕ} {a b : ℤ} → Within A a → Within B b → Within (A * B) (a *ℤ b)
-mul-in {a} {b} p q = record { within = rw (abs-mul a b) (mul-le-mul (p .within) (q .within)) }
-
-pub weaken : {A B : ℕ} {a : ℤ} → A ≤ B → Within A a → Within B a
-weaken h p = record { within = le-trans (p .within) h }
-
 pub mag-abs : (z : ℤ) → mag z ≤ natAbs z
 mag-abs (pos n) = omega arith
 mag-abs (negsuc n) = omega arith
@@ -218,16 +171,6 @@ mag-abs (negsuc n) = omega arith
 pub fits-in : {w : Width} {B : ℕ} {z : ℤ} → T (ltb B (2 ^ hbits w)) → Within B z → SFits w z
 fits-in {w} {B} {z} t p = record { sfits = lt-of-le-of-lt (mag-abs z) (lt-of-le-of-lt (p .within) (ltb→lt B (2 ^ hbits w) t)) }
 
-pub fits-in< : {w : Width} {B : ℕ} {z : ℤ} → B < 2 ^ hbits w → Within B z → SFits w z
-fits-in< {w} {B} {z} t p = record { sfits = lt-of-le-of-lt (mag-abs z) (lt-of-le-of-lt (p .within) t) }
-
 pub in-fits : {w : Width} {z : ℤ} → SFits w z → Within (2 ^ hbits w) z
 in-fits {w} {z = pos n} f = record { within = omega (arith, f .sfits) }
 in-fits {w} {z = negsuc n} f = record { within = f .sfits }
-
--- a wider width: `widen tt f`
-pub widen : {w w′ : Width} {z : ℤ} → T (leb (hbits w) (hbits w′)) → SFits w z → SFits w′ z
-widen {w} {w′} t f = record { sfits = lt-of-lt-of-le (f .sfits) (pow-mono (leb→le (hbits w) (hbits w′) t)) }
-
-pub 16-32 : {z : ℤ} → SFits w16 z → SFits w32 z
-16-32 f = widen tt f

@@ -1,10 +1,9 @@
 -- Tests in two parts: where the first part refuses, its number is the answer; where it does not, the second part decides.
 -- Assumes nothing.
-use mathlib.Core.Path.{_≡_, refl, sym, ap, _∙_, subst}
+use mathlib.Core.Path.{_≡_, refl, ap, subst}
 use mathlib.Core.Bool.{Bool, true, false, cond, not, _&&_}
 use mathlib.Core.List.{List, [], _∷_, _++_}
 use Prim.Native.Nat.{ℕ}
-use native.Mathlib.Omega.{arith}
 use lib.Dec.{T, eqb, eqb→eq}
 use Rattle.algebra.specs.Refusals.{Refusal, firstOf, numberOf}
 use Rattle.algebra.proofs.Table.{and-left, and-right}

@@ -1,17 +1,15 @@
 -- The shift that rounds down, rounding to nearest by it, and clipping. Assumes nothing.
-use mathlib.Core.Path.{_≡_, refl, sym, ap, _∙_, subst}
-use mathlib.Core.List.{List, [], _∷_}
-use Prim.Native.Nat.{ℕ, zero, suc, _+_, _-_, _*_, _/_, _%_, _^_, _≤_, _<_, min}
+use mathlib.Core.Path.{_≡_, sym, ap}
+use mathlib.Core.List.{[], _∷_}
+use Prim.Native.Nat.{ℕ, zero, suc, _+_, _-_, _*_, _/_, _%_, _^_, _≤_, _<_}
 use native.Mathlib.Omega.{arith}
-use native.Mathlib.Nat.{div-add-mod, mod-lt, pow-suc, mul-comm, pow-succ', div-le-of-le-mul, div-lt-iff-lt-mul, lt-of-mul-lt-mul-left, mul-suc}
+use native.Mathlib.Nat.{div-add-mod, mod-lt, pow-succ', div-le-of-le-mul, div-lt-iff-lt-mul, lt-of-mul-lt-mul-left, mul-suc}
 use lib.Pow.{pow-pos}
-use lib.IntN.{ℤ, pos, negsuc, negℤ, natAbs, _+ℤ_, _-ℤ_, _*ℤ_}
-use lib.Signed.{mag, shrZ, _≤ℤ_, _<ℤ_, ≤ℤ-refl}
-use mir.Syntax.{w16}
-use mir.Val.{SFits}
+use lib.IntN.{ℤ, pos, negsuc, natAbs, _+ℤ_, _-ℤ_, _*ℤ_}
+use lib.Signed.{shrZ}
 use Rattle.algebra.specs.Shift.{_>>_, nearest}
-use Rattle.algebra.proofs.Normal.{Expr, ν, κ, _⊕_, _⊖_, _⊗_, ⊝, ring}
-use Rattle.algebra.proofs.Order.{up, dn, up-neg, dn-neg, parts-add, parts-mul, parts-zero, parts-eq, eq-parts, le-parts, parts-le, lt-parts, parts-abs, abs-parts, abs-mul, linAbs, fact≡, factAbs}
+use Rattle.algebra.proofs.Normal.{ν, _⊕_, _⊖_}
+use Rattle.algebra.proofs.Order.{up-neg, dn-neg, parts-add, parts-zero, parts-eq, abs-parts, abs-mul, linAbs, fact≡, factAbs}
 
 -- what the shift drops
 abbrev pub shrRem : ℤ → ℕ → ℕ
@@ -45,28 +43,6 @@ shr-near z k = rw (pow-succ' 2 k) (round-near z (2 ^ k) (pow-pos k))
 pub shr-abs : (z : ℤ) (m B : ℕ) → 0 < m → natAbs z ≤ m * B → natAbs (shrZ z m) ≤ B
 shr-abs (pos a) m B h p = div-le-of-le-mul m p
 shr-abs (negsuc a) m B h p = div-lt-iff-lt-mul h .1 (omega arith)
-
--- m a + r ≤ m b + s and s < m give a ≤ b
-near-le : (a b : ℤ) (m r s : ℕ) → 0 < m → s < m → (pos m *ℤ a +ℤ pos r) ≤ℤ (pos m *ℤ b +ℤ pos s) → a ≤ℤ b
-near-le a b m r s p q h =
-    parts-le a b (le-of-lt-suc (lt-of-mul-lt-mul-left m
-    (omega (arith, le-parts h, parts-add (pos m *ℤ a) (pos r), parts-add (pos m *ℤ b) (pos s), parts-mul (pos m) a, parts-mul (pos m) b))))
-  where
-    le-of-lt-suc : {x y : ℕ} → x < suc y → x ≤ y
-    le-of-lt-suc h = omega arith
-
-pub shr-mono : (a b : ℤ) (m : ℕ) → 0 < m → a ≤ℤ b → shrZ a m ≤ℤ shrZ b m
-shr-mono a b m p h =
-    near-le (shrZ a m) (shrZ b m) m (shrRem a m) (shrRem b m) p (shrRem-lt b m p)
-    (subst (λ (x : ℤ). x ≤ℤ (pos m *ℤ shrZ b m +ℤ pos (shrRem b m))) (shr-eq a m p) (subst (λ (x : ℤ). a ≤ℤ x) (shr-eq b m p) h))
-
--- the quotient is the only one
-pub shr-unique : (z q : ℤ) (m r : ℕ) → 0 < m → r < m → z ≡ pos m *ℤ q +ℤ pos r → shrZ z m ≡ q
-shr-unique z q m r p l e =
-    let d = sym (shr-eq z m p) ∙ e in
-    let f = le-parts (near-le (shrZ z m) q m (shrRem z m) r p l (rw d (≤ℤ-refl (pos m *ℤ q +ℤ pos r)))) in
-    let g = le-parts (near-le q (shrZ z m) m r (shrRem z m) p (shrRem-lt z m p) (rw d (≤ℤ-refl (pos m *ℤ q +ℤ pos r)))) in
-    parts-eq (shrZ z m) q (omega arith)
 
 -- ---- the same for `>>`
 -- 2^n (a >> n) ≤ a < 2^n (a >> n) + 2^n: it is the floor

@@ -1,15 +1,15 @@
 -- Laws of finite sums: congruence, addition, scaling, splitting, exchange, reversal, sizes. Assumes nothing.
-use mathlib.Core.Path.{_≡_, refl, sym, ap, _∙_, subst}
-use mathlib.Core.List.{List, [], _∷_}
+use mathlib.Core.Path.{_≡_, refl, sym, ap, _∙_}
+use mathlib.Core.List.{[], _∷_}
 use Prim.Native.Nat.{ℕ, zero, suc, _+_, _-_, _*_, _≤_, _<_}
 use native.Mathlib.Omega.{arith}
-use native.Mathlib.Nat.{mul-le-mul, le-trans, le-refl, mul-le-mul-left, mul-le-mul-right, add-mul, zero-mul, add-zero, add-suc, add-le-add, not-suc-le-zero}
-use lib.IntN.{ℤ, pos, negsuc, negℤ, natAbs, _+ℤ_, _-ℤ_, _*ℤ_, +ℤ-idl, +ℤ-idr, +ℤ-assoc, +ℤ-comm, *ℤ-zero, negℤ-+ℤ}
+use native.Mathlib.Nat.{le-trans, le-refl, mul-le-mul-left, add-mul, zero-mul, add-zero, add-suc, add-le-add, not-suc-le-zero}
+use lib.IntN.{ℤ, pos, negℤ, natAbs, _+ℤ_, _*ℤ_, +ℤ-idr, +ℤ-assoc, +ℤ-comm, *ℤ-zero, negℤ-+ℤ}
 use Rattle.algebra.specs.Sum.{sum, sumℕ}
-use Rattle.algebra.proofs.Ring.{+ℤ-left-comm, *ℤ-add}
-use Rattle.algebra.proofs.Normal.{Expr, ν, κ, _⊕_, _⊖_, _⊗_, ⊝, ring}
+use Rattle.algebra.proofs.Ring.{*ℤ-add}
+use Rattle.algebra.proofs.Normal.{ν, _⊕_, ring}
 use Rattle.algebra.proofs.Table.{last}
-use Rattle.algebra.proofs.Order.{Within, abs-add, abs-mul}
+use Rattle.algebra.proofs.Order.{abs-add, abs-mul}
 
 pub sum-suc : (n : ℕ) (f : ℕ → ℤ) → sum (suc n) f ≡ sum n f +ℤ f n
 unfolding sum
@@ -128,16 +128,6 @@ sumℕ-le (suc k) n f = rw (add-suc n k) (more (n + k) (sumℕ-le k n f))
 
     more : (m : ℕ) → sumℕ n f ≤ sumℕ m f → sumℕ n f ≤ sumℕ (suc m) f
     more m h = omega (arith, sumℕ-next m f, ap (λ (x : ℕ). sumℕ x f) (one-more m))
-
-pub dot-step : (w : ℕ → ℤ) (i M : ℕ) (s x : ℤ) → natAbs s ≤ sumℕ i (λ j. natAbs (w j)) * M → natAbs x ≤ M → natAbs (s +ℤ w i *ℤ x) ≤ sumℕ (i + 1) (λ j. natAbs (w j)) * M
-dot-step w i M s x h g =
-    omega (arith, ap (λ (m : ℕ). m * M) (sumℕ-next i (λ j. natAbs (w j))), abs-add s (w i *ℤ x), abs-mul (w i) x, mul-le-mul-left (natAbs (w i)) g)
-
--- and never passes the whole
-pub dot-below : (w : ℕ → ℤ) (i n M : ℕ) → i ≤ n → sumℕ i (λ j. natAbs (w j)) * M ≤ sumℕ n (λ j. natAbs (w j)) * M
-dot-below w i n M h =
-    let e : i + (n - i) ≡ n = omega arith in
-    mul-le-mul-right M (subst (λ (m : ℕ). sumℕ i (λ j. natAbs (w j)) ≤ sumℕ m (λ j. natAbs (w j))) e (sumℕ-le (n - i) i (λ j. natAbs (w j))))
 
 -- ---- a sum is 0 where each of its numbers is
 pub sum-zero : (n : ℕ) (f : ℕ → ℕ) → sumℕ n f ≡ 0 → (i : ℕ) → i < n → f i ≡ 0

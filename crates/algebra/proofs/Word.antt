@@ -2,14 +2,14 @@
 -- Each operation of the machine has a rule that makes the result's `Is` from its operands' (`addV`), and one for what the machine asks (`add-fits`).
 -- Assumes nothing.
 use mathlib.Core.Path.{_≡_, refl, sym, ap, _∙_, subst}
-use mathlib.Core.Bool.{Bool, true, false, not}
-use Prim.Native.Nat.{ℕ, zero, suc, _+_, _-_, _*_, _^_, _≤_, _<_}
+use mathlib.Core.Bool.{Bool, false, not}
+use Prim.Native.Nat.{ℕ, _+_, _-_, _*_, _^_, _≤_, _<_}
 use native.Mathlib.Omega.{arith}
 use native.Mathlib.Nat.{mul-le-mul, le-trans, le-refl, lt-of-le-of-lt}
-use lib.Dec.{T, ltb, leb}
+use lib.Dec.{T}
 use lib.IntN.{ℤ, pos, negsuc, negℤ, natAbs, _+ℤ_, _-ℤ_, _*ℤ_}
-use lib.Signed.{mag, ltZ, leZ, shrZ, _≤ℤ_, _<ℤ_, ltZ-yes, leZ-yes, ltZ-no, mag-shr}
-use mir.Syntax.{Width, w8, w16, w32, w64}
+use lib.Signed.{ltZ, shrZ, _≤ℤ_, ltZ-no, mag-shr}
+use mir.Syntax.{Width}
 use mir.Val.{SFits, hbits, toZ, ofZ}
 use mir.ValLaws.{toZ-ofZ}
 use Rattle.algebra.proofs.Order.{abs-add, abs-neg, abs-mul, mag-abs}
@@ -38,9 +38,6 @@ lit w n = record { val = refl; abs = le-refl (natAbs (toZ w n)) }
 -- bits that fit, of which nothing else is known
 pub bits : (w : Width) (n : ℕ) {B : ℕ} → natAbs (toZ w n) ≤ B → Is w n (toZ w n) B
 bits w n p = record { val = refl; abs = p }
-
-pub looser : {w : Width} {n : ℕ} {z : ℤ} {A B : ℕ} → A ≤ B → Is w n z A → Is w n z B
-looser h p = record { val = p .val; abs = le-trans (p .abs) h }
 
 -- ---- what the machine writes, where it fits
 pub put : {w : Width} {y z : ℤ} {B : ℕ} → y ≡ z → SFits w z → natAbs z ≤ B → Is w (ofZ w y) z B
@@ -74,15 +71,8 @@ module _ {w : Width} {a b : ℕ} {x y : ℤ} {A B : ℕ} (p : Is w a x A) (q : I
   pub mulV : A * B < 2 ^ hbits w → Is w (ofZ w (toZ w a *ℤ toZ w b)) (x *ℤ y) (A * B)
   mulV h = put (λ t. p .val t *ℤ q .val t) (small h mul-abs) mul-abs
 
-  -- tests
-  pub lt-yes : ltZ (toZ w a) (toZ w b) ≡ true → x <ℤ y
-  lt-yes e = ltZ-yes (subst T (sym e ∙ (λ t. ltZ (p .val t) (q .val t))) tt)
-
   pub lt-no : ltZ (toZ w a) (toZ w b) ≡ false → y ≤ℤ x
   lt-no e = ltZ-no (subst (λ (c : Bool). T (not c)) (sym e ∙ (λ t. ltZ (p .val t) (q .val t))) tt)
-
-  pub le-yes : leZ (toZ w a) (toZ w b) ≡ true → x ≤ℤ y
-  le-yes e = leZ-yes (subst T (sym e ∙ (λ t. leZ (p .val t) (q .val t))) tt)
 
 module _ {w : Width} {a : ℕ} {x : ℤ} {A : ℕ} (p : Is w a x A) where
   -- a cast, by the size or by what else is known

@@ -5,7 +5,6 @@ use mathlib.Core.List.{List}
 use Prim.Native.Nat.{ℕ, _+_}
 use lib.Dec.{ltb}
 use lib.ListN.{length, take, drop}
-use Rattle.meaning.specs.declared.Shape.{Shape}
 use Rattle.block_file.specs.declared.cursor.Cursor.{Cursor}
 use Rattle.block_file.specs.declared.cursor.Step.{Step}
 use Rattle.block_file.specs.declared.field.Field.{Field}

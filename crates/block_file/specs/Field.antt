@@ -8,7 +8,6 @@ use lib.ListN.{length, getD}
 use Rattle.algebra.specs.Refusals.{Refusal, numberOf}
 use Rattle.meaning.specs.declared.Shape.{Shape}
 use Rattle.meaning.specs.Answer.{test, shapeTests}
-use Rattle.block_file.specs.declared.cursor.Cursor.{Cursor}
 use Rattle.block_file.specs.declared.field.Field.{Field}
 
 -- the byte at place k, and 0 past the end

@@ -11,7 +11,6 @@ use Rattle.meaning.specs.declared.Answer.{Answer}
 use Rattle.meaning.specs.Inverse.{inverseOutcome}
 use Rattle.meaning.specs.Forward.{forwardOutcome}
 use Rattle.block_file.specs.declared.cursor.Cursor.{Cursor}
-use Rattle.block_file.specs.declared.cursor.Step.{Step}
 use Rattle.block_file.specs.Cursor.{start, stepOf, bytesOf}
 use Rattle.block_numbers.specs.Numbers.{numbers}
 use Rattle.block_text.specs.Text.{inverseText, forwardText, refusalText}

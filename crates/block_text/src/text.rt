@@ -1,5 +1,4 @@
 // The lines that a run prints, put into a buffer at a place. Each function returns the place after what it put.
-ghost use mathlib.Core.Path.{_≡_};
 ghost use mathlib.Core.List.{[], _∷_};
 ghost use Prim.Native.Nat.{_+_, _*_, _<_, _≤_, _^_};
 ghost use lib.IntN.{pos};

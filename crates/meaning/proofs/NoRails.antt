@@ -3,7 +3,7 @@
 --   rails-no:        Inner sh c gives rails sh c ≡ 0
 --   inner-unaltered: Inner sh c gives Unaltered sh c
 use mathlib.Core.Path.{_≡_, refl, _∙_}
-use mathlib.Core.Bool.{Bool, true, false, _||_}
+use mathlib.Core.Bool.{Bool, true, false}
 use mathlib.Core.List.{List}
 use Prim.Native.Nat.{ℕ, _<_}
 use native.Mathlib.Omega.{arith}

@@ -6,12 +6,9 @@ use Prim.Native.Nat.{ℕ, zero, suc, _+_, _-_, _^_, _≤_, _<_, zero-le}
 use native.Mathlib.Omega.{arith}
 use borrow.Author.Tests.{ltb-false}
 use lib.Dec.{ltb}
-use lib.IntN.{ℤ, pos, natAbs}
+use lib.IntN.{ℤ, natAbs}
 use lib.ListN.{length}
-use mir.Syntax.{w16}
-use mir.Val.{SFits}
 use Rattle.algebra.specs.Lists.{at}
-use Rattle.algebra.proofs.Order.{Within, in-fits}
 use Rattle.algebra.proofs.First.{first-before}
 use Rattle.meaning.specs.declared.Shape.{Shape}
 use Rattle.meaning.specs.Forward.{tooLarge, firstTooLarge}
@@ -25,9 +22,6 @@ pub within-places : (M : ℕ) (l : List ℤ) → ((k : ℕ) → k < length l →
 within-places M [] h k = zero-le
 within-places M (z ∷ l) h zero = h zero (omega arith)
 within-places M (z ∷ l) h (suc k) = within-places M l (λ i p. h (suc i) (omega arith)) k
-
-pub shorts : (l : List ℤ) → ((k : ℕ) → k < length l → SFits w16 (at l k)) → NoneAbove 32768 l
-shorts l f = within-places 32768 l (λ k h. in-fits (f k h) .within)
 
 -- "a residual of size above 2^d-1": none
 pub none-too-large : (sh : Shape) (r : List ℤ) → ltb (firstTooLarge sh r) (length r) ≡ false → NoneAbove (2 ^ sh .depth - 1) r

@@ -14,7 +14,7 @@ use lib.IntN.{ℤ, natAbs}
 use mir.Syntax.{w16, w32}
 use mir.Val.{SFits}
 use Rattle.algebra.specs.Lists.{at}
-use Rattle.algebra.proofs.Order.{Within, within, fits-in, in-fits, parts-fit, le-parts}
+use Rattle.algebra.proofs.Order.{within, fits-in, in-fits, parts-fit, le-parts}
 use Rattle.algebra.proofs.Shift.{shift-in, nearest-in}
 use Rattle.algebra.proofs.Clip.{clip-cases}
 use Rattle.meaning.specs.declared.Shape.{Shape}

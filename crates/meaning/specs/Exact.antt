@@ -1,9 +1,8 @@
 -- Demand 3's words: the exact double sum, A, and the four parts of a residual.
 use mathlib.Core.List.{List}
-use Prim.Native.Nat.{ℕ, _+_, _*_, _^_}
+use Prim.Native.Nat.{ℕ, _*_, _^_}
 use lib.IntN.{ℤ, pos, natAbs, _-ℤ_, _*ℤ_}
 use Rattle.algebra.specs.Sum.{sum, sumℕ}
-use Rattle.algebra.specs.Lists.{at}
 use Rattle.meaning.specs.declared.Shape.{Shape}
 use Rattle.meaning.specs.Weights.{weight}
 use Rattle.meaning.specs.Shape.{keptColumns, lastShift}

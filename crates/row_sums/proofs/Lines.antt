@@ -10,11 +10,10 @@ use native.Mathlib.Omega.{arith}
 use lib.ListN.{length}
 use lib.IntN.{ℤ, natAbs, _*ℤ_, *ℤ-comm}
 use Rattle.algebra.specs.Sum.{sum}
-use Rattle.algebra.specs.Lists.{at, block}
+use Rattle.algebra.specs.Lists.{at}
 use Rattle.algebra.proofs.Order.{abs-mul}
 use Rattle.algebra.proofs.Sum.{sum-cong}
 use Rattle.algebra.proofs.Lists.{block-at, block-length, place-in}
-use Rattle.meaning.specs.Weights.{weight}
 use Rattle.meaning.specs.Line.{term}
 use Rattle.meaning.proofs.Sizes.{weightSize}
 use Rattle.row_sums.specs.Factors.{laid}

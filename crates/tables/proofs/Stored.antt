@@ -1,8 +1,7 @@
 -- Generated from the stored tables: the lists that the checker reads, and each table's rule by one computed test.
 -- Assumes nothing.
-use mathlib.Core.Path.{_≡_, refl}
+use mathlib.Core.Path.{refl}
 use mathlib.Core.List.{List, [], _∷_}
-use Prim.Native.Nat.{ℕ}
 use lib.IntN.{ℤ, pos, negsuc}
 use Rattle.meaning.specs.Weights.{S, fold, first}
 use Rattle.tables.specs.Table.{Table}

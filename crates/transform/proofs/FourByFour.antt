@@ -4,8 +4,8 @@
 use mathlib.Core.Path.{_≡_, refl, sym, ap, _∙_}
 use mathlib.Core.Bool.{Bool, true, false, not, _&&_}
 use mathlib.Core.List.{List, [], _∷_, _++_}
-use Prim.Native.Nat.{ℕ, _+_, _*_, _/_, _%_, _<_, _≤_}
-use native.Mathlib.Nat.{zero-add, mod-lt, div-lt-iff-lt-mul}
+use Prim.Native.Nat.{ℕ, _+_, _*_, _/_, _%_, _<_}
+use native.Mathlib.Nat.{mod-lt, div-lt-iff-lt-mul}
 use native.Mathlib.Omega.{arith}
 use borrow.Author.Tests.{lt-ltb, le-ltb}
 use lib.Dec.{eqb, ltb}
@@ -17,7 +17,7 @@ use Rattle.algebra.specs.Refusals.{Refusal}
 use Rattle.algebra.proofs.First.{first-past}
 use Rattle.algebra.proofs.Lists.{flat-at}
 use Rattle.meaning.specs.Shape.{isSize, isKind, isDepth, keptColumns, keptRows}
-use Rattle.meaning.specs.Answer.{Outcome, outcome, test, accepted}
+use Rattle.meaning.specs.Answer.{outcome, test, accepted}
 use Rattle.meaning.specs.Inverse.{outside, firstOutside, rails, inverseBlock}
 use Rattle.meaning.specs.Forward.{firstTooLarge, forwardBlock}
 use Rattle.transform.specs.Small.{smallShape, zeros, smallForward, smallInverse}

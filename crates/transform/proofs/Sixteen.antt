@@ -7,7 +7,7 @@ use native.Mathlib.Omega.{arith}
 use lib.Pow.{pow-pos}
 use lib.IntN.{ℤ, pos}
 use lib.ListN.{length, getD}
-use mir.Syntax.{Width, w16, w32}
+use mir.Syntax.{Width}
 use mir.Val.{Val, SFits, hbits, toZ, ofZ}
 use mir.ValLaws.{toZ-ofZ}
 use denote.RattleType.{RattleType}

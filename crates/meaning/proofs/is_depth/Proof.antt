@@ -1,6 +1,4 @@
-use borrow.Author.Needs.{needs}
-use native.Mathlib.Omega.{arith}
-use borrow.Author.Tests.{eq-eqb, ne-eqb, le-leb, lt-leb}
+use borrow.Author.Tests.{le-leb, lt-leb}
 use Rattle.meaning.specs.Shape.{isDepth}
 use Rattle.meaning.proofs.is_depth.Statement.{statement}
 use Rattle.meaning.proofs.is_depth.Tie as tie

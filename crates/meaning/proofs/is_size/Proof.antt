@@ -1,6 +1,4 @@
-use borrow.Author.Needs.{needs}
-use native.Mathlib.Omega.{arith}
-use borrow.Author.Tests.{eq-eqb, ne-eqb, le-leb, lt-leb}
+use borrow.Author.Tests.{eq-eqb, ne-eqb}
 use Rattle.meaning.specs.Shape.{isSize}
 use Rattle.meaning.proofs.is_size.Statement.{statement}
 use Rattle.meaning.proofs.is_size.Tie as tie

@@ -1,8 +1,7 @@
 -- `forward::row_shift` meets its contract. Assumes nothing.
 use borrow.Author.Needs.{needs}
 use native.Mathlib.Omega.{arith}
-use mathlib.Core.Path.{ap}
-use Prim.Native.Nat.{ℕ, _+_, _-_}
+use Prim.Native.Nat.{_-_}
 use Rattle.meaning.proofs.Cases.{depth-cases}
 use Rattle.forward_block.proofs.TwoStages.{log-in}
 use Rattle.forward_block.proofs.forward.row_shift.Statement.{statement}

@@ -1,6 +1,4 @@
 use borrow.Author.Needs.{needs}
-use mathlib.Core.Path.{_≡_, sym, _∙_}
-use mathlib.Core.Bool.{true, false, not}
 use Rattle.meaning.proofs.Shape.refusal.Statement.{statement}
 use Rattle.meaning.proofs.Shape.refusal.Tie as tie
 use Rattle.meaning.proofs.Shape.refusal.Reads as reads

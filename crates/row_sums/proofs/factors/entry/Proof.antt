@@ -2,15 +2,15 @@
 use borrow.Author.Needs.{needs}
 use native.Mathlib.Omega.{arith}
 use mathlib.Core.Path.{_≡_, sym, ap, _∙_, subst}
-use Prim.Native.Nat.{ℕ, _+_, _*_, _-_, _≤_, _<_}
+use Prim.Native.Nat.{_+_, _*_, _-_, _≤_, _<_}
 use lib.Arith.{digits-lt}
 use lib.ListN.{length}
 use lib.IntN.{ℤ, negℤ, natAbs, +ℤ-idl}
 use mir.Syntax.{w16}
-use mir.Val.{toZ, ofZ, SFits}
+use mir.Val.{SFits}
 use mir.ValLaws.{toZ-ofZ}
 use Rattle.algebra.specs.Lists.{at}
-use Rattle.algebra.proofs.Machine.{MV, arg≤, lit, sub, sub-fits, val}
+use Rattle.algebra.proofs.Machine.{arg≤, lit, sub, sub-fits, val}
 use Rattle.meaning.specs.Weights.{S}
 use Rattle.meaning.proofs.Sizes.{S-size}
 use Rattle.meaning.proofs.TwoKinds.{dst, dct-odd, dct-even}

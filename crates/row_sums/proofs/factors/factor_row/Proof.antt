@@ -3,7 +3,6 @@ use borrow.Author.Needs.{needs}
 use native.Mathlib.Omega.{arith}
 use mathlib.Core.Path.{_≡_, _∙_, subst}
 use Prim.Native.Nat.{ℕ, _-_, _≤_}
-use lib.ListN.{length}
 use mir.Syntax.{w16}
 use mir.ValLaws.{toZ-ofZ}
 use Rattle.algebra.proofs.Lists.{Filled, fill-none, fill-first, filled}

@@ -1,6 +1,6 @@
 -- `factors::factors` meets its contract: each size lends its own table. Assumes nothing.
 use borrow.Author.Needs.{needs}
-use mathlib.Core.Path.{_≡_, sym, subst}
+use mathlib.Core.Path.{sym, subst}
 use Prim.Native.Nat.{ℕ}
 use Rattle.meaning.proofs.Cases.{thirty-two}
 use Rattle.tables.specs.Table.{Table}

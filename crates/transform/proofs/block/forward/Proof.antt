@@ -2,18 +2,16 @@
 -- Assumes nothing.
 use borrow.Author.Needs.{needs}
 use native.Mathlib.Omega.{arith}
-use mathlib.Core.Path.{_≡_, refl, sym, ap, _∙_, subst}
+use mathlib.Core.Path.{_≡_, sym, ap, _∙_}
 use mathlib.Core.Bool.{Bool, true, false, cond}
 use mathlib.Core.List.{List, [], _∷_, _++_}
-use Prim.Native.Nat.{ℕ, _*_, _<_, _≤_}
+use Prim.Native.Nat.{ℕ, _*_, _≤_}
 use native.Mathlib.Nat.{mul-le-mul}
 use borrow.Author.Tests.{lt-ltb, le-ltb}
 use lib.Dec.{ltb}
 use lib.ListN.{length}
-use lib.IntN.{ℤ}
-use Rattle.algebra.specs.Refusals.{Refusal, firstOf, numberOf}
+use Rattle.algebra.specs.Refusals.{Refusal}
 use Rattle.algebra.proofs.Refusals.{refused-first, passed-first}
-use Rattle.meaning.specs.declared.Answer.{Answer}
 use Rattle.meaning.specs.Answer.{Outcome, refused, accepted, shapeTests, lengthTests}
 use Rattle.meaning.specs.Forward.{firstTooLarge, forwardBlock, forwardOutcome}
 use Rattle.meaning.proofs.Cases.{size-in}

@@ -1,6 +1,5 @@
 -- `line::run` meets its contract: either path leaves the line, of an input that stands at 0 and goes by 1. Assumes nothing.
 use borrow.Author.Needs.{needs}
-use mathlib.Core.Path.{_∙_}
 use Rattle.transform.proofs.Lent.{in-order}
 use Rattle.transform.proofs.line.run.Statement.{statement}
 use Rattle.transform.proofs.line.run.Tie as tie
