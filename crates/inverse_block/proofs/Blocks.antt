@@ -1,7 +1,6 @@
 -- A block worked number by number: what each becomes, how large they are, and a count over all of them, row by row or column by
 -- column. Assumes nothing.
 use mathlib.Core.Path.{_≡_, refl, sym, ap, _∙_, subst}
-use mathlib.Core.List.{List}
 use Prim.Native.Nat.{ℕ, zero, suc, _+_, _*_, _≤_, _<_}
 use native.Mathlib.Nat.{add-zero, add-suc, add-comm, zero-mul, suc-mul}
 use native.Mathlib.Omega.{arith}

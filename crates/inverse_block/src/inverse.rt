@@ -7,10 +7,10 @@ use row_sums::factors::factors;
 use row_sums::sums::row_sums;
 ghost use mathlib.Core.Path.{_≡_};
 ghost use mathlib.Core.Bool.{cond};
-ghost use Prim.Native.Nat.{ℕ, _≤_, _<_, _*_, min};
+ghost use Prim.Native.Nat.{ℕ, _≤_, _<_, _*_};
 ghost use lib.Dec.{ltb};
 ghost use lib.ListN.{length};
-ghost use lib.IntN.{pos, natAbs};
+ghost use lib.IntN.{natAbs};
 ghost use Rattle.algebra.specs.Clip.{clip};
 ghost use Rattle.algebra.specs.Shift.{nearest};
 ghost use Rattle.algebra.specs.Lists.{at, tabulate, block};
@@ -184,10 +184,10 @@ fn line_sums(u: &[i16], shape: Shape, m: &[i16], residuals: &mut [i32])
     ensures { λ _. ⌜ now (residuals .exit) ≡ block (shape .width) (shape .height) (lineSum shape (now (m .entry))) ⌝ }
 {
     let w = shape.width as usize;
-    let h = shape.height as usize;
+    let lines = shape.height as usize;
     let n = kept_columns(shape);
     let mut y = 0;
-    while y < h {
+    while y < lines {
         let a = y * w;
         let b = a + w;
         row_sums(u, 0, w, m, y * n, 1, n, &mut residuals[a..b]);
@@ -195,7 +195,7 @@ fn line_sums(u: &[i16], shape: Shape, m: &[i16], residuals: &mut [i32])
     }
 }
 
-// The horizontal stage, rounded at once.
+// The horizontal stage, all of it rounded at once.
 fn horizontal(shape: Shape, m: &[i16], u: &mut [i16], residuals: &mut [i32])
     requires { ⌜ Middles shape (now m) × ((length (now u) ≡ keptColumns shape * shape .width) × (length (now residuals) ≡ shape .width * shape .height)) ⌝ }
     ensures { λ _. ⌜ now (residuals .exit) ≡ block (shape .width) (shape .height) (residualOf shape (now (m .entry))) ⌝ }
@@ -229,7 +229,7 @@ fn worked(shape: Shape, c: &[i16], u: &mut [i16], m: &mut [i16], residuals: &mut
     rails
 }
 
-// A small block has small buffers: what they hold at first costs as much as a stage of 4x4.
+// Up to 8x8, buffers of 64 have room: at 4x4 it takes as long to fill those of `large` with zeros as to add up a stage.
 fn small(shape: Shape, c: &[i16], residuals: &mut [i32]) -> u32
     requires { ⌜ (Whole shape (now c) (now residuals) × NoneAbove 32768 (now c)) × ((shape .width ≤ 8) × (shape .height ≤ 8)) ⌝ }
     ensures { λ r. ⌜ (r ≡ rails shape (now (c .entry))) × (now (residuals .exit) ≡ inverseBlock shape (now (c .entry))) ⌝ }

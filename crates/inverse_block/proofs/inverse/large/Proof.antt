@@ -1,6 +1,5 @@
 -- `inverse::large` meets its contract: 16 of 32 at most. Assumes nothing.
 use borrow.Author.Needs.{needs}
-use native.Mathlib.Omega.{arith}
 use Rattle.inverse_block.proofs.Middles.{room-rows, room-columns, room-between}
 use Rattle.inverse_block.proofs.inverse.large.Statement.{statement}
 use Rattle.inverse_block.proofs.inverse.large.Tie as tie

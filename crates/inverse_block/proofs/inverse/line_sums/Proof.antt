@@ -4,7 +4,6 @@ use borrow.Author.Needs.{needs}
 use native.Mathlib.Omega.{arith}
 use mathlib.Core.Path.{_≡_, sym, ap, _∙_, subst}
 use mathlib.Core.Bool.{true}
-use mathlib.Core.List.{List}
 use Prim.Native.Nat.{ℕ, _+_, _*_, _-_, _≤_}
 use native.Mathlib.Nat.{mul-comm}
 use lib.ListN.{length, take, drop, length-take, length-drop}
@@ -17,10 +16,10 @@ use Rattle.inverse_block.proofs.inverse.line_sums.Statement.{statement}
 use Rattle.inverse_block.proofs.inverse.line_sums.Tie as tie
 
 abbrev Inv-loop : tie.InvT-loop
-Inv-loop u m residuals₀ w h n y₀ residuals y = (y ≤ h) × Rows w y (λ x y. sums.rowSum u 0 w m (y * n) 1 n x) residuals residuals₀
+Inv-loop u m residuals₀ w lines n y₀ residuals y = (y ≤ lines) × Rows w y (λ x y. sums.rowSum u 0 w m (y * n) 1 n x) residuals residuals₀
 
 abbrev μ-loop : tie.MeasureT-loop
-μ-loop u m residuals₀ w h n y₀ residuals y = h - y
+μ-loop u m residuals₀ w lines n y₀ residuals y = lines - y
 
 abbrev start : tie.At-loop Inv-loop μ-loop → tie.Start Inv-loop μ-loop
 start c = c .before .before .before .before
@@ -40,8 +39,8 @@ row-here c = omega (arith, area (c .before), row-in (start (c .before) .args .sh
 cast-w : tie.Need-cast-w Inv-loop μ-loop
 cast-w c = search needs
 
-cast-h : tie.Need-cast-h Inv-loop μ-loop
-cast-h c = search needs
+cast-lines : tie.Need-cast-lines Inv-loop μ-loop
+cast-lines c = search needs
 
 kept-columns-requires : tie.Need-kept-columns-requires Inv-loop μ-loop
 kept-columns-requires c κs = search needs
@@ -128,7 +127,7 @@ line-sums-spec =
     Inv-loop
     μ-loop
     cast-w
-    cast-h
+    cast-lines
     kept-columns-requires
     loop-holds
     mul-a
