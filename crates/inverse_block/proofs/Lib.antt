@@ -1,3 +1,4 @@
 pub mod Tests
+pub mod Blocks
 pub mod Middles
 pub mod Residuals

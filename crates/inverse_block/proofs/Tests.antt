@@ -13,22 +13,12 @@ use Rattle.algebra.specs.First.{firstAt}
 use Rattle.algebra.proofs.First.{first-on}
 use Rattle.inverse_block.specs.Stages.{outsideAt}
 
-pub never : false ≡ true → ⊥
-never h = let z : _≡_ {A = ℕ} 0 1 = cc in omega arith
-
 pub leb-not : (a b : ℕ) → leb a b ≡ not (ltb b a)
 leb-not a b = go (ltb b a) refl
   where
     go : (t : Bool) → ltb b a ≡ t → leb a b ≡ not t
     go true e = lt-leb a b (ltb-true b a e)
     go false e = le-leb a b (ltb-false b a e)
-
-pub below-or : (a b : ℕ) {P : Type 0} → (a < b → P) → (b ≤ a → P) → P
-below-or a b {P} f g = go (ltb a b) refl
-  where
-    go : (t : Bool) → ltb a b ≡ t → P
-    go true e = f (ltb-true a b e)
-    go false e = g (ltb-false a b e)
 
 -- ---- places that a hunt need not look at
 pub skip : (p : ℕ → ℤ → Bool) (l : List ℤ) (k n : ℕ) → k + n ≤ length l → ((i : ℕ) → i < n → p (k + i) (at l (k + i)) ≡ false)

@@ -30,9 +30,9 @@ short = record { low = negsuc 32767; high = pos 32767 }
 unfoldable pub railsOf : ℕ → (ℕ → ℤ) → ℕ
 railsOf h e = sumℕ h (λ y. count (railed short (rounded (e y)) (middle short (e y))))
 
--- a stretch of sums, and room for its middle values
+-- sums, and room for their middle values
 pub record Sums (e m : List ℤ) : Type 0 where
-  pub few : length e ≤ 32
+  pub few : length e ≤ 512
   pub same : length m ≡ length e
   pub small : (x : ℕ) → x < length e → natAbs (at e x) ≤ 67108864
 
@@ -61,6 +61,15 @@ pub record Horizontal (sh : Shape) (u m : List ℤ) : Type 0 where
   pub middles : Middles sh m
   pub weights : u ≡ laid false (sh .horizontal) (sh .width) (keptColumns sh)
 
--- the residual in column x of row y, by middle values that stand so in m
+-- the sum and the residual in column x of row y, by middle values that stand so in m
+unfoldable pub lineSum : Shape → List ℤ → ℕ → ℕ → ℤ
+lineSum sh m x y = inverseSum (sh .horizontal) (sh .width) (keptColumns sh) (λ i. at m (i + y * keptColumns sh)) x
+
 unfoldable pub residualOf : Shape → List ℤ → ℕ → ℕ → ℤ
-residualOf sh m x y = nearest (lastShift sh) (inverseSum (sh .horizontal) (sh .width) (keptColumns sh) (λ i. at m (i + y * keptColumns sh)) x)
+residualOf sh m x y = nearest (lastShift sh) (lineSum sh m x y)
+
+-- room for the weights of either stage, and for what stands between them
+pub record Room (sh : Shape) (u m : List ℤ) : Type 0 where
+  pub down : keptRows sh * sh .height ≤ length u
+  pub along : keptColumns sh * sh .width ≤ length u
+  pub between : sh .height * keptColumns sh ≤ length m

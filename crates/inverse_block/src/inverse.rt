@@ -7,18 +7,18 @@ use row_sums::factors::factors;
 use row_sums::sums::row_sums;
 ghost use mathlib.Core.Path.{_≡_};
 ghost use mathlib.Core.Bool.{cond};
-ghost use Prim.Native.Nat.{ℕ, _≤_, _<_, _*_, min};
+ghost use Prim.Native.Nat.{ℕ, _≤_, _<_, _*_};
 ghost use lib.Dec.{ltb};
 ghost use lib.ListN.{length};
-ghost use lib.IntN.{pos, natAbs};
+ghost use lib.IntN.{natAbs};
 ghost use Rattle.algebra.specs.Clip.{clip};
 ghost use Rattle.algebra.specs.Shift.{nearest};
 ghost use Rattle.algebra.specs.Lists.{at, tabulate, block};
 ghost use Rattle.meaning.specs.Shape.{keptColumns, keptRows};
-ghost use Rattle.meaning.specs.Inverse.{rounded, middle, railed, count, middleAt, columnSum, rails, inverseBlock, firstOutside};
+ghost use Rattle.meaning.specs.Inverse.{rounded, middle, railed, count, columnSum, rails, inverseBlock, firstOutside};
 ghost use Rattle.meaning.proofs.Accepted.{Whole};
 ghost use Rattle.meaning.proofs.Small.{NoneAbove};
-ghost use Rattle.inverse_block.specs.Stages.{outsideAt, short, railsOf, Sums, Coefficients, Vertical, keptMiddles, Middles, Horizontal, residualOf};
+ghost use Rattle.inverse_block.specs.Stages.{outsideAt, short, railsOf, Sums, Coefficients, Vertical, keptMiddles, Middles, Horizontal, lineSum, residualOf, Room};
 
 fn outside(n: i16, x: usize, y: usize, columns: usize, rows: usize) -> bool
     ensures { λ r. ⌜ r ≡ outsideAt columns rows x y n ⌝ }
@@ -111,7 +111,7 @@ fn rail(v: i16) -> u32
     0
 }
 
-// A stretch of middle values, from its sums; hands back how many stand at an end.
+// Middle values, from their sums; hands back how many stand at an end.
 fn settle(e: &[i32], m: &mut [i16]) -> u32
     requires { ⌜ Sums (now e) (now m) ⌝ }
     ensures { λ r. ⌜ (now (m .exit) ≡ tabulate (length (now (e .entry))) (λ x. middle short (at (now (e .entry)) x))) × (r ≡ railsOf (length (now (e .entry))) (at (now (e .entry)))) ⌝ }
@@ -127,45 +127,34 @@ fn settle(e: &[i32], m: &mut [i16]) -> u32
     rails
 }
 
-// "Each kept column goes through the vertical line over its kept rows": output y of every kept column.
-fn middle_row(u: &[i16], shape: Shape, c: &[i16], y: usize, part: &mut [i16]) -> u32
-    requires { ⌜ Vertical shape (now u) (now c) × ((y < shape .height) × (length (now part) ≡ keptColumns shape)) ⌝ }
-    ensures { λ r. ⌜ (now (part .exit) ≡ tabulate (keptColumns shape) (λ x. middleAt shape (now (c .entry)) x y)) × (r ≡ railsOf (keptColumns shape) (λ x. columnSum shape (now (c .entry)) x y)) ⌝ }
+// "Each kept column goes through the vertical line over its kept rows, giving h sums e": output y of every kept column is one
+// row of sums.
+fn column_sums(u: &[i16], shape: Shape, c: &[i16], e: &mut [i32])
+    requires { ⌜ Vertical shape (now u) (now c) × (length (now e) ≡ shape .height * keptColumns shape) ⌝ }
+    ensures { λ _. ⌜ now (e .exit) ≡ block (keptColumns shape) (shape .height) (columnSum shape (now (c .entry))) ⌝ }
 {
     let w = shape.width as usize;
     let h = shape.height as usize;
-    let n = part.len();
-    let mut e = [0i32; 32];
-    row_sums(c, 0, w, u, y, h, kept_rows(shape), &mut e[0..n]);
-    settle(&e[0..n], part)
-}
-
-// All rows, each into its own stretch.
-fn middle_rows(u: &[i16], shape: Shape, c: &[i16], m: &mut [i16]) -> u32
-    requires { ⌜ Vertical shape (now u) (now c) × (length (now m) ≡ shape .height * keptColumns shape) ⌝ }
-    ensures { λ r. ⌜ (now (m .exit) ≡ keptMiddles shape (now (c .entry))) × (r ≡ rails shape (now (c .entry))) ⌝ }
-{
     let n = kept_columns(shape);
-    let h = shape.height as usize;
-    let mut rails: u32 = 0;
+    let count = kept_rows(shape);
     let mut y = 0;
     while y < h {
         let a = y * n;
         let b = a + n;
-        rails += middle_row(u, shape, c, y, &mut m[a..b]);
+        row_sums(c, 0, w, u, y, h, count, &mut e[a..b]);
         y += 1;
     }
-    rails
 }
 
-// The vertical stage.
-fn vertical(shape: Shape, c: &[i16], u: &mut [i16], m: &mut [i16]) -> u32
-    requires { ⌜ Coefficients shape (now c) × ((length (now u) ≡ keptRows shape * shape .height) × (length (now m) ≡ shape .height * keptColumns shape)) ⌝ }
+// The vertical stage. A row of 4 sums is too short for the compiler's vectors, so all sums are settled at once.
+fn vertical(shape: Shape, c: &[i16], u: &mut [i16], e: &mut [i32], m: &mut [i16]) -> u32
+    requires { ⌜ Coefficients shape (now c) × ((length (now u) ≡ keptRows shape * shape .height) × ((length (now e) ≡ shape .height * keptColumns shape) × (length (now m) ≡ shape .height * keptColumns shape))) ⌝ }
     ensures { λ r. ⌜ (now (m .exit) ≡ keptMiddles shape (now (c .entry))) × (r ≡ rails shape (now (c .entry))) ⌝ }
 {
     let h = shape.height as usize;
     factors(h, shape.vertical, false, kept_rows(shape), u);
-    middle_rows(u, shape, c, m)
+    column_sums(u, shape, c, e);
+    settle(e, m)
 }
 
 // "(r + 2^(19-d)) >> (20-d)", s being 20-d.
@@ -176,7 +165,7 @@ fn round_last(z: i32, s: u32) -> i32
     (z + (1 << (s - 1))) >> s
 }
 
-// The last rounding, of each number of a row.
+// The last rounding, of each number.
 fn last(part: &mut [i32], s: u32)
     requires { ⌜ ((k : ℕ) → natAbs (at (now part) k) ≤ 67108864) × ((0 < s) × (s ≤ 12)) ⌝ }
     ensures { λ _. ⌜ now (part .exit) ≡ tabulate (length (now (part .entry))) (λ x. nearest s (at (now (part .entry)) x)) ⌝ }
@@ -188,46 +177,39 @@ fn last(part: &mut [i32], s: u32)
     }
 }
 
-// "each row goes through the horizontal line over its kept columns": row y, into its own stretch of the output.
-fn residual_row(u: &[i16], shape: Shape, m: &[i16], y: usize, part: &mut [i32])
-    requires { ⌜ Horizontal shape (now u) (now m) × ((y < shape .height) × (length (now part) ≡ shape .width)) ⌝ }
-    ensures { λ _. ⌜ now (part .exit) ≡ tabulate (shape .width) (λ x. residualOf shape (now (m .entry)) x y) ⌝ }
-{
-    let w = shape.width as usize;
-    let n = kept_columns(shape);
-    row_sums(u, 0, w, m, y * n, 1, n, part);
-    last(part, 20 - shape.depth)
-}
-
-// "Each line of residuals is written into its own stretch of the output".
-fn residual_rows(u: &[i16], shape: Shape, m: &[i16], residuals: &mut [i32])
+// "Then each row goes through the horizontal line over its kept columns, giving r", and "Each line of residuals is written into
+// its own stretch of the output": row y lends the output's part from y*w to y*w+w.
+fn line_sums(u: &[i16], shape: Shape, m: &[i16], residuals: &mut [i32])
     requires { ⌜ Horizontal shape (now u) (now m) × (length (now residuals) ≡ shape .width * shape .height) ⌝ }
-    ensures { λ _. ⌜ now (residuals .exit) ≡ block (shape .width) (shape .height) (residualOf shape (now (m .entry))) ⌝ }
+    ensures { λ _. ⌜ now (residuals .exit) ≡ block (shape .width) (shape .height) (lineSum shape (now (m .entry))) ⌝ }
 {
     let w = shape.width as usize;
-    let h = shape.height as usize;
+    let lines = shape.height as usize;
+    let n = kept_columns(shape);
     let mut y = 0;
-    while y < h {
+    while y < lines {
         let a = y * w;
         let b = a + w;
-        residual_row(u, shape, m, y, &mut residuals[a..b]);
+        row_sums(u, 0, w, m, y * n, 1, n, &mut residuals[a..b]);
         y += 1;
     }
 }
 
-// The horizontal stage.
+// The horizontal stage, all of it rounded at once.
 fn horizontal(shape: Shape, m: &[i16], u: &mut [i16], residuals: &mut [i32])
     requires { ⌜ Middles shape (now m) × ((length (now u) ≡ keptColumns shape * shape .width) × (length (now residuals) ≡ shape .width * shape .height)) ⌝ }
     ensures { λ _. ⌜ now (residuals .exit) ≡ block (shape .width) (shape .height) (residualOf shape (now (m .entry))) ⌝ }
 {
     let w = shape.width as usize;
     factors(w, shape.horizontal, false, kept_columns(shape), u);
-    residual_rows(u, shape, m, residuals)
+    line_sums(u, shape, m, residuals);
+    last(residuals, 20 - shape.depth)
 }
 
-// Both stages of a block that no test refuses; hands back the rail count. No more than 16 columns and 16 rows are kept, of 32.
-pub fn stages(shape: Shape, c: &[i16], residuals: &mut [i32]) -> u32
-    requires { ⌜ Whole shape (now c) (now residuals) × NoneAbove 32768 (now c) ⌝ }
+// Both stages, with room for weights and middle values. The output has room for the sums of the vertical stage, which the
+// horizontal one writes over.
+fn worked(shape: Shape, c: &[i16], u: &mut [i16], m: &mut [i16], residuals: &mut [i32]) -> u32
+    requires { ⌜ Coefficients shape (now c) × (Room shape (now u) (now m) × (length (now residuals) ≡ shape .width * shape .height)) ⌝ }
     ensures { λ r. ⌜ (r ≡ rails shape (now (c .entry))) × (now (residuals .exit) ≡ inverseBlock shape (now (c .entry))) ⌝ }
 {
     let w = shape.width as usize;
@@ -236,9 +218,47 @@ pub fn stages(shape: Shape, c: &[i16], residuals: &mut [i32]) -> u32
     let down = kept_rows(shape) * h;
     let along = n * w;
     let area = h * n;
-    let mut u = [0i16; 512];
-    let mut m = [0i16; 512];
-    let rails = vertical(shape, c, &mut u[0..down], &mut m[0..area]);
+    let rails = vertical(
+        shape,
+        c,
+        &mut u[0..down],
+        &mut residuals[0..area],
+        &mut m[0..area],
+    );
     horizontal(shape, &m[0..area], &mut u[0..along], residuals);
     rails
+}
+
+// Up to 8x8, buffers of 64 have room: at 4x4 it takes as long to fill those of `large` with zeros as to add up a stage.
+fn small(shape: Shape, c: &[i16], residuals: &mut [i32]) -> u32
+    requires { ⌜ (Whole shape (now c) (now residuals) × NoneAbove 32768 (now c)) × ((shape .width ≤ 8) × (shape .height ≤ 8)) ⌝ }
+    ensures { λ r. ⌜ (r ≡ rails shape (now (c .entry))) × (now (residuals .exit) ≡ inverseBlock shape (now (c .entry))) ⌝ }
+{
+    let mut u = [0i16; 64];
+    let mut m = [0i16; 64];
+    worked(shape, c, &mut u, &mut m, residuals)
+}
+
+// No more than 16 columns and 16 rows are kept, of 32.
+fn large(shape: Shape, c: &[i16], residuals: &mut [i32]) -> u32
+    requires { ⌜ Whole shape (now c) (now residuals) × NoneAbove 32768 (now c) ⌝ }
+    ensures { λ r. ⌜ (r ≡ rails shape (now (c .entry))) × (now (residuals .exit) ≡ inverseBlock shape (now (c .entry))) ⌝ }
+{
+    let mut u = [0i16; 512];
+    let mut m = [0i16; 512];
+    worked(shape, c, &mut u, &mut m, residuals)
+}
+
+// Both stages of a block that no test refuses; hands back the rail count.
+pub fn stages(shape: Shape, c: &[i16], residuals: &mut [i32]) -> u32
+    requires { ⌜ Whole shape (now c) (now residuals) × NoneAbove 32768 (now c) ⌝ }
+    ensures { λ r. ⌜ (r ≡ rails shape (now (c .entry))) × (now (residuals .exit) ≡ inverseBlock shape (now (c .entry))) ⌝ }
+{
+    if 8 < shape.width {
+        return large(shape, c, residuals);
+    }
+    if 8 < shape.height {
+        return large(shape, c, residuals);
+    }
+    small(shape, c, residuals)
 }
