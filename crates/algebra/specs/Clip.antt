@@ -1,4 +1,4 @@
--- A range of integers, both ends in it, and a number brought into it.
+-- Document 01, "Blocks": "clipped to -32768..32767". A range of integers, both ends in it, and a number brought into it.
 use mathlib.Core.Bool.{cond}
 use lib.IntN.{ℤ}
 use lib.Signed.{ltZ}

@@ -1,4 +1,4 @@
--- Whether two integers are equal, as a test.
+-- Document 01, "Blocks": "are 32767 or -32768 after the clip". Whether two integers are equal, as a test.
 use mathlib.Core.Bool.{Bool, false}
 use lib.Dec.{eqb}
 use lib.IntN.{ℤ, pos, negsuc}

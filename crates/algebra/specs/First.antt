@@ -1,4 +1,5 @@
--- The first place of a list at which a test of the place and the number holds.
+-- Document 01, "Numbers handed back when a call is turned down": "stops at the first bad place, row by row". The first place
+-- of a list at which a test of the place and the number holds.
 use mathlib.Core.Bool.{Bool, cond}
 use mathlib.Core.List.{List, [], _∷_}
 use Prim.Native.Nat.{ℕ, suc}

@@ -1,4 +1,5 @@
--- Lists by index: the number at a place, a list of n values, a block of h rows of w values, and rows joined.
+-- Document 01, "Blocks": "Numbers stand row by row. Place x + y*w is column x, row y." Lists by index: the number at a place, a
+-- list of n values, a block of h rows of w values, and rows joined.
 use mathlib.Core.List.{List, [], _∷_, _++_}
 use Prim.Native.Nat.{ℕ, zero, suc}
 use lib.ListN.{getD}

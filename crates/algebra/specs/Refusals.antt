@@ -1,4 +1,5 @@
--- The refusals of a call: tests in a fixed order, each with the number and the place that it hands back.
+-- Document 01, "Numbers handed back when a call is turned down": "Checked in this order; the first that applies is given". Tests
+-- in a fixed order, each with the number and the place that it hands back.
 use mathlib.Core.Bool.{Bool, cond}
 use mathlib.Core.List.{List, [], _∷_}
 use Prim.Native.Nat.{ℕ}

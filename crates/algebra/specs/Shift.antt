@@ -1,4 +1,5 @@
--- a >> n: the floor of a over 2^n, for negative a too. The kit's `shrZ` is the division that rounds down.
+-- Document 01, "Blocks": ""a >> n" is the floor of a over 2^n, for negative a too." The kit's `shrZ` is the division that rounds
+-- down.
 use Prim.Native.Nat.{ℕ, _^_, _-_}
 use lib.IntN.{ℤ, pos, _+ℤ_}
 use lib.Signed.{shrZ}

@@ -1,4 +1,4 @@
--- Finite sums by index: f 0 + .. + f (n - 1).
+-- Document 01, "Lines": "sum over j of". Finite sums by index: f 0 + .. + f (n - 1).
 use Prim.Native.Nat.{ℕ, zero, suc, _+_}
 use lib.IntN.{ℤ, pos, _+ℤ_}
 

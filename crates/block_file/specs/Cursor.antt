@@ -1,5 +1,5 @@
--- "The reader moves a place through the file one field at a time, and hands back the body as that stretch of the caller's
--- own bytes".
+-- Document 01, "The block file and its program": "The reader moves a place through the file one field at a time, and hands back
+-- the body as that stretch of the caller's own bytes".
 use mathlib.Core.Bool.{Bool, cond}
 use mathlib.Core.List.{List}
 use Prim.Native.Nat.{ℕ, _+_}

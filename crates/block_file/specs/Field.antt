@@ -1,5 +1,5 @@
--- "A field is a one-byte tag, a two-byte length of the body, and the body. High byte first throughout": what stands at a
--- place of a file, the refusals 14, 8 and 9 left aside.
+-- Document 01, "The block file and its program": "A field is a one-byte tag, a two-byte length of the body, and the body. High
+-- byte first throughout": what stands at a place of a file, the refusals 14, 8 and 9 left aside.
 use mathlib.Core.Bool.{Bool, cond, not, _&&_, _||_}
 use mathlib.Core.List.{List, [], _∷_, _++_}
 use Prim.Native.Nat.{ℕ, _+_, _*_}

@@ -1,4 +1,5 @@
--- "High byte first throughout; data numbers are two's complement": the numbers of a body, two bytes each.
+-- Document 01, "The block file and its program": "High byte first throughout; data numbers are two's complement". The numbers of
+-- a body, two bytes each.
 use mathlib.Core.Bool.{cond}
 use mathlib.Core.List.{List, [], _∷_}
 use Prim.Native.Nat.{ℕ, _+_, _*_}

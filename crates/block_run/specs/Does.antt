@@ -1,4 +1,5 @@
--- What the functions of the run that do a turn ask and promise.
+-- Document 01, "The block file and its program": "The first refusal ends the run". What the functions of the run that do a turn
+-- ask and promise.
 use mathlib.Core.Path.{_≡_}
 use mathlib.Core.Bool.{false}
 use mathlib.Core.List.{List}

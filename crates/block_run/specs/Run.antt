@@ -1,4 +1,4 @@
--- "A program that reads a file of blocks and prints answers": what a file prints, field by field.
+-- Document 01, "The block file and its program": what a file prints, field by field.
 use mathlib.Core.Bool.{Bool, true, false, cond, not}
 use mathlib.Core.List.{List, [], _++_}
 use Prim.Native.Nat.{ℕ, zero, suc, _*_}

@@ -1,4 +1,4 @@
--- The lines that a run prints, as bytes: "one space between, one line each".
+-- Document 01, "The block file and its program": "one space between, one line each". The lines that a run prints, as bytes.
 use mathlib.Core.Bool.{cond}
 use mathlib.Core.List.{List, [], _∷_, _++_}
 use Prim.Native.Nat.{ℕ, zero, suc, _+_, _/_, _%_}

@@ -1,4 +1,5 @@
--- What a function that writes text at a place promises.
+-- Document 01, "The block file and its program": "lines printed before it stand". What a function that writes text at a place
+-- promises.
 use mathlib.Core.Path.{_≡_}
 use mathlib.Core.List.{List, _++_}
 use Prim.Native.Nat.{ℕ, _+_, _≤_}

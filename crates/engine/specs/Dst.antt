@@ -1,4 +1,5 @@
--- The core of the fast line: the inverse DST-VII of n numbers that stand in a work area of 32 bits.
+-- Document 01, "Sharing between weights": "The fast path must use these". Its core: the inverse DST-VII of n numbers that stand
+-- in a work area of 32 bits.
 use mathlib.Core.Path.{_≡_}
 use mathlib.Core.Bool.{true}
 use mathlib.Core.List.{List}

@@ -1,5 +1,5 @@
--- The folded line: classes of rows, the places of a line as signed sums of its first ones, and what each step is given and
--- leaves. Places and rows are counted from 0.
+-- Document 01, "Sharing between weights". The folded line: classes of rows, the places of a line as signed sums of its first
+-- ones, and what each step is given and leaves. Places and rows are counted from 0.
 use mathlib.Core.Path.{_≡_}
 use mathlib.Core.Bool.{Bool, cond, _&&_}
 use mathlib.Core.List.{List, [], _∷_}

@@ -1,4 +1,4 @@
--- What a line on a lent table is given, and what it leaves.
+-- Document 01, "Lines": what a line on a lent table is given, and what it leaves.
 use mathlib.Core.Path.{_≡_}
 use mathlib.Core.Bool.{Bool, true, cond}
 use mathlib.Core.List.{List}

@@ -1,4 +1,5 @@
--- The fast line around its core: the inputs as the core takes them, and its sums as the line hands them out.
+-- Document 01, "The weights": "C[i][j] = (-1)^i * S[i][N-1-j]". The fast line around its core: the inputs as the core takes them,
+-- and its sums as the line hands them out.
 use mathlib.Core.Path.{_≡_}
 use mathlib.Core.Bool.{Bool, not, cond, _&&_, _||_}
 use mathlib.Core.List.{List}

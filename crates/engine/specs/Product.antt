@@ -1,4 +1,4 @@
--- The sum that gives output k of a line, in either direction.
+-- Document 01, "Lines": the sum that gives output k of a line, in either direction.
 use mathlib.Core.Bool.{Bool}
 use Prim.Native.Nat.{ℕ}
 use lib.IntN.{ℤ, _*ℤ_}

@@ -1,5 +1,5 @@
--- What a stage of the forward block is given, and what it leaves: rows and their weights, and the rounded sums, line by line,
--- in the first places of the rows of a buffer.
+-- Document 01, "Blocks", "Forward": what a stage is given, and what it leaves: rows and their weights, and the rounded sums, line
+-- by line, in the first places of the rows of a buffer.
 use mathlib.Core.Path.{_≡_}
 use mathlib.Core.Bool.{true, cond, _&&_}
 use mathlib.Core.List.{List}

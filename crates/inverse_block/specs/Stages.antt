@@ -1,4 +1,4 @@
--- What the two stages of an inverse block are given, and what they hand to each other.
+-- Document 01, "Blocks", "Inverse": what the two stages are given, and what they hand to each other.
 use mathlib.Core.Path.{_≡_}
 use mathlib.Core.Bool.{Bool, false, not, _&&_}
 use mathlib.Core.List.{List}

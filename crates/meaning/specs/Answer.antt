@@ -1,4 +1,4 @@
--- "Numbers handed back when a call is turned down": the tests in their order, and the outcome of a call.
+-- Document 01, "Numbers handed back when a call is turned down": the tests in their order, and the outcome of a call.
 use mathlib.Core.Bool.{Bool, not}
 use mathlib.Core.List.{List, [], _∷_}
 use Prim.Native.Nat.{ℕ}

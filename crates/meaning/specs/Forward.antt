@@ -1,4 +1,4 @@
--- "Forward (the reference encoder's order)": rows, then columns, and the outcome of a call.
+-- Document 01, "Blocks", "Forward (the reference encoder's order)": rows, then columns, and the outcome of a call.
 use mathlib.Core.Bool.{Bool, cond, _&&_}
 use mathlib.Core.List.{List, [], _∷_, _++_}
 use Prim.Native.Nat.{ℕ, _+_, _*_, _-_, _^_}

@@ -1,4 +1,4 @@
--- "Inverse": both stages of a block, the rail count, and the outcome of a call.
+-- Document 01, "Blocks", "Inverse": both stages of a block, the rail count, and the outcome of a call.
 use mathlib.Core.Bool.{Bool, not, cond, _&&_, _||_}
 use mathlib.Core.List.{List, [], _∷_, _++_}
 use Prim.Native.Nat.{ℕ, _+_, _*_, _/_, _%_}

@@ -1,4 +1,4 @@
--- "Lines": exact sums, with no shift, over any numbers.
+-- Document 01, "Lines": exact sums, with no shift, over any numbers.
 use mathlib.Core.Bool.{Bool, cond}
 use mathlib.Core.List.{List}
 use Prim.Native.Nat.{ℕ}

@@ -1,4 +1,5 @@
--- "What the library holds", and what a block's shape decides: its kept part, the range between the stages, the last shift.
+-- Document 01, "What the library holds" and "Blocks": what a block's shape decides: its kept part, the range between the stages,
+-- the last shift.
 use mathlib.Core.Bool.{Bool, _&&_, _||_}
 use Prim.Native.Nat.{ℕ, _-_, min}
 use lib.Dec.{eqb, leb}

@@ -1,4 +1,4 @@
--- "The weights": the first rows, the fold rule, and the two kinds.
+-- Document 01, "The weights": the first rows, the fold rule, and the two kinds.
 use mathlib.Core.Bool.{Bool, true, false, cond}
 use mathlib.Core.List.{List, [], _∷_}
 use Prim.Native.Nat.{ℕ, _+_, _*_, _-_, _%_, min}

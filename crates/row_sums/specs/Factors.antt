@@ -1,4 +1,4 @@
--- "The weights", laid out as the sums of a line use them.
+-- Document 01, "The weights", laid out as the sums of a line use them.
 use mathlib.Core.Bool.{Bool}
 use mathlib.Core.List.{List}
 use Prim.Native.Nat.{ℕ}

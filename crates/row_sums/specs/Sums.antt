@@ -1,4 +1,4 @@
--- "sum over i of T[i][j]*x[i]", a stretch of sums at a time: rows of numbers, each times its own weight.
+-- Document 01, "Lines": "sum over i of T[i][j]*x[i]", a stretch of sums at a time: rows of numbers, each times its own weight.
 use mathlib.Core.Path.{_≡_}
 use mathlib.Core.List.{List}
 use Prim.Native.Nat.{ℕ, _+_, _*_, _≤_, _<_}

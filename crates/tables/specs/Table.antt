@@ -1,4 +1,4 @@
--- "The 1,024 weights of the 32-point DST-VII are stored whole": what a stored table holds.
+-- Document 01, "The weights": "The 1,024 weights of the 32-point DST-VII are stored whole". What a stored table holds.
 use mathlib.Core.Path.{_≡_}
 use mathlib.Core.List.{List}
 use Prim.Native.Nat.{ℕ, _+_, _*_, _<_}

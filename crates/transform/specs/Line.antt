@@ -1,4 +1,5 @@
--- What the public lines share: a weight for any four numbers, and the outcome of a line in either direction.
+-- Document 01, "The weights" and "Lines": what the public lines share, a weight for any four numbers, and the outcome of a line
+-- in either direction.
 use mathlib.Core.Bool.{Bool, cond, _&&_}
 use mathlib.Core.List.{List}
 use Prim.Native.Nat.{ℕ}

@@ -1,4 +1,5 @@
--- "Small blocks by value": the lent form's outcome of the lines one after the other, with sixteen zeros for its output.
+-- Document 01, "Blocks", "Small blocks by value": the lent form's outcome of the lines one after the other, with sixteen zeros
+-- for its output.
 use mathlib.Core.List.{List}
 use Prim.Native.Nat.{ℕ}
 use lib.IntN.{ℤ, pos}
