@@ -33,9 +33,6 @@ middle r e = clip r (rounded e)
 unfoldable pub middleAt : Shape → List ℤ → ℕ → ℕ → ℤ
 middleAt sh c x y = cond (ltb x (keptColumns sh)) (middle (range sh) (columnSum sh c x y)) (pos 0)
 
-unfoldable pub middles : Shape → List ℤ → List ℤ
-middles sh c = block (sh .width) (sh .height) (middleAt sh c)
-
 -- whether a middle value counts: "are 32767 or -32768 after the clip"
 abbrev pub railed : Range → ℤ → ℤ → Bool
 railed r before after = eqZ after (r .low) || eqZ after (r .high)
