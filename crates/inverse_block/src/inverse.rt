@@ -229,7 +229,7 @@ fn worked(shape: Shape, c: &[i16], u: &mut [i16], m: &mut [i16], residuals: &mut
     rails
 }
 
-// Up to 8x8, buffers of 64 have room: at 4x4 it takes as long to fill those of `large` with zeros as to add up a stage.
+// Up to 8x8, buffers of 64 have room enough: the zeros of those in `large` would be a seventh of the time of a 4x4 block.
 fn small(shape: Shape, c: &[i16], residuals: &mut [i32]) -> u32
     requires { ⌜ (Whole shape (now c) (now residuals) × NoneAbove 32768 (now c)) × ((shape .width ≤ 8) × (shape .height ≤ 8)) ⌝ }
     ensures { λ r. ⌜ (r ≡ rails shape (now (c .entry))) × (now (residuals .exit) ≡ inverseBlock shape (now (c .entry))) ⌝ }
