@@ -4,7 +4,7 @@ use tables::weights_8;
 use tables::weights_16;
 use tables::weights_32;
 ghost use mathlib.Core.Path.{_≡_};
-ghost use mathlib.Core.Bool.{true};
+ghost use mathlib.Core.Bool.{true, false};
 ghost use Prim.Native.Nat.{_*_, _<_, _≤_};
 ghost use lib.ListN.{length};
 ghost use Rattle.algebra.specs.Lists.{tabulate};
@@ -26,14 +26,26 @@ fn entry(t: &[i16], n: usize, kind: u32, i: usize, j: usize) -> i16
     if i % 2 == 1 { 0 - w } else { w }
 }
 
-fn factor(t: &[i16], n: usize, kind: u32, forward: bool, k: usize, i: usize) -> i16
-    requires { ⌜ (isKind kind ≡ true) × ((k < n) × ((i < n) × Table n (now t))) ⌝ }
-    ensures { λ r. ⌜ r ≡ term forward kind n k i ⌝ }
+// Row by row, so that the compiler copies where the weights stand as they are stored.
+fn inverse_row(t: &[i16], n: usize, kind: u32, i: usize, part: &mut [i16])
+    requires { ⌜ (isKind kind ≡ true) × ((i < n) × (Table n (now t) × (length (now part) ≡ n))) ⌝ }
+    ensures { λ _. ⌜ now (part .exit) ≡ tabulate n (λ k. term false kind n k i) ⌝ }
 {
-    if forward {
-        entry(t, n, kind, k, i)
-    } else {
-        entry(t, n, kind, i, k)
+    let mut k = 0;
+    while k < n {
+        part[k] = entry(t, n, kind, i, k);
+        k += 1;
+    }
+}
+
+fn forward_row(t: &[i16], n: usize, kind: u32, i: usize, part: &mut [i16])
+    requires { ⌜ (isKind kind ≡ true) × ((i < n) × (Table n (now t) × (length (now part) ≡ n))) ⌝ }
+    ensures { λ _. ⌜ now (part .exit) ≡ tabulate n (λ k. term true kind n k i) ⌝ }
+{
+    let mut k = 0;
+    while k < n {
+        part[k] = entry(t, n, kind, k, i);
+        k += 1;
     }
 }
 
@@ -41,10 +53,10 @@ fn factor_row(t: &[i16], n: usize, kind: u32, forward: bool, i: usize, part: &mu
     requires { ⌜ (isKind kind ≡ true) × ((i < n) × (Table n (now t) × (length (now part) ≡ n))) ⌝ }
     ensures { λ _. ⌜ now (part .exit) ≡ tabulate n (λ k. term forward kind n k i) ⌝ }
 {
-    let mut k = 0;
-    while k < n {
-        part[k] = factor(t, n, kind, forward, k, i);
-        k += 1;
+    if forward {
+        forward_row(t, n, kind, i, part)
+    } else {
+        inverse_row(t, n, kind, i, part)
     }
 }
 

@@ -1,68 +1,41 @@
--- `factors::factor_row` meets its contract: the weights before k are laid out. Assumes nothing.
+-- `factors::factor_row` meets its contract. Assumes nothing.
 use borrow.Author.Needs.{needs}
-use native.Mathlib.Omega.{arith}
-use mathlib.Core.Path.{_≡_, _∙_, subst}
-use Prim.Native.Nat.{ℕ, _-_, _≤_}
-use mir.Syntax.{w16}
-use mir.ValLaws.{toZ-ofZ}
-use Rattle.algebra.proofs.Lists.{Filled, fill-none, fill-first, filled}
+use mathlib.Core.Path.{_∙_, sym, ap}
+use mathlib.Core.Bool.{Bool}
+use Rattle.algebra.specs.Lists.{tabulate}
 use Rattle.meaning.specs.Line.{term}
 use Rattle.row_sums.proofs.factors.factor_row.Statement.{statement}
 use Rattle.row_sums.proofs.factors.factor_row.Tie as tie
 
-abbrev Inv-loop : tie.InvT-loop
-Inv-loop t n kind forward i part₀ k₀ part k = (k ≤ n) × Filled 0 k part part₀ (λ k. term forward kind n k i)
+forward-row-requires : tie.Need-forward-row-requires
+forward-row-requires c κs = search needs
 
-abbrev μ-loop : tie.MeasureT-loop
-μ-loop t n kind forward i part₀ k₀ part k = n - k
+inverse-row-requires : tie.Need-inverse-row-requires
+inverse-row-requires c κs = search needs
 
-loop-holds : tie.Need-loop-holds Inv-loop μ-loop
-loop-holds c = (omega arith, fill-none 0 _ _)
+same-length : tie.Need-same-length
+same-length c = search needs
 
-factor-requires : tie.Need-factor-requires Inv-loop μ-loop
-factor-requires c κs = search needs
-
-mul-t10 : tie.Need-mul-t10 Inv-loop μ-loop
-mul-t10 c = omega (arith, c .before .before .loop .inv .1 .long)
-
-slice-set-from-part : tie.Need-slice-set-from-part Inv-loop μ-loop
-slice-set-from-part c = omega (arith, c .before .before .loop .inv .1 .long)
-
-add-k : tie.Need-add-k Inv-loop μ-loop
-add-k c = search needs
-
-loop-less : tie.Need-loop-less Inv-loop μ-loop
-loop-less c = search needs
-
-loop-again : tie.Need-loop-again Inv-loop μ-loop
-loop-again c =
-    let L = c .before .before in (
-      omega arith,
-      fill-first _ (omega (arith, L .before .pre .1 .1 .1)) (L .loop .inv .1) (toZ-ofZ w16 (c .factor .result) (search needs) ∙ c .factor .ensures),
-    )
-
-same-length : tie.Need-same-length Inv-loop μ-loop
-same-length c = c .before .loop .inv .1 .long
-
-returns : tie.Need-returns Inv-loop μ-loop
+returns : tie.Need-returns
 returns c =
-    let L = c .before in
-    let s = L .before .args in
-    let e : L .loop .k ≡ s .n = omega (arith, L .loop .inv .0, c .loop-test .left) in
-    filled (L .before .pre .1 .1 .1) (subst (λ (k : ℕ). Filled 0 k (L .loop .part) (s .part .now) (λ k. term (s .forward) (s .kind) (s .n) k (s .i))) e (L .loop .inv .1))
+    let s = c .before .before .before .before .args in
+    c .before .forward-row .ensures ∙ ap (λ (b : Bool). tabulate (s .n) (λ k. term b (s .kind) (s .n) k (s .i))) (sym (c .before .before .before .if1 .taken))
+
+same-length-2 : tie.Need-same-length-2
+same-length-2 c = search needs
+
+returns-2 : tie.Need-returns-2
+returns-2 c =
+    let s = c .before .before .before .before .args in
+    c .before .inverse-row .ensures ∙ ap (λ (b : Bool). tabulate (s .n) (λ k. term b (s .kind) (s .n) k (s .i))) (sym (c .before .before .before .if1 .left))
 
 pub factor-row-spec : {M : Type 1} → statement M
 factor-row-spec =
     tie.close
     (tie.spec
-    Inv-loop
-    μ-loop
-    loop-holds
-    factor-requires
-    mul-t10
-    slice-set-from-part
-    add-k
-    loop-less
-    loop-again
+    forward-row-requires
+    inverse-row-requires
     same-length
-    returns)
+    returns
+    same-length-2
+    returns-2)
