@@ -73,6 +73,31 @@ fn factor_rows(t: &[i16], n: usize, kind: u32, forward: bool, count: usize, u: &
     }
 }
 
+// The inverse DST-VII takes the weights as they are stored.
+fn stored(t: &[i16], n: usize, count: usize, u: &mut [i16])
+    requires { ⌜ (count ≤ n) × (Table n (now t) × (length (now u) ≡ count * n)) ⌝ }
+    ensures { λ _. ⌜ now (u .exit) ≡ laid false 1 n count ⌝ }
+{
+    let mut k = 0;
+    while k < u.len() {
+        u[k] = t[k];
+        k += 1;
+    }
+}
+
+fn lay(t: &[i16], n: usize, kind: u32, forward: bool, count: usize, u: &mut [i16])
+    requires { ⌜ (isKind kind ≡ true) × ((count ≤ n) × (Table n (now t) × (length (now u) ≡ count * n))) ⌝ }
+    ensures { λ _. ⌜ now (u .exit) ≡ laid forward kind n count ⌝ }
+{
+    if forward {
+        factor_rows(t, n, kind, true, count, u)
+    } else if kind == 1 {
+        stored(t, n, count, u)
+    } else {
+        factor_rows(t, n, kind, false, count, u)
+    }
+}
+
 // The rows of the first `count` inputs.
 pub fn factors(n: usize, kind: u32, forward: bool, count: usize, u: &mut [i16])
     requires { ⌜ (isSize n ≡ true) × ((isKind kind ≡ true) × ((count ≤ n) × (length (now u) ≡ count * n))) ⌝ }
@@ -80,15 +105,15 @@ pub fn factors(n: usize, kind: u32, forward: bool, count: usize, u: &mut [i16])
 {
     if n == 4 {
         let t = weights_4();
-        factor_rows(&t, n, kind, forward, count, u)
+        lay(&t, n, kind, forward, count, u)
     } else if n == 8 {
         let t = weights_8();
-        factor_rows(&t, n, kind, forward, count, u)
+        lay(&t, n, kind, forward, count, u)
     } else if n == 16 {
         let t = weights_16();
-        factor_rows(&t, n, kind, forward, count, u)
+        lay(&t, n, kind, forward, count, u)
     } else {
         let t = weights_32();
-        factor_rows(&t, n, kind, forward, count, u)
+        lay(&t, n, kind, forward, count, u)
     }
 }

@@ -10,44 +10,44 @@ use Rattle.row_sums.proofs.factors.factors.Tie as tie
 weights-4-requires : tie.Need-weights-4-requires
 weights-4-requires c κs = search needs
 
-slice-aggregate-factor-rows : tie.Need-slice-aggregate-factor-rows
-slice-aggregate-factor-rows c = search needs
+slice-aggregate-lay : tie.Need-slice-aggregate-lay
+slice-aggregate-lay c = search needs
 
-factor-rows-requires : tie.Need-factor-rows-requires
-factor-rows-requires c κs =
+lay-requires : tie.Need-lay-requires
+lay-requires c κs =
     let p = c .before .before .before .before .pre in
     (p .1 .0, (p .1 .1 .0, (subst (λ (n : ℕ). Table n (c .before .before .weights-4 .result)) (sym (c .before .before .before .if1 .taken)) (c .before .before .weights-4 .ensures), p .1 .1 .1)))
 
 weights-8-requires : tie.Need-weights-8-requires
 weights-8-requires c κs = search needs
 
-slice-aggregate-factor-rows-2 : tie.Need-slice-aggregate-factor-rows-2
-slice-aggregate-factor-rows-2 c = search needs
+slice-aggregate-lay-2 : tie.Need-slice-aggregate-lay-2
+slice-aggregate-lay-2 c = search needs
 
-factor-rows-requires-2 : tie.Need-factor-rows-requires-2
-factor-rows-requires-2 c κs =
+lay-requires-2 : tie.Need-lay-requires-2
+lay-requires-2 c κs =
     let p = c .before .before .before .before .before .pre in
     (p .1 .0, (p .1 .1 .0, (subst (λ (n : ℕ). Table n (c .before .before .weights-8 .result)) (sym (c .before .before .before .if2 .taken)) (c .before .before .weights-8 .ensures), p .1 .1 .1)))
 
 weights-16-requires : tie.Need-weights-16-requires
 weights-16-requires c κs = search needs
 
-slice-aggregate-factor-rows-3 : tie.Need-slice-aggregate-factor-rows-3
-slice-aggregate-factor-rows-3 c = search needs
+slice-aggregate-lay-3 : tie.Need-slice-aggregate-lay-3
+slice-aggregate-lay-3 c = search needs
 
-factor-rows-requires-3 : tie.Need-factor-rows-requires-3
-factor-rows-requires-3 c κs =
+lay-requires-3 : tie.Need-lay-requires-3
+lay-requires-3 c κs =
     let p = c .before .before .before .before .before .before .pre in
     (p .1 .0, (p .1 .1 .0, (subst (λ (n : ℕ). Table n (c .before .before .weights-16 .result)) (sym (c .before .before .before .if3 .taken)) (c .before .before .weights-16 .ensures), p .1 .1 .1)))
 
 weights-32-requires : tie.Need-weights-32-requires
 weights-32-requires c κs = search needs
 
-slice-aggregate-factor-rows-4 : tie.Need-slice-aggregate-factor-rows-4
-slice-aggregate-factor-rows-4 c = search needs
+slice-aggregate-lay-4 : tie.Need-slice-aggregate-lay-4
+slice-aggregate-lay-4 c = search needs
 
-factor-rows-requires-4 : tie.Need-factor-rows-requires-4
-factor-rows-requires-4 c κs =
+lay-requires-4 : tie.Need-lay-requires-4
+lay-requires-4 c κs =
     let p = c .before .before .before .before .before .before .pre in
     (p .1 .0, (p .1 .1 .0, (subst (λ (n : ℕ). Table n (c .before .before .weights-32 .result)) (sym (thirty-two _ (c .before .before .before .before .before .before .pre .0) (c .before .before .before .before .before .if1 .left) (c .before .before .before .before .if2 .left) (c .before .before .before .if3 .left))) (c .before .before .weights-32 .ensures), p .1 .1 .1)))
 
@@ -80,17 +80,17 @@ factors-spec =
     tie.close
     (tie.spec
     weights-4-requires
-    slice-aggregate-factor-rows
-    factor-rows-requires
+    slice-aggregate-lay
+    lay-requires
     weights-8-requires
-    slice-aggregate-factor-rows-2
-    factor-rows-requires-2
+    slice-aggregate-lay-2
+    lay-requires-2
     weights-16-requires
-    slice-aggregate-factor-rows-3
-    factor-rows-requires-3
+    slice-aggregate-lay-3
+    lay-requires-3
     weights-32-requires
-    slice-aggregate-factor-rows-4
-    factor-rows-requires-4
+    slice-aggregate-lay-4
+    lay-requires-4
     same-length
     returns
     same-length-2
