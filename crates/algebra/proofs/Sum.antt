@@ -64,6 +64,21 @@ unfolding sumℕ
 sumℕ-mono zero f g h = omega arith
 sumℕ-mono (suc n) f g h = add-le-add (sumℕ-mono n f g (λ i p. h i (omega arith))) (h n (omega arith))
 
+-- the sum of two, and a count by rows as by columns
+sumℕ-add : (n : ℕ) (f g : ℕ → ℕ) → sumℕ n (λ i. f i + g i) ≡ sumℕ n f + sumℕ n g
+unfolding sumℕ
+sumℕ-add zero f g = refl
+sumℕ-add (suc n) f g = omega (arith, sumℕ-add n f g)
+
+pub sumℕ-swap : (m n : ℕ) (f : ℕ → ℕ → ℕ) → sumℕ m (λ i. sumℕ n (f i)) ≡ sumℕ n (λ j. sumℕ m (λ i. f i j))
+unfolding sumℕ
+sumℕ-swap zero n f = sym (none n)
+  where
+    none : (n : ℕ) → sumℕ n (λ j. 0) ≡ 0
+    none zero = refl
+    none (suc n) = omega (arith, none n)
+sumℕ-swap (suc m) n f = ap (λ (k : ℕ). k + sumℕ n (f m)) (sumℕ-swap m n f) ∙ sym (sumℕ-add n (λ j. sumℕ m (λ i. f i j)) (f m))
+
 pub sumℕ-scale : (n : ℕ) (f : ℕ → ℕ) (M : ℕ) → sumℕ n (λ i. f i * M) ≡ sumℕ n f * M
 unfolding sumℕ
 sumℕ-scale zero f M = sym (zero-mul M)

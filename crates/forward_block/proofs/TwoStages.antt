@@ -2,7 +2,7 @@
 use mathlib.Core.Path.{_≡_, refl, sym, ap, _∙_, subst}
 use mathlib.Core.Bool.{Bool, true, false, cond, _&&_}
 use mathlib.Core.List.{List}
-use Prim.Native.Nat.{ℕ, _+_, _*_, _-_, _^_, _≤_, _<_, min}
+use Prim.Native.Nat.{ℕ, _+_, _*_, _-_, _^_, _≤_, _<_}
 use native.Mathlib.Nat.{add-comm, mul-comm, mul-one, le-trans, mul-le-mul, mul-le-mul-right}
 use native.Mathlib.Omega.{arith}
 use borrow.Author.Tests.{ltb-true, ltb-false}
@@ -21,6 +21,7 @@ use Rattle.meaning.specs.Line.{forwardSum}
 use Rattle.meaning.specs.Shape.{isSize, keptColumns, keptRows}
 use Rattle.meaning.specs.Forward.{log2, rowShift, columnShift, rowValue, columnValue, coefficient, forwardBlock}
 use Rattle.meaning.proofs.Cases.{size-cases, size-in, depth-cases, pick}
+use Rattle.meaning.proofs.KeptPart.{columns-size}
 use Rattle.meaning.proofs.Sizes.{forwardSum-short}
 use Rattle.meaning.proofs.Taken.{Taken}
 use Rattle.meaning.proofs.Stages.{columns-in, rows-in, value-short, rowStage, rowStage-in, rowValue-in, columnValue-in}
@@ -35,13 +36,9 @@ log-in n =
     let In : ℕ → Type 0 = λ k. (2 ≤ k) × (k ≤ 5) in
     pick In (eqb n 4) (omega arith, omega arith) (pick In (eqb n 8) (omega arith, omega arith) (pick In (eqb n 16) (omega arith, omega arith) (omega arith, omega arith)))
 
--- a size is not 0, and the first 16 of it are a size too
+-- a size is not 0
 size-some : (n : ℕ) → isSize n ≡ true → 0 < n
 size-some = size-cases (λ n. 0 < n) (omega arith) (omega arith) (omega arith) (omega arith)
-
-kept-size : (n : ℕ) → isSize n ≡ true → isSize (min n 16) ≡ true
-unfolding isSize
-kept-size = size-cases (λ n. isSize (min n 16) ≡ true) refl refl refl refl
 
 module _ (sh : Shape) where
   area : sh .height * sh .width ≡ sh .width * sh .height
@@ -50,10 +47,6 @@ module _ (sh : Shape) where
   narrow : keptColumns sh ≤ 16
   unfolding keptColumns
   narrow = omega arith
-
-  columns-size : isSize (sh .width) ≡ true → isSize (keptColumns sh) ≡ true
-  unfolding keptColumns
-  columns-size h = kept-size (sh .width) h
 
   -- what the largest block needs
   pub room-enough : Taken sh → Room sh 1024 512
@@ -91,7 +84,7 @@ module _ (sh : Shape) where
             within = omega arith;
             held = omega arith;
             each = λ y hy. record {
-              size = columns-size (t .width);
+              size = columns-size sh t;
               narrow = narrow;
               some = omega arith;
               few = omega arith;
@@ -166,7 +159,7 @@ module _ (sh : Shape) where
           each = λ y hk.
               let hy : y < h = omega (arith, rows-in sh) in
               record {
-                size = columns-size (t .width);
+                size = columns-size sh t;
                 narrow = narrow;
                 some = omega arith;
                 few = omega arith;

@@ -1,6 +1,6 @@
 -- A block worked number by number: what each becomes, how large they are, and a count over all of them, row by row or column by
 -- column. Assumes nothing.
-use mathlib.Core.Path.{_≡_, refl, sym, ap, _∙_, subst}
+use mathlib.Core.Path.{_≡_, sym, ap, _∙_, subst}
 use Prim.Native.Nat.{ℕ, zero, suc, _+_, _*_, _≤_, _<_}
 use native.Mathlib.Nat.{add-zero, add-suc, add-comm, zero-mul, suc-mul}
 use native.Mathlib.Omega.{arith}
@@ -13,21 +13,6 @@ use Rattle.algebra.proofs.Lists.{place-in, tab-at, tab-length, block-at, block-
 use Rattle.meaning.proofs.Small.{NoneAbove, within-places}
 
 -- ---- counts
-sum-both : (n : ℕ) (f g : ℕ → ℕ) → sumℕ n (λ i. f i + g i) ≡ sumℕ n f + sumℕ n g
-unfolding sumℕ
-sum-both zero f g = refl
-sum-both (suc n) f g = omega (arith, sum-both n f g)
-
--- by rows as by columns
-pub sum-turned : (m n : ℕ) (f : ℕ → ℕ → ℕ) → sumℕ m (λ i. sumℕ n (f i)) ≡ sumℕ n (λ j. sumℕ m (λ i. f i j))
-unfolding sumℕ
-sum-turned zero n f = sym (none n)
-  where
-    none : (n : ℕ) → sumℕ n (λ j. 0) ≡ 0
-    none zero = refl
-    none (suc n) = omega (arith, none n)
-sum-turned (suc m) n f = ap (λ (k : ℕ). k + sumℕ n (f m)) (sum-turned m n f) ∙ sym (sum-both n (λ j. sumℕ m (λ i. f i j)) (f m))
-
 sum-parts : (m n : ℕ) (f : ℕ → ℕ) → sumℕ (m + n) f ≡ sumℕ m f + sumℕ n (λ i. f (i + m))
 unfolding sumℕ
 sum-parts m zero f = ap (λ (k : ℕ). sumℕ k f) (add-zero m) ∙ sym (add-zero (sumℕ m f))

@@ -3,7 +3,7 @@
 use mathlib.Core.Path.{_≡_, refl, ap, _∙_}
 use mathlib.Core.Bool.{Bool, true, false}
 use mathlib.Core.List.{List}
-use Prim.Native.Nat.{ℕ, _+_, _*_, _≤_, _<_, min}
+use Prim.Native.Nat.{ℕ, _+_, _*_, _≤_, _<_}
 use native.Mathlib.Omega.{arith}
 use native.Mathlib.Nat.{mul-comm, mul-le-mul}
 use borrow.Author.Tests.{lt-ltb}
@@ -12,50 +12,31 @@ use lib.ListN.{length}
 use Rattle.algebra.specs.Sum.{sumℕ}
 use Rattle.algebra.specs.Lists.{at, tabulate, block}
 use Rattle.algebra.proofs.Lists.{place-in, block-at, block-length, block-cong}
-use Rattle.algebra.proofs.Sum.{sumℕ-next, sumℕ-mono, sumℕ-const, sumℕ-cong}
+use Rattle.algebra.proofs.Sum.{sumℕ-swap, sumℕ-next, sumℕ-mono, sumℕ-const, sumℕ-cong}
 use Rattle.meaning.specs.declared.Shape.{Shape}
-use Rattle.meaning.specs.Shape.{isSize, keptColumns, keptRows, range}
+use Rattle.meaning.specs.Shape.{keptColumns, keptRows, range}
 use Rattle.meaning.specs.Line.{inverseSum}
 use Rattle.meaning.specs.Inverse.{columnSum, rounded, middle, middleAt, railed, count, rails}
-use Rattle.meaning.proofs.Cases.{size-cases, size-in}
+use Rattle.meaning.proofs.Cases.{size-in}
 use Rattle.meaning.proofs.Taken.{Taken}
 use Rattle.meaning.proofs.Small.{NoneAbove}
+use Rattle.meaning.proofs.KeptPart.{columns-some, rows-some}
 use Rattle.meaning.proofs.Stages.{columns-in, rows-in, middle-in, columnSum-in}
 use Rattle.row_sums.specs.Sums.{rowSum, Rows}
 use Rattle.row_sums.proofs.Lines.{down-given, down-sum}
 use Rattle.inverse_block.specs.Stages.{short, railsOf, Vertical, keptMiddles}
-use Rattle.inverse_block.proofs.Blocks.{sum-turned, block-count, block-map, block-in}
-
--- ---- what is kept of a size is a size
-kept-size : (n : ℕ) → isSize n ≡ true → isSize (min n 16) ≡ true
-unfolding isSize
-kept-size = size-cases (λ n. isSize (min n 16) ≡ true) refl refl refl refl
-
-kept-some : (n : ℕ) → isSize n ≡ true → (0 < min n 16) × (min n 16 ≤ 16)
-kept-some = size-cases (λ n. (0 < min n 16) × (min n 16 ≤ 16)) (omega arith, omega arith) (omega arith, omega arith) (omega arith, omega arith) (omega arith, omega arith)
+use Rattle.inverse_block.proofs.Blocks.{block-count, block-map, block-in}
 
 module _ (sh : Shape) (t : Taken sh) where
-  pub columns-size : isSize (keptColumns sh) ≡ true
-  unfolding keptColumns
-  columns-size = kept-size (sh .width) (t .width)
-
-  pub columns-some : (0 < keptColumns sh) × (keptColumns sh ≤ 16)
-  unfolding keptColumns
-  columns-some = kept-some (sh .width) (t .width)
-
-  pub rows-some : (0 < keptRows sh) × (keptRows sh ≤ 16)
-  unfolding keptRows
-  rows-some = kept-some (sh .height) (t .height)
-
   -- 16 of 32 at most
   pub room-rows : keptRows sh * sh .height ≤ 512
-  room-rows = mul-le-mul (rows-some .1) (size-in (sh .height) (t .height))
+  room-rows = mul-le-mul (rows-some sh t .1) (size-in (sh .height) (t .height))
 
   pub room-columns : keptColumns sh * sh .width ≤ 512
-  room-columns = mul-le-mul (columns-some .1) (size-in (sh .width) (t .width))
+  room-columns = mul-le-mul (columns-some sh t .1) (size-in (sh .width) (t .width))
 
   pub room-between : sh .height * keptColumns sh ≤ 512
-  room-between = mul-le-mul (size-in (sh .height) (t .height)) (columns-some .1)
+  room-between = mul-le-mul (size-in (sh .height) (t .height)) (columns-some sh t .1)
 
 -- ---- rails
 pub rails-none : (e : ℕ → ℤ) → railsOf 0 e ≡ 0
@@ -117,7 +98,7 @@ module _ (sh : Shape) (c : List ℤ) where
   unfolding rails railsOf range
   rails-all =
       block-count (keptColumns sh) (sh .height) (columnSum sh c) (λ z. count (railed short (rounded z) (middle short z)))
-      ∙ sum-turned (sh .height) (keptColumns sh) (λ y x. count (railed short (rounded (columnSum sh c x y)) (middle short (columnSum sh c x y))))
+      ∙ sumℕ-swap (sh .height) (keptColumns sh) (λ y x. count (railed short (rounded (columnSum sh c x y)) (middle short (columnSum sh c x y))))
       ∙ sumℕ-cong (keptColumns sh) _ _
       (λ x h. sumℕ-cong (sh .height) _ _ (λ y _. ap (λ (z : ℤ). count (railed short (rounded (columnSum sh c x y)) z)) (middle-kept x y h)))
 

@@ -21,9 +21,10 @@ use Rattle.meaning.proofs.Sizes.{inverseSum-short}
 use Rattle.meaning.proofs.Stages.{columns-in}
 use Rattle.row_sums.specs.Sums as sums
 use Rattle.row_sums.proofs.Lines.{along-given, along-sum}
+use Rattle.meaning.proofs.KeptPart.{columns-some}
 use Rattle.inverse_block.specs.Stages.{Horizontal, keptMiddles, lineSum, residualOf}
 use Rattle.inverse_block.proofs.Blocks.{block-map, block-in}
-use Rattle.inverse_block.proofs.Middles.{columns-some, middles-at}
+use Rattle.inverse_block.proofs.Middles.{middles-at}
 
 inverse-cong : (kind n count : ℕ) (x z : ℕ → ℤ) (j : ℕ) → ((i : ℕ) → i < count → x i ≡ z i) → inverseSum kind n count x j ≡ inverseSum kind n count z j
 unfolding inverseSum

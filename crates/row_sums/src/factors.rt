@@ -26,7 +26,7 @@ fn entry(t: &[i16], n: usize, kind: u32, i: usize, j: usize) -> i16
     if i % 2 == 1 { 0 - w } else { w }
 }
 
-// Row by row, so that the compiler copies where the weights stand as they are stored.
+// The weights of input i in every output, of the inverse line and of the forward one.
 fn inverse_row(t: &[i16], n: usize, kind: u32, i: usize, part: &mut [i16])
     requires { ⌜ (isKind kind ≡ true) × ((i < n) × (Table n (now t) × (length (now part) ≡ n))) ⌝ }
     ensures { λ _. ⌜ now (part .exit) ≡ tabulate n (λ k. term false kind n k i) ⌝ }

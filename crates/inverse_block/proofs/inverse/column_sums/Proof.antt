@@ -10,7 +10,8 @@ use Rattle.algebra.specs.Lists.{tabulate, block}
 use Rattle.algebra.proofs.Lists.{row-in, Rows, rows-none, rows-long, rows-next, rows-all}
 use Rattle.meaning.specs.Shape.{isSize, keptColumns, keptRows}
 use Rattle.row_sums.specs.Sums as sums
-use Rattle.inverse_block.proofs.Middles.{columns-size, vertical-given, column-sums}
+use Rattle.meaning.proofs.KeptPart.{columns-size}
+use Rattle.inverse_block.proofs.Middles.{vertical-given, column-sums}
 use Rattle.inverse_block.proofs.inverse.column_sums.Statement.{statement}
 use Rattle.inverse_block.proofs.inverse.column_sums.Tie as tie
 
