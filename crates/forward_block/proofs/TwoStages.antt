@@ -23,7 +23,7 @@ use Rattle.meaning.specs.Forward.{log2, rowShift, columnShift, rowValue, column
 use Rattle.meaning.proofs.Cases.{size-cases, size-in, depth-cases, pick}
 use Rattle.meaning.proofs.KeptPart.{columns-size}
 use Rattle.meaning.proofs.Sizes.{forwardSum-short}
-use Rattle.meaning.proofs.Taken.{Taken}
+use Rattle.meaning.specs.Taken.{Taken}
 use Rattle.meaning.proofs.Stages.{columns-in, rows-in, value-short, rowStage, rowStage-in, rowValue-in, columnValue-in}
 use Rattle.row_sums.specs.Factors.{laid}
 use Rattle.row_sums.specs.Sums.{rowSum}

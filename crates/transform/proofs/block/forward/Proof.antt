@@ -15,7 +15,8 @@ use Rattle.algebra.proofs.Refusals.{refused-first, passed-first}
 use Rattle.meaning.specs.Answer.{Outcome, refused, accepted, shapeTests, lengthTests}
 use Rattle.meaning.specs.Forward.{firstTooLarge, forwardBlock, forwardOutcome}
 use Rattle.meaning.proofs.Cases.{size-in}
-use Rattle.meaning.proofs.Accepted.{Whole, whole-of}
+use Rattle.meaning.specs.Taken.{TakenBlock}
+use Rattle.meaning.proofs.Accepted.{block-taken}
 use Rattle.meaning.proofs.Small.{none-too-large}
 use Rattle.transform.proofs.block.forward.Statement.{statement}
 use Rattle.transform.proofs.block.forward.Tie as tie
@@ -47,10 +48,10 @@ past c =
     let s = c .before .before in
     passed-first (second s) (refusal s) (done s) (first s) tt (sym (c .before .block-refusal .ensures) ∙ c .if1 .left)
 
-whole : (c : tie.Else1) → let s = c .before .before in Whole (s .args .shape) (s .args .residuals .now) (s .args .coefficients .now)
+whole : (c : tie.Else1) → let s = c .before .before in TakenBlock (s .args .shape) (s .args .residuals .now) (s .args .coefficients .now)
 whole c =
     let s = c .before .before in
-    whole-of (s .args .shape) (s .args .residuals .now) (s .args .coefficients .now) (sym (c .before .block-refusal .ensures) ∙ c .if1 .left)
+    block-taken (s .args .shape) (s .args .residuals .now) (s .args .coefficients .now) (sym (c .before .block-refusal .ensures) ∙ c .if1 .left)
 
 found : (c : tie.Then2) → let s = c .before .before .before .before in ltb (place s) (length (s .args .residuals .now)) ≡ true
 found c = let s = c .before .before .before .before in lt-ltb (place s) (length (s .args .residuals .now)) (omega (arith, c .if2 .taken, c .before .first-too-large .ensures))
