@@ -68,5 +68,8 @@ fn inverse_blocks_about_the_rails() {
     let c = c.close();
     // altered values, and blocks with none though a value stands at an end
     assert!(c.rails > 1000 && unrailed > 10 && fair > 10);
-    eprintln!("{} values clipped; {unrailed} blocks with none, {fair} of them with a value at an end", c.rails);
+    eprintln!(
+        "{} values clipped; {unrailed} blocks with none, {fair} of them with a value at an end",
+        c.rails
+    );
 }
