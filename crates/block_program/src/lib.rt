@@ -1,6 +1,5 @@
 // Internal: from a descriptor to an answer, for the programs that run a block file. Nothing can be said of the bytes that a
-// system reads and writes, so no contract here says more than that counts lie within their buffers: what the functions do is
-// to be read, and `tests/program` tries it.
+// system reads and writes: what `read_input`, `answer` and `tell` do with them is to be read, and `tests/program` tries it.
 use libc::STDERR_FILENO;
 ghost use mathlib.Core.Path.{_≡_};
 ghost use lib.ListN.{length};
