@@ -7,7 +7,7 @@ use std::fs::{self, File, OpenOptions};
 use std::io::Read;
 use std::os::fd::AsRawFd;
 use std::os::unix::fs::OpenOptionsExt;
-use std::path::PathBuf;
+use std::path::{Path, PathBuf};
 use std::process::Stdio;
 
 /// Linux's flag for a pipe that is full at once.
@@ -25,7 +25,7 @@ fn long_file(name: &str) -> (PathBuf, Vec<u8>) {
 }
 
 /// What the command shows of the file where its answer goes to `output`.
-fn run_to(path: &PathBuf, output: Stdio) -> Shown {
+fn run_to(path: &Path, output: Stdio) -> Shown {
     let mut command = command(&[path.to_str().expect("the path is text")]);
     command.stdout(output);
     run(command)
