@@ -28,7 +28,7 @@ mod c {
     use super::{Answer, Shape};
 
     // Nothing holds these lines to the header or to the Rattle source but the tests.
-    extern "C" {
+    unsafe extern "C" {
         pub fn hoengtila_weight(kind: u32, n: u32, i: u32, j: u32) -> i32;
         pub fn hoengtila_line_forward(
             n: u32,

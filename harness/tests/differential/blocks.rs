@@ -23,9 +23,7 @@ fn blocks(c: &mut Comparison, direction: Direction) {
 
 #[test]
 fn inverse_blocks() {
-    let Some(mut c) = Comparison::open("inverse blocks") else {
-        return;
-    };
+    let mut c = Comparison::open("inverse blocks");
     for _ in 0..BLOCK_ROUNDS {
         blocks(&mut c, Inverse);
     }
@@ -35,9 +33,7 @@ fn inverse_blocks() {
 
 #[test]
 fn forward_blocks() {
-    let Some(mut c) = Comparison::open("forward blocks") else {
-        return;
-    };
+    let mut c = Comparison::open("forward blocks");
     for _ in 0..BLOCK_ROUNDS {
         blocks(&mut c, Forward);
     }
@@ -51,9 +47,7 @@ const BLOCK_ROUNDS: usize = 10;
 /// Middle values next to the rail, at it, and clipped to it.
 #[test]
 fn inverse_blocks_about_the_rails() {
-    let Some(mut c) = Comparison::open("inverse blocks about the rails") else {
-        return;
-    };
+    let mut c = Comparison::open("inverse blocks about the rails");
     let mut unrailed = 0;
     let mut fair = 0;
     for shape in shapes().iter().cycle().take(320 * 10) {
