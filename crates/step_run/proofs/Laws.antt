@@ -228,3 +228,7 @@ wider h = record { sfits = omega arith }
 
 pub cast-back : (z : ℤ) → SFits w16 z → toZ w32 (ofZ w32 (toZ w16 (ofZ w16 z))) ≡ z
 cast-back z h = ap (λ (v : ℤ). toZ w32 (ofZ w32 v)) (toZ-ofZ w16 z h) ∙ toZ-ofZ w32 z (wider h)
+
+pub take-all : (x : List ℤ) → take (length x) x ≡ x
+take-all [] = refl
+take-all (z ∷ x) = ap (λ l. z ∷ l) (take-all x)

@@ -56,7 +56,10 @@ pub fn reads_two(o: i32) -> bool
     if o == 0 {
         return true;
     }
-    o == 1
+    if o == 1 {
+        return true;
+    }
+    false
 }
 
 pub fn fits(z: i64) -> bool
@@ -65,7 +68,10 @@ pub fn fits(z: i64) -> bool
     if z < -2147483648 {
         return false;
     }
-    z <= 2147483647
+    if 2147483647 < z {
+        return false;
+    }
+    true
 }
 
 pub fn narrow(z: i64) -> i32

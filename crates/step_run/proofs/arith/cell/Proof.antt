@@ -1,21 +1,30 @@
+use Rattle.step_run.proofs.Laws.{cell-below, cell-from, not-below, count-fits}
+use lib.Signed.{ltZ}
+use lib.IntN.{ℤ, pos}
+use mathlib.Core.Bool.{true, false}
+use mir.ValLaws.{toZ-ofZ}
+use mir.Syntax.{w32}
+use lib.IntN.{natAbs}
+use mathlib.Core.Path.{_≡_, refl, sym, ap, _∙_}
 use borrow.Author.Needs.{needs}
 use native.Mathlib.Omega.{arith}
 use Rattle.step_run.proofs.arith.cell.Statement.{statement}
 use Rattle.step_run.proofs.arith.cell.Tie as tie
-use Rattle.step_run.proofs.arith.cell.Reads as reads
-use Rattle.step_run.proofs.arith.cell.Lts as lts
 
--- src/arith.rt:14:9
 returns : tie.Need-returns
-returns c = search needs
+returns c = let s = c .before in let e : ltZ (s .args .x) (pos 0) ≡ true = rw (toZ-ofZ w32 (s .args .x) (s .fits .x)) at (c .if1 .taken) in cell-below (s .args .x) e
 
--- src/arith.rt:16:5
 cast-result : tie.Need-cast-result
-cast-result c = search needs
+cast-result c =
+    let s = c .before in
+    let e : ltZ (s .args .x) (pos 0) ≡ false = rw (toZ-ofZ w32 (s .args .x) (s .fits .x)) at (c .if1 .left) in
+    rw (toZ-ofZ w32 (s .args .x) (s .fits .x)) (not-below (s .args .x) e, record { fits = count-fits (s .args .x) (s .fits .x) })
 
--- src/arith.rt:10:1
 returns-2 : tie.Need-returns-2
-returns-2 c = search needs
+returns-2 c =
+    let s = c .before in
+    let e : ltZ (s .args .x) (pos 0) ≡ false = rw (toZ-ofZ w32 (s .args .x) (s .fits .x)) at (c .if1 .left) in
+    ap natAbs (toZ-ofZ w32 (s .args .x) (s .fits .x)) ∙ cell-from (s .args .x) e
 
 pub cell-spec : {M : Type 1} → statement M
 cell-spec = tie.close (tie.spec returns cast-result returns-2)

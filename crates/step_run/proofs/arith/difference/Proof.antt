@@ -1,25 +1,27 @@
+use Rattle.algebra.proofs.Machine.{MV, arg, cast, cast-fits, sub, sub-fits, val}
+use mir.Syntax.{w64}
 use borrow.Author.Needs.{needs}
 use native.Mathlib.Omega.{arith}
 use Rattle.step_run.proofs.arith.difference.Statement.{statement}
 use Rattle.step_run.proofs.arith.difference.Tie as tie
-use Rattle.step_run.proofs.arith.difference.Reads as reads
-use Rattle.step_run.proofs.arith.difference.Lts as lts
 
--- src/arith.rt:28:5
+abbrev x64 : tie.Start → MV w64
+x64 c = cast w64 (arg (c .fits .x)) tt
+
+abbrev y64 : tie.Start → MV w64
+y64 c = cast w64 (arg (c .fits .y)) tt
+
 cast-result : tie.Need-cast-result
-cast-result c = search needs
+cast-result c = cast-fits w64 (arg (c .fits .x)) tt
 
--- src/arith.rt:28:16
 cast-result-2 : tie.Need-cast-result-2
-cast-result-2 c = search needs
+cast-result-2 c = cast-fits w64 (arg (c .fits .y)) tt
 
--- src/arith.rt:28:5
 sub-result : tie.Need-sub-result
-sub-result c = search needs
+sub-result c = sub-fits (x64 c) (y64 c) tt
 
--- src/arith.rt:25:1
 returns : tie.Need-returns
-returns c = search needs
+returns c = val (sub (x64 c) (y64 c) tt)
 
 pub difference-spec : {M : Type 1} → statement M
 difference-spec = tie.close (tie.spec cast-result cast-result-2 sub-result returns)

@@ -1,17 +1,18 @@
+use Rattle.step_run.proofs.Laws.{is-of, not-of}
+use mathlib.Core.Path.{_≡_, refl, sym, ap, _∙_}
 use borrow.Author.Needs.{needs}
 use native.Mathlib.Omega.{arith}
 use Rattle.step_run.proofs.arith.reads_two.Statement.{statement}
 use Rattle.step_run.proofs.arith.reads_two.Tie as tie
-use Rattle.step_run.proofs.arith.reads_two.Reads as reads
-use Rattle.step_run.proofs.arith.reads_two.Lts as lts
 
--- src/arith.rt:57:9
 returns : tie.Need-returns
-returns c = search needs
+returns c = let s = c .before in rw (is-of (s .args .o) 0 (s .fits .o) refl (c .if1 .taken))
 
--- src/arith.rt:53:1
 returns-2 : tie.Need-returns-2
-returns-2 c = search needs
+returns-2 c = let s = c .before .before in rw (not-of (s .args .o) 0 (c .before .if1 .left), is-of (s .args .o) 1 (s .fits .o) refl (c .if2 .taken))
+
+returns-3 : tie.Need-returns-3
+returns-3 c = let s = c .before .before in rw (not-of (s .args .o) 0 (c .before .if1 .left), not-of (s .args .o) 1 (c .if2 .left))
 
 pub reads-two-spec : {M : Type 1} → statement M
-reads-two-spec = tie.close (tie.spec returns returns-2)
+reads-two-spec = tie.close (tie.spec returns returns-2 returns-3)

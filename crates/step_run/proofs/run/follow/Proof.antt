@@ -1,73 +1,84 @@
+use Rattle.step_run.proofs.Laws.{stops, goes-counted, ends}
+use Rattle.steps.specs.Numbers.{decode}
+use Rattle.step_run.specs.Parts.{stepAt, state, tell}
+use Rattle.steps.specs.Outcome.{numbers}
+use Rattle.steps.specs.Steps.{State, muls, step, run}
+use lib.ListN.{length, drop}
+use Prim.Native.Nat.{ℕ, _+_, _-_, _≤_, _<_}
+use mathlib.Core.Path.{_≡_, refl, sym, ap, subst, _∙_}
 use borrow.Author.Needs.{needs}
 use native.Mathlib.Omega.{arith}
 use Rattle.step_run.proofs.run.follow.Statement.{statement}
 use Rattle.step_run.proofs.run.follow.Tie as tie
-use Rattle.step_run.proofs.run.follow.Reads as reads
-use Rattle.step_run.proofs.run.follow.Lts as lts
-use Rattle.step_run.proofs.step.multiplies.Reads as multiplies-reads
-use Rattle.step_run.proofs.step.next.Reads as next-reads
 
 abbrev Inv-loop : tie.InvT-loop
-Inv-loop steps n values₀ written₀ count₀ i₀ values written count i = ?
+Inv-loop s n v₀ w₀ c₀ i₀ v w c i =
+    (i ≤ length s) × ((c ≤ i) × ((length v ≡ length v₀) × ((length w ≡ length w₀) × (run numbers n (decode (drop i s)) (state v w c) ≡ run numbers n (decode s) (state v₀ w₀ 0)))))
 
 abbrev μ-loop : tie.MeasureT-loop
-μ-loop steps n values₀ written₀ count₀ i₀ values written count i = ?
+μ-loop s n v₀ w₀ c₀ i₀ v w c i = length s - i
 
--- src/run.rt:67:5
 loop-holds : tie.Need-loop-holds Inv-loop μ-loop
-loop-holds c = search needs
+loop-holds c = (omega arith, (omega arith, (refl, (refl, refl))))
 
--- src/run.rt:67:16
 sub-loop : tie.Need-sub-loop Inv-loop μ-loop
 sub-loop c = search needs
 
--- src/run.rt:68:13
 next-requires : tie.Need-next-requires Inv-loop μ-loop
 next-requires c κs = search needs
 
--- src/run.rt:70:13
 same-length : tie.Need-same-length Inv-loop μ-loop
 same-length c = search needs
 
--- src/run.rt:70:13
 same-length-2 : tie.Need-same-length-2 Inv-loop μ-loop
 same-length-2 c = search needs
 
--- src/run.rt:70:13
 returns : tie.Need-returns Inv-loop μ-loop
-returns c = search needs
+returns c =
+    let s = c .before .before .before .before .before .before .before .before .before .before .args in
+    let l = c .before .before .before .before .before .before .before .before .loop in
+    stops (s .n) (s .steps .now) (l .i) (state (l .values) (l .written) (l .count)) (c .before .before .before .before .next .result) _ _ (omega arith) (c .if1 .taken) (c .before .before .before .before .next .ensures (l .count)) ∙ l .inv .1 .1 .1 .1
 
--- src/run.rt:72:18
 multiplies-requires : tie.Need-multiplies-requires Inv-loop μ-loop
 multiplies-requires c κs = search needs
 
--- src/run.rt:72:9
 add-count : tie.Need-add-count Inv-loop μ-loop
 add-count c = search needs
 
--- src/run.rt:73:9
 add-i : tie.Need-add-i Inv-loop μ-loop
 add-i c = search needs
 
--- src/run.rt:67:5
 loop-less : tie.Need-loop-less Inv-loop μ-loop
 loop-less c = search needs
 
--- src/run.rt:67:5
 loop-again : tie.Need-loop-again Inv-loop μ-loop
-loop-again c = search needs
+loop-again c =
+    let s = c .before .before .before .before .before .before .before .before .before .before .before .args in
+    let l = c .before .before .before .before .before .before .before .before .before .loop in (
+      omega arith,
+      (
+        omega (arith, c .multiplies .ensures .1),
+        (
+          omega arith,
+          (
+            omega arith,
+            goes-counted (s .n) (s .steps .now) (l .i) (state (l .values) (l .written) (l .count)) (c .before .before .before .before .before .next .result) _ _ (l .count) (c .multiplies .result) (omega arith) (c .before .if1 .left) (c .multiplies .ensures .0) (c .before .before .before .before .before .next .ensures (l .count)) ∙ l .inv .1 .1 .1 .1,
+          ),
+        ),
+      ),
+    )
 
--- src/run.rt:61:1
 same-length-3 : tie.Need-same-length-3 Inv-loop μ-loop
 same-length-3 c = search needs
 
--- src/run.rt:61:1
 same-length-4 : tie.Need-same-length-4 Inv-loop μ-loop
 same-length-4 c = search needs
 
--- src/run.rt:61:1
 returns-2 : tie.Need-returns-2 Inv-loop μ-loop
-returns-2 c = search needs
+returns-2 c =
+    let s = c .before .before .before .args in
+    let l = c .before .loop in
+    ends (s .n) (s .steps .now) (l .i) (state (l .values) (l .written) (l .count)) (omega arith) ∙ l .inv .1 .1 .1 .1
 
 pub follow-spec : {M : Type 1} → statement M
 follow-spec =

@@ -1,60 +1,64 @@
+use Rattle.step_run.proofs.Laws.{readings-are}
+use Rattle.steps.specs.Numbers.{cellOf}
+use Rattle.step_run.specs.Parts.{readings}
+use Rattle.algebra.proofs.Lists.{Filled, fill-none, fill-first, filled}
+use lib.ListN.{length}
+use Rattle.algebra.specs.Lists.{at}
+use lib.IntN.{ℤ, pos}
+use mir.ValLaws.{toZ-ofZ}
+use mir.Syntax.{w16, w32}
+use Prim.Native.Nat.{ℕ, _+_, _-_, _≤_, _<_}
+use mathlib.Core.Path.{_≡_, refl, sym, ap, subst, _∙_}
 use borrow.Author.Needs.{needs}
 use native.Mathlib.Omega.{arith}
 use Rattle.step_run.proofs.run.hand_over.Statement.{statement}
 use Rattle.step_run.proofs.run.hand_over.Tie as tie
-use Rattle.step_run.proofs.run.hand_over.Reads as reads
-use Rattle.step_run.proofs.run.hand_over.Lts as lts
-use Rattle.step_run.proofs.run.held.Reads as held-reads
 
 abbrev Inv-loop : tie.InvT-loop
-Inv-loop outs values y₀ i₀ y i = ?
+Inv-loop outs v y₀ i₀ y i = (i ≤ length outs) × Filled 0 i y y₀ (λ k. at v (cellOf (at outs k)))
 
 abbrev μ-loop : tie.MeasureT-loop
-μ-loop outs values y₀ i₀ y i = ?
+μ-loop outs v y₀ i₀ y i = length outs - i
 
--- src/run.rt:114:5
 loop-holds : tie.Need-loop-holds Inv-loop μ-loop
-loop-holds c = search needs
+loop-holds c = (omega arith, fill-none 0 _ _)
 
--- src/run.rt:115:29
 mul-held : tie.Need-mul-held Inv-loop μ-loop
 mul-held c = search needs
 
--- src/run.rt:115:29
 shared-slice-copy-out-held : tie.Need-shared-slice-copy-out-held Inv-loop μ-loop
 shared-slice-copy-out-held c = search needs
 
--- src/run.rt:115:16
 held-requires : tie.Need-held-requires Inv-loop μ-loop
 held-requires c κs = search needs
 
--- src/run.rt:115:9
 mul-t10 : tie.Need-mul-t10 Inv-loop μ-loop
 mul-t10 c = search needs
 
--- src/run.rt:115:9
 slice-set-from-y : tie.Need-slice-set-from-y Inv-loop μ-loop
-slice-set-from-y c = search needs
+slice-set-from-y c = omega (arith, c .before .before .before .loop .inv .1 .long)
 
--- src/run.rt:116:9
 add-i : tie.Need-add-i Inv-loop μ-loop
 add-i c = search needs
 
--- src/run.rt:114:5
 loop-less : tie.Need-loop-less Inv-loop μ-loop
 loop-less c = search needs
 
--- src/run.rt:114:5
 loop-again : tie.Need-loop-again Inv-loop μ-loop
-loop-again c = search needs
+loop-again c =
+    let s = c .before .before .before .before .args in
+    let l = c .before .before .before .loop in
+    let o = toZ-ofZ w32 (at (s .outs .now) (l .i)) (record { sfits = c .before .held-arg .given }) in
+    (omega arith, fill-first _ (omega arith) (l .inv .1) (toZ-ofZ w32 (c .held .result) (search needs) ∙ c .held .ensures ∙ ap (λ (z : ℤ). at (s .values .now) (cellOf z)) o))
 
--- src/run.rt:109:1
 same-length : tie.Need-same-length Inv-loop μ-loop
-same-length c = search needs
+same-length c = c .before .loop .inv .1 .long
 
--- src/run.rt:109:1
 returns : tie.Need-returns Inv-loop μ-loop
-returns c = search needs
+returns c =
+    let s = c .before .before .args in
+    let e : c .before .loop .i ≡ length (s .outs .now) = omega arith in
+    filled {n = length (s .outs .now)} (c .before .before .pre) (subst (λ (m : ℕ). Filled 0 m (c .before .loop .y) (s .y .now) (λ k. at (s .values .now) (cellOf (at (s .outs .now) k)))) e (c .before .loop .inv .1)) ∙ sym (readings-are (s .values .now) (s .outs .now))
 
 pub hand-over-spec : {M : Type 1} → statement M
 hand-over-spec =

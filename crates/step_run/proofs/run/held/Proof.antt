@@ -1,29 +1,35 @@
+use Rattle.steps.specs.Numbers.{cellOf}
+use lib.ListN.{length, getD, List·getD-eq-default}
+use Rattle.algebra.specs.Lists.{at}
+use lib.IntN.{ℤ, pos}
+use mir.ValLaws.{toZ-ofZ}
+use mir.Syntax.{w16, w32}
+use Prim.Native.Nat.{ℕ, _+_, _-_, _≤_, _<_}
+use mathlib.Core.Path.{_≡_, refl, sym, ap, subst, _∙_}
 use borrow.Author.Needs.{needs}
 use Rattle.step_run.proofs.run.held.Statement.{statement}
 use Rattle.step_run.proofs.run.held.Tie as tie
-use Rattle.step_run.proofs.run.held.Reads as reads
-use Rattle.step_run.proofs.run.held.Lts as lts
-use Rattle.step_run.proofs.arith.cell.Reads as cell-reads
 
--- src/run.rt:102:9
 cell-requires : tie.Need-cell-requires
 cell-requires c κs = search needs
 
--- src/run.rt:104:16
 mul-result : tie.Need-mul-result
 mul-result c = search needs
 
--- src/run.rt:104:16
 shared-slice-copy-out-result : tie.Need-shared-slice-copy-out-result
 shared-slice-copy-out-result c = search needs
 
--- src/run.rt:104:9
 returns : tie.Need-returns
-returns c = search needs
+returns c =
+    let s = c .before .before .before in
+    let o = c .before .before .cell .ensures ∙ ap cellOf (toZ-ofZ w32 (s .args .o) (s .fits .o)) in
+    toZ-ofZ w32 (at (s .args .values .now) (c .before .before .cell .result)) (record { sfits = c .result .given }) ∙ ap (at (s .args .values .now)) o
 
--- src/run.rt:99:1
 returns-2 : tie.Need-returns-2
-returns-2 c = search needs
+returns-2 c =
+    let s = c .before .before in
+    let o = c .before .cell .ensures ∙ ap cellOf (toZ-ofZ w32 (s .args .o) (s .fits .o)) in
+    sym (List·getD-eq-default (s .args .values .now) (pos 0) (c .if1 .left)) ∙ ap (at (s .args .values .now)) o
 
 pub held-spec : {M : Type 1} → statement M
 held-spec =

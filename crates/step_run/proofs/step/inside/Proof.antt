@@ -1,21 +1,15 @@
-use borrow.Author.Needs.{needs}
-use native.Mathlib.Omega.{arith}
+use borrow.Author.Tests.{le-ltb, lt-ltb}
 use Rattle.step_run.proofs.step.inside.Statement.{statement}
 use Rattle.step_run.proofs.step.inside.Tie as tie
-use Rattle.step_run.proofs.step.inside.Reads as reads
-use Rattle.step_run.proofs.step.inside.Lts as lts
 
--- src/step.rt:32:9
 returns : tie.Need-returns
-returns c = search needs
+returns c = rw (le-ltb _ _ (c .if1 .taken))
 
--- src/step.rt:35:9
 returns-2 : tie.Need-returns-2
-returns-2 c = search needs
+returns-2 c = rw (lt-ltb _ _ (c .before .if1 .left), le-ltb _ _ (c .if2 .taken))
 
--- src/step.rt:28:1
 returns-3 : tie.Need-returns-3
-returns-3 c = search needs
+returns-3 c = rw (lt-ltb _ _ (c .before .if1 .left), lt-ltb _ _ (c .if2 .left))
 
 pub inside-spec : {M : Type 1} → statement M
 inside-spec = tie.close (tie.spec returns returns-2 returns-3)

@@ -1,19 +1,17 @@
+use Rattle.steps.specs.Numbers.{cellOf}
+use mir.ValLaws.{toZ-ofZ}
+use mir.Syntax.{w32}
+use mathlib.Core.Path.{_≡_, refl, sym, ap, _∙_}
 use borrow.Author.Needs.{needs}
 use Rattle.step_run.proofs.step.second.Statement.{statement}
 use Rattle.step_run.proofs.step.second.Tie as tie
-use Rattle.step_run.proofs.step.second.Reads as reads
-use Rattle.step_run.proofs.step.second.Lts as lts
-use Rattle.step_run.proofs.arith.cell.Reads as cell-reads
 
--- src/step.rt:23:9
 cell-requires : tie.Need-cell-requires
 cell-requires c κs = search needs
 
--- src/step.rt:23:9
 returns : tie.Need-returns
-returns c = search needs
+returns c = let s = c .before .before in c .cell .ensures ∙ ap cellOf (toZ-ofZ w32 (s .args .d) (s .fits .d)) ∙ rw (c .before .if1 .taken)
 
--- src/step.rt:19:1
 returns-2 : tie.Need-returns-2
 returns-2 c = search needs
 

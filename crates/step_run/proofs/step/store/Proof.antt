@@ -1,46 +1,51 @@
+use Rattle.step_run.specs.Parts.{state}
+use Rattle.steps.specs.Outcome.{fits32}
+use Rattle.steps.specs.Steps.{ran, refused}
+use lib.ListN.{set}
+use lib.IntN.{ℤ}
+use mathlib.Core.Bool.{true, false, cond}
+use mir.ValLaws.{toZ-ofZ}
+use mir.Syntax.{w32, w64}
+use mathlib.Core.Path.{_≡_, refl, sym, ap, _∙_}
 use borrow.Author.Needs.{needs}
 use Rattle.step_run.proofs.step.store.Statement.{statement}
 use Rattle.step_run.proofs.step.store.Tie as tie
-use Rattle.step_run.proofs.step.store.Reads as reads
-use Rattle.step_run.proofs.step.store.Lts as lts
-use Rattle.step_run.proofs.arith.fits.Reads as fits-reads
-use Rattle.step_run.proofs.arith.narrow.Reads as narrow-reads
 
--- src/step.rt:66:8
 fits-requires : tie.Need-fits-requires
 fits-requires c κs = search needs
 
--- src/step.rt:67:21
 narrow-requires : tie.Need-narrow-requires
-narrow-requires c κs = search needs
+narrow-requires c κs = sym (c .before .fits2 .ensures) ∙ c .if1 .taken
 
--- src/step.rt:67:9
 mul-t7 : tie.Need-mul-t7
 mul-t7 c = search needs
 
--- src/step.rt:67:9
 slice-set-from-values : tie.Need-slice-set-from-values
 slice-set-from-values c = search needs
 
--- src/step.rt:68:9
 slice-write-written : tie.Need-slice-write-written
 slice-write-written c = search needs
 
--- src/step.rt:69:9
 same-length : tie.Need-same-length
 same-length c = search needs
 
--- src/step.rt:69:9
 same-length-2 : tie.Need-same-length-2
 same-length-2 c = search needs
 
--- src/step.rt:69:9
 returns : tie.Need-returns
-returns c = search needs
+returns c =
+    let s = c .before .before .before .before in
+    let z = s .args .z in
+    let e : fits32 z ≡ true = ap fits32 (sym (toZ-ofZ w64 z (s .fits .z))) ∙ sym (c .before .before .fits2 .ensures) ∙ c .before .if1 .taken in
+    let y = toZ-ofZ w32 (c .narrow .result) (search needs) ∙ c .narrow .ensures ∙ toZ-ofZ w64 z (s .fits .z) in
+    λ k. rw (y, e)
 
--- src/step.rt:62:1
 returns-2 : tie.Need-returns-2
-returns-2 c = search needs
+returns-2 c =
+    let s = c .before .before .before in
+    let z = s .args .z in
+    let e : fits32 z ≡ false = ap fits32 (sym (toZ-ofZ w64 z (s .fits .z))) ∙ sym (c .before .fits2 .ensures) ∙ c .if1 .left in
+    λ k. rw e
 
 pub store-spec : {M : Type 1} → statement M
 store-spec =
