@@ -2,6 +2,7 @@
 //!
 //! `model` is written from the text of document 01 alone, on 64-bit integers, with no eye to speed.
 //! `random` makes the cases, the same ones for the same seed; `patterns`, `folding` and `wrong` know which are hard.
+//! `steps` makes the lists of steps that the crates store.
 //! `library` is the library for Rust callers, `peer` the library behind a pipe; `call` and `subject` let a test run the
 //! same calls on either, and `compare` holds what comes back to the model.
 
@@ -13,5 +14,6 @@ pub mod model;
 pub mod patterns;
 pub mod peer;
 pub mod random;
+pub mod steps;
 pub mod subject;
 pub mod wrong;

@@ -201,34 +201,8 @@ unread-at n w os i o h e = unread-next n w os i h ∙ ap (λ (k : ℕ). cond (lt
 pub readings-are : (v os : List ℤ) → readings v os ≡ tabulate (length os) (λ k. at v (cellOf (at os k)))
 readings-are v os = tabulated (length os) (readings v os) (λ k. at v (cellOf (at os k))) (readings-long v os) (λ k h. readings-at v os k h)
 
--- ---- a list that is filled from the front
-module _ {A : Type 0} (o : List A) (i : ℕ) where
-  pub copy-more : (s : List A) (d : A) → i < length s → i < length o → set (take i s ++ drop i o) i (getD s i d) ≡ take (i + 1) s ++ drop (i + 1) o
-  copy-more s d hs ho =
-      rw (add-one, drop-cons o i d, take-suc s i d)
-      (set-at (take i s) _ (drop (suc i) o) (getD s i d) i (length-take-le i s (omega arith)) ∙ sym (append-snoc (take i s) (getD s i d) (drop (suc i) o)))
-
-  pub copy-long : (s : List A) → i ≤ length s → i ≤ length o → length (take i s ++ drop i o) ≡ length o
-  copy-long s hs ho = simp (length-append, length-take-le, length-drop) (omega arith)
-
-pub flag-more : (o : List Bool) (i : ℕ) → i < length o → set (replicate i true ++ drop i o) i true ≡ replicate (i + 1) true ++ drop (i + 1) o
-flag-more o i h =
-    rw (add-one, drop-cons o i false)
-    (set-at (replicate i true) _ (drop (suc i) o) true i (length-replicate i true) ∙ one-more i (drop (suc i) o))
-  where
-    one-more : (i : ℕ) (l : List Bool) → replicate i true ++ (true ∷ l) ≡ replicate (suc i) true ++ l
-    one-more zero l = refl
-    one-more (suc i) l = ap (λ m. true ∷ m) (one-more i l)
-
-pub flag-long : (o : List Bool) (i : ℕ) → i ≤ length o → length (replicate i true ++ drop i o) ≡ length o
-flag-long o i h = length-append (replicate i true) (drop i o) ∙ omega (arith, length-replicate i true, length-drop i o)
-
 pub wider : {z : ℤ} → SFits w16 z → SFits w32 z
 wider h = record { sfits = omega arith }
 
 pub cast-back : (z : ℤ) → SFits w16 z → toZ w32 (ofZ w32 (toZ w16 (ofZ w16 z))) ≡ z
 cast-back z h = ap (λ (v : ℤ). toZ w32 (ofZ w32 v)) (toZ-ofZ w16 z h) ∙ toZ-ofZ w32 z (wider h)
-
-pub take-all : (x : List ℤ) → take (length x) x ≡ x
-take-all [] = refl
-take-all (z ∷ x) = ap (λ l. z ∷ l) (take-all x)

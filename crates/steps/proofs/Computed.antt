@@ -45,24 +45,24 @@ is-line : (n : ℕ) (xs : List ℤ) → product (S n) n xs ≡ forwardLine 1 n (
 unfolding forwardLine forwardSum weight
 is-line n xs = refl
 
--- what is shown of the list p of n points with m multiplying steps: on every 16-bit input a run is accepted, is the forward line, takes m
--- multiplying steps, and has every cell inside 32 bits after each of its steps
-pub record Right (n : ℕ) (p : StepList) (m : ℕ) : Type 0 where
-  pub runs : (xs out : List ℤ) → length xs ≡ n → length out ≡ n → Sixteen xs → runOutcome p xs out ≡ (record { number = 0; count = m }, forwardLine 1 n (at xs))
+-- what is shown of the list p of n points: on every 16-bit input a run is accepted, is the forward line, takes the multiplying steps in the
+-- list, and has every cell inside 32 bits after each of its steps
+pub record Right (n : ℕ) (p : StepList) : Type 0 where
+  pub runs : (xs out : List ℤ) → length xs ≡ n → length out ≡ n → Sixteen xs → runOutcome p xs out ≡ (record { number = 0; count = products (p .steps) }, forwardLine 1 n (at xs))
   pub within : (xs : List ℤ) → length xs ≡ n → Sixteen xs → (es fs : List Step) → p .steps ≡ es ++ fs → Ran (Fit numbers (p .cells)) (run numbers (p .cells) es (start numbers xs))
 
-right : (n : ℕ) (p : StepList) (m : ℕ) → T (gives (S n) n p) → products (p .steps) ≡ m → Right n p m
-right n p m t e =
+right : (n : ℕ) (p : StepList) → T (gives (S n) n p) → Right n p
+right n p t =
     record {
-      runs = λ xs out l r s. gives-product (S n) n p xs out l r s t ∙ (λ i. (record { number = 0; count = e i }, is-line n xs i));
+      runs = λ xs out l r s. gives-product (S n) n p xs out l r s t ∙ (λ i. (record { number = 0; count = products (p .steps) }, is-line n xs i));
       within = λ xs l s es fs q. gives-inside (S n) n p xs xs l l s t es fs q;
     }
 
-pub right4 : Right 4 list4 8
-right4 = right 4 list4 8 gives4 products4
+pub right4 : Right 4 list4
+right4 = right 4 list4 gives4
 
-pub right16 : Right 16 list16 127
-right16 = right 16 list16 127 gives16 products16
+pub right16 : Right 16 list16
+right16 = right 16 list16 gives16
 
-pub right32 : Right 32 list32 620
-right32 = right 32 list32 620 gives32 products32
+pub right32 : Right 32 list32
+right32 = right 32 list32 gives32

@@ -6,3 +6,4 @@ pub mod Worth
 pub mod Product
 pub mod Computed
 pub mod Unique
+pub mod Front

@@ -1,4 +1,4 @@
--- The lists of the forward DST-VII at 4, 16 and 32 points. Written by the harness (tests/step_lists --write).
+-- Document 02, Wish 6: "Give such lists for 4, 16 and 32 points", of the forward DST-VII. Written by tests/step_lists --write.
 use mathlib.Core.List.{List, [], _∷_}
 use lib.IntN.{ℤ, pos, negsuc}
 use Rattle.steps.specs.Steps.{Step, add, sub, neg, mul, StepList}
