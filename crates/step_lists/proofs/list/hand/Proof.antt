@@ -1,50 +1,41 @@
+-- `list::hand`: 7 for either length, or both buffers copied. Assumes nothing.
 use borrow.Author.Needs.{needs}
+use borrow.Author.Tests.{eq-eqb, ne-eqb}
+use mathlib.Core.Path.{_≡_, sym, ap, _∙_}
+use Rattle.step_lists.specs.declared.Listed.{Listed}
+use Rattle.step_lists.specs.Listed.{Handed}
 use Rattle.step_lists.proofs.list.hand.Statement.{statement}
 use Rattle.step_lists.proofs.list.hand.Tie as tie
-use Rattle.step_lists.proofs.list.hand.Reads as reads
-use Rattle.step_lists.proofs.list.hand.Lts as lts
-use Rattle.step_lists.proofs.list.copy.Reads as copy-reads
-use Rattle.step_lists.proofs.list.told.Reads as told-reads
 
--- src/list.rt:51:9
 told-requires : tie.Need-told-requires
 told-requires c κs = search needs
 
--- src/list.rt:51:9
 returns : tie.Need-returns
-returns c = search needs
+returns c = let s = c .before .before .args in ap (λ (l : Listed). (l, (s .steps .now, s .outs .now))) (c .told .ensures) ∙ rw (ne-eqb _ _ (c .before .if1 .taken))
 
--- src/list.rt:54:9
 told-requires-2 : tie.Need-told-requires-2
 told-requires-2 c κs = search needs
 
--- src/list.rt:54:9
 returns-2 : tie.Need-returns-2
-returns-2 c = search needs
+returns-2 c = let s = c .before .before .before .args in ap (λ (l : Listed). (l, (s .steps .now, s .outs .now))) (c .told2 .ensures) ∙ rw (eq-eqb _ _ (c .before .before .if1 .left), ne-eqb _ _ (c .before .if2 .taken))
 
--- src/list.rt:56:5
 copy-requires : tie.Need-copy-requires
 copy-requires c κs = search needs
 
--- src/list.rt:57:5
 copy-requires-2 : tie.Need-copy-requires-2
 copy-requires-2 c κs = search needs
 
--- src/list.rt:58:5
 told-requires-3 : tie.Need-told-requires-3
 told-requires-3 c κs = search needs
 
--- src/list.rt:39:1
 same-length : tie.Need-same-length
 same-length c = search needs
 
--- src/list.rt:39:1
 same-length-2 : tie.Need-same-length-2
 same-length-2 c = search needs
 
--- src/list.rt:39:1
 returns-3 : tie.Need-returns-3
-returns-3 c = search needs
+returns-3 c = _∙_ {A = Handed} (λ i. (c .told3 .ensures i, (c .before .before .before .before .before .copy .ensures i, c .before .before .copy2 .ensures i))) (rw (eq-eqb _ _ (c .before .before .before .before .before .before .before .before .if1 .left), eq-eqb _ _ (c .before .before .before .before .before .before .before .if2 .left)))
 
 pub hand-spec : {M : Type 1} → statement M
 hand-spec =

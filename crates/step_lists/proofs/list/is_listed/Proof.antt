@@ -1,21 +1,16 @@
-use borrow.Author.Needs.{needs}
-use native.Mathlib.Omega.{arith}
+-- `list::is_listed`. Assumes nothing.
+use borrow.Author.Tests.{eq-eqb, ne-eqb}
 use Rattle.step_lists.proofs.list.is_listed.Statement.{statement}
 use Rattle.step_lists.proofs.list.is_listed.Tie as tie
-use Rattle.step_lists.proofs.list.is_listed.Reads as reads
-use Rattle.step_lists.proofs.list.is_listed.Lts as lts
 
--- src/list.rt:19:9
 returns : tie.Need-returns
-returns c = search needs
+returns c = rw (eq-eqb _ _ (c .if1 .taken))
 
--- src/list.rt:22:9
 returns-2 : tie.Need-returns-2
-returns-2 c = search needs
+returns-2 c = rw (ne-eqb _ _ (c .before .if1 .left), eq-eqb _ _ (c .if2 .taken))
 
--- src/list.rt:15:1
 returns-3 : tie.Need-returns-3
-returns-3 c = search needs
+returns-3 c = rw (ne-eqb _ _ (c .before .if1 .left), ne-eqb _ _ (c .if2 .left))
 
 pub is-listed-spec : {M : Type 1} → statement M
 is-listed-spec = tie.close (tie.spec returns returns-2 returns-3)
