@@ -23,13 +23,10 @@ pub struct Comparison {
 }
 
 impl Comparison {
-    /// Nothing where there is no library to compare with; a line says so.
-    pub fn open(title: &'static str) -> Option<Comparison> {
-        let Some(subject) = Subject::open() else {
-            eprintln!("not compared: {title} (no library is linked and no peer is named)");
-            return None;
-        };
-        Some(Comparison {
+    /// Fails where there is no library to compare with.
+    pub fn open(title: &'static str) -> Comparison {
+        let subject = Subject::open().expect("no library is linked and no peer is named");
+        Comparison {
             random: Random::new(seed()),
             subject,
             title,
@@ -39,7 +36,7 @@ impl Comparison {
             met: [0; 10],
             rails: 0,
             started: Instant::now(),
-        })
+        }
     }
 
     /// Has the call compared, at the latest when this is closed.

@@ -22,9 +22,7 @@ fn blocks(c: &mut Comparison, direction: Direction) {
 
 #[test]
 fn inverse_blocks() {
-    let Some(mut c) = Comparison::open("inverse blocks") else {
-        return;
-    };
+    let mut c = Comparison::open("inverse blocks");
     for _ in 0..BLOCK_ROUNDS {
         blocks(&mut c, Inverse);
     }
@@ -34,9 +32,7 @@ fn inverse_blocks() {
 
 #[test]
 fn forward_blocks() {
-    let Some(mut c) = Comparison::open("forward blocks") else {
-        return;
-    };
+    let mut c = Comparison::open("forward blocks");
     for _ in 0..BLOCK_ROUNDS {
         blocks(&mut c, Forward);
     }
@@ -50,9 +46,7 @@ const BLOCK_ROUNDS: usize = 10;
 /// Middle values next to the rail, at it, and clipped to it.
 #[test]
 fn inverse_blocks_about_the_rails() {
-    let Some(mut c) = Comparison::open("inverse blocks about the rails") else {
-        return;
-    };
+    let mut c = Comparison::open("inverse blocks about the rails");
     let mut unrailed = 0;
     for shape in shapes().iter().cycle().take(320 * 10) {
         let input = block_about_the_rails(&mut c.random, shape);

@@ -7,9 +7,7 @@ use hoengtila_harness::patterns::{line, PATTERNS, SIXTEEN_BITS};
 
 #[test]
 fn lines() {
-    let Some(mut c) = Comparison::open("lines, fast and full") else {
-        return;
-    };
+    let mut c = Comparison::open("lines, fast and full");
     for _ in 0..300 {
         for (n, kind) in SIZES.into_iter().flat_map(|n| KINDS.map(|k| (n, k))) {
             for pattern in PATTERNS {
@@ -27,9 +25,7 @@ fn lines() {
 /// One number among zeros, at each place.
 #[test]
 fn lines_of_one_number() {
-    let Some(mut c) = Comparison::open("lines of one number, at each place") else {
-        return;
-    };
+    let mut c = Comparison::open("lines of one number, at each place");
     for (n, kind) in SIZES.into_iter().flat_map(|n| KINDS.map(|k| (n, k))) {
         for place in 0..n as usize {
             for number in [1, -1, 32767, -32768, 256, -255] {
@@ -52,9 +48,7 @@ fn dot(a: &[i64], b: &[i32]) -> i64 {
 /// The sum of y * forward(x) is the sum of x * inverse(y), whatever x and y are, by either path.
 #[test]
 fn forward_and_inverse_are_transposes() {
-    let Some(mut c) = Comparison::open("lines, forward beside inverse") else {
-        return;
-    };
+    let mut c = Comparison::open("lines, forward beside inverse");
     let pairs = [
         (Path::Forward, Path::Inverse),
         (Path::ForwardProduct, Path::InverseProduct),

@@ -1,7 +1,7 @@
 //! The library against the model: every call, on numbers that are hard for it, and every refusal.
 //!
 //! The library is linked (`HOENGTILA_ARCHIVE` at the build) or answers through a peer (`HOENGTILA_PEER`); where it is
-//! neither, each test says that nothing was compared. `tests/library` at the root of the repository gives them one.
+//! neither, each test fails. `tests/library` at the root of the repository gives them one.
 //! `HOENGTILA_SEED` gives other random cases, and `-- --nocapture` shows how much was compared.
 
 mod blocks;

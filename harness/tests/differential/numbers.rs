@@ -52,9 +52,7 @@ fn rails(c: &mut Comparison, input: &[i16]) -> u32 {
 
 #[test]
 fn numbers_on_both_sides() {
-    let Some(mut comparison) = Comparison::open("the scope's own numbers") else {
-        return;
-    };
+    let mut comparison = Comparison::open("the scope's own numbers");
     let c = &mut comparison;
     for (kind, sums) in [(1, [242, 74, 36, 16]), (2, [242, -74, 36, -16])] {
         for path in [Path::Forward, Path::ForwardProduct] {

@@ -12,9 +12,7 @@ use hoengtila_harness::wrong::{Wrong, NO_DEPTH, NO_KIND, NO_SIZE};
 /// Every set of the tests that a line can meet.
 #[test]
 fn refused_lines() {
-    let Some(mut c) = Comparison::open("lines, refused for every set of reasons") else {
-        return;
-    };
+    let mut c = Comparison::open("lines, refused for every set of reasons");
     for (bits, path) in (0..128).flat_map(|bits| PATHS.map(|path| (bits, path))) {
         for _ in 0..5 {
             let wrong = Wrong::among(bits);
@@ -36,9 +34,7 @@ fn refused_lines() {
 /// Every set of the tests that a block can meet.
 #[test]
 fn refused_blocks() {
-    let Some(mut c) = Comparison::open("blocks, refused for every set of reasons") else {
-        return;
-    };
+    let mut c = Comparison::open("blocks, refused for every set of reasons");
     for (bits, direction) in (0..512).flat_map(|bits| DIRECTIONS.map(|d| (bits, d))) {
         for _ in 0..5 {
             let call = call_with(&mut c.random, direction, &Wrong::among(bits));
@@ -87,9 +83,7 @@ fn spoil(random: &mut Random, direction: Direction, shape: &Shape, numbers: &mut
 /// Each place once as the only bad one, with the smallest numbers that are bad.
 #[test]
 fn one_bad_number_at_each_place() {
-    let Some(mut c) = Comparison::open("blocks with one bad number, at each place") else {
-        return;
-    };
+    let mut c = Comparison::open("blocks with one bad number, at each place");
     for (shape, direction) in shapes_in_turn()
         .iter()
         .flat_map(|s| DIRECTIONS.map(|d| (s, d)))
@@ -116,9 +110,7 @@ fn one_bad_number_at_each_place() {
 /// Every pair of lengths of a line's buffers, from 0 to one too many.
 #[test]
 fn lengths_of_lines() {
-    let Some(mut c) = Comparison::open("lines of every length, 0 to one too many") else {
-        return;
-    };
+    let mut c = Comparison::open("lines of every length, 0 to one too many");
     for (n, path) in SIZES.iter().flat_map(|n| PATHS.map(|path| (*n, path))) {
         let lengths = 0..=n as usize + 1;
         for (input, output) in lengths
@@ -137,9 +129,7 @@ fn lengths_of_lines() {
 /// Each length of one of a block's buffers, from 0 to one too many, the other being right.
 #[test]
 fn lengths_of_blocks() {
-    let Some(mut c) = Comparison::open("blocks of every length, 0 to one too many") else {
-        return;
-    };
+    let mut c = Comparison::open("blocks of every length, 0 to one too many");
     for (shape, direction) in shapes_in_turn()
         .iter()
         .flat_map(|s| DIRECTIONS.map(|d| (s, d)))

@@ -1,8 +1,8 @@
--- `print_run` meets its contract. Assumes nothing.
+-- `answer` meets its contract. Assumes nothing.
 use borrow.Author.Needs.{needs}
 use Rattle.block_run.proofs.Counted.{run-counts}
-use Rattle.run_file.proofs.print_run.Statement.{statement}
-use Rattle.run_file.proofs.print_run.Tie as tie
+use Rattle.block_program.proofs.answer.Statement.{statement}
+use Rattle.block_program.proofs.answer.Tie as tie
 
 file-buffer-requires : tie.Need-file-buffer-requires
 file-buffer-requires c κs = search needs
@@ -12,12 +12,6 @@ slice-aggregate-read-input c = search needs
 
 read-input-requires : tie.Need-read-input-requires
 read-input-requires c κs = search needs
-
-slice-aggregate-write-all : tie.Need-slice-aggregate-write-all
-slice-aggregate-write-all c = search needs
-
-write-all-requires : tie.Need-write-all-requires
-write-all-requires c κs = search needs
 
 returns : tie.Need-returns
 returns c = search needs
@@ -37,30 +31,40 @@ run-requires c κs = search needs
 array-share-prefix-text : tie.Need-array-share-prefix-text
 array-share-prefix-text c = run-counts _ _ _ (c .run .result) (c .run .ensures) .0
 
-slice-aggregate-write-all-2 : tie.Need-slice-aggregate-write-all-2
-slice-aggregate-write-all-2 c = run-counts _ _ _ (c .before .run .result) (c .before .run .ensures) .1
+slice-aggregate-printed : tie.Need-slice-aggregate-printed
+slice-aggregate-printed c = run-counts _ _ _ (c .before .run .result) (c .before .run .ensures) .1
 
-write-all-requires-2 : tie.Need-write-all-requires-2
-write-all-requires-2 c κs = search needs
+write-all-requires : tie.Need-write-all-requires
+write-all-requires c κs = search needs
 
 returns-2 : tie.Need-returns-2
 returns-2 c = search needs
 
-pub print-run-spec : {M : Type 1} → statement M
-print-run-spec =
+refused-requires : tie.Need-refused-requires
+refused-requires c κs = search needs
+
+returns-3 : tie.Need-returns-3
+returns-3 c = search needs
+
+returns-4 : tie.Need-returns-4
+returns-4 c = search needs
+
+pub answer-spec : {M : Type 1} → statement M
+answer-spec =
     tie.close
     (tie.spec
     file-buffer-requires
     slice-aggregate-read-input
     read-input-requires
-    slice-aggregate-write-all
-    write-all-requires
     returns
     text-buffer-requires
     array-share-prefix-file
     slice-aggregate-run
     run-requires
     array-share-prefix-text
-    slice-aggregate-write-all-2
-    write-all-requires-2
-    returns-2)
+    slice-aggregate-printed
+    write-all-requires
+    returns-2
+    refused-requires
+    returns-3
+    returns-4)

@@ -1,0 +1,109 @@
+// Internal: from a descriptor to an answer, for the programs that run a block file. Nothing can be said of the bytes that a
+// system reads and writes, so no contract here says more than that counts lie within their buffers: what the functions do is
+// to be read, and `tests/program` tries it.
+use libc::STDERR_FILENO;
+ghost use mathlib.Core.Path.{_≡_};
+ghost use lib.ListN.{length};
+ghost use Rattle.io.specs.Counts.{Counts};
+ghost use Rattle.block_program.specs.Refused.{refusedText};
+
+// How a program ends: the file ran to its end, a refusal ended it, it could not be read, its answer could not be written.
+pub const ENDED: u32 = 0;
+
+pub const REFUSED: u32 = 1;
+
+pub const UNREAD: u32 = 2;
+
+pub const UNWRITTEN: u32 = 3;
+
+// One byte more than a file may have, so that the run can tell that there is one. A buffer's `ensures` gives its length alone.
+fn file_buffer() -> [u8; 65537]
+    ensures { λ r. ⌜ 65537 ≡ length r ⌝ }
+{
+    [0; 65537]
+}
+
+fn text_buffer() -> [u8; 524288]
+    ensures { λ r. ⌜ 524288 ≡ length r ⌝ }
+{
+    [0; 524288]
+}
+
+// What was read: how many bytes, and whether a read failed.
+pub struct Input {
+    pub count: usize,
+    pub failed: bool,
+}
+
+// Reads until `file` is full, the input ends or a read fails.
+pub fn read_input(fd: i32, file: &mut [u8]) -> Input
+    ensures { λ r. ⌜ Counts (r .count) (now (file .exit)) ⌝ }
+{
+    let mut count = 0;
+    while count < file.len() {
+        let got = libc::read(fd, &mut file[count..]);
+        if got < 0 {
+            return Input {
+                count,
+                failed: true,
+            };
+        }
+        let more = io::count(got, &file[count..]);
+        if more == 0 {
+            break;
+        }
+        count += more;
+    }
+    Input {
+        count,
+        failed: false,
+    }
+}
+
+// Whether a refusal ended the run: no other line of a run has the letter R (82).
+fn refused(text: &[u8]) -> bool
+    ensures { λ r. ⌜ r ≡ refusedText (now (text .entry)) ⌝ }
+{
+    let mut i = 0;
+    while i < text.len() {
+        if text[i] == 82 {
+            return true;
+        }
+        i += 1;
+    }
+    false
+}
+
+// Runs the block file that stands on `input`, and writes what it prints to `output`. A file of which a part could not be read
+// prints nothing.
+pub fn answer(input: i32, output: i32) -> u32 {
+    let mut file = file_buffer();
+    let read = read_input(input, &mut file);
+    let count = read.count;
+    if read.failed {
+        return UNREAD;
+    }
+    let mut text = text_buffer();
+    let length = block_run::run::run(&file[..count], &mut text);
+    let printed = &text[..length];
+    if !io::write_all(output, printed) {
+        return UNWRITTEN;
+    }
+    if refused(printed) {
+        return REFUSED;
+    }
+    ENDED
+}
+
+// Says how a program ended, where that is not the file's end; `blocks` at the root makes of it the status.
+pub fn tell(ending: u32) {
+    if ending == REFUSED {
+        io::write_all(STDERR_FILENO, b"a refusal ended the run\n");
+    }
+    if ending == UNREAD {
+        io::write_all(STDERR_FILENO, b"the input could not be read\n");
+    }
+    if ending == UNWRITTEN {
+        io::write_all(STDERR_FILENO, b"the answer could not be written\n");
+    }
+}
