@@ -5,7 +5,7 @@ use mathlib.Core.List.{List}
 use Prim.Native.Nat.{ℕ}
 use lib.IntN.{ℤ}
 use Rattle.algebra.proofs.Unique.{one}
-use Rattle.steps.specs.Outcome.{Outcome}
+use Rattle.steps.specs.Outcome.{Result}
 use Rattle.step_lists.specs.Listed.{Handed, isListed, listOutcome, lineOutcome}
 
 -- `is_listed`, `list`, `forward`
@@ -16,5 +16,5 @@ module _ (n : ℕ) where
   pub list-one : (steps outs : List ℤ) {r s : Handed} → r ≡ listOutcome n steps outs → s ≡ listOutcome n steps outs → r ≡ s
   list-one steps outs = one
 
-  pub forward-one : (x y : List ℤ) {r s : Outcome} → r ≡ lineOutcome n x y → s ≡ lineOutcome n x y → r ≡ s
+  pub forward-one : (x y : List ℤ) {r s : Result} → r ≡ lineOutcome n x y → s ≡ lineOutcome n x y → r ≡ s
   forward-one x y = one

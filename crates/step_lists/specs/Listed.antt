@@ -12,7 +12,7 @@ use Rattle.meaning.specs.Answer.{test, lengthTests}
 use Rattle.meaning.specs.Line.{forwardLine}
 use Rattle.steps.specs.Steps.{StepList, products}
 use Rattle.steps.specs.Numbers.{encode}
-use Rattle.steps.specs.Outcome.{Outcome, untouched}
+use Rattle.steps.specs.Outcome.{Result, untouched}
 use Rattle.steps.specs.Lists.{list4, list16, list32}
 use Rattle.step_lists.specs.declared.Listed.{Listed}
 
@@ -48,8 +48,8 @@ abbrev pub lineTests : ℕ → ℕ → ℕ → List Refusal
 lineTests n input output = test (not (isListed n)) 1 ∷ lengthTests n input output
 
 -- the full product, and as many multiplying steps as the list has
-abbrev pub line : ℕ → List ℤ → Outcome
+abbrev pub line : ℕ → List ℤ → Result
 line n x = (record { number = 0; count = products (listFor n .steps) }, forwardLine 1 n (at x))
 
-unfoldable pub lineOutcome : ℕ → List ℤ → List ℤ → Outcome
+unfoldable pub lineOutcome : ℕ → List ℤ → List ℤ → Result
 lineOutcome n x y = firstOf (lineTests n (length x) (length y)) (λ number place. untouched y number) (line n x)

@@ -13,7 +13,7 @@ ghost use Prim.Native.Nat.{_≤_};
 ghost use lib.IntN.{natAbs};
 ghost use lib.ListN.{length};
 ghost use Rattle.algebra.specs.Refusals.{numberOf};
-ghost use Rattle.steps.specs.Outcome.{Outcome, Sixteen};
+ghost use Rattle.steps.specs.Outcome.{Result, Sixteen};
 ghost use Rattle.step_lists.specs.Listed.{lineTests, line, lineOutcome};
 
 fn wide(x: i16) -> i32
@@ -52,7 +52,7 @@ fn refusal(n: u32, input: usize, output: usize) -> u32
 // A line that is not refused.
 fn accepted(n: u32, x: &[i16], y: &mut [i32]) -> Taken
     requires { ⌜ numberOf (lineTests n (length (now x)) (length (now y))) ≡ 0 ⌝ }
-    ensures { λ r. ⌜ _≡_ {A = Outcome} (r, now (y .exit)) (line n (now (x .entry))) ⌝ }
+    ensures { λ r. ⌜ _≡_ {A = Result} (r, now (y .exit)) (line n (now (x .entry))) ⌝ }
 {
     sixteen(x);
     if n == 4 {
@@ -72,7 +72,7 @@ fn accepted(n: u32, x: &[i16], y: &mut [i32]) -> Taken
 
 /// The forward DST-VII line of n points by its list of steps, n being 4, 16 or 32.
 pub fn forward(n: u32, x: &[i16], y: &mut [i32]) -> Taken
-    ensures { λ r. ⌜ _≡_ {A = Outcome} (r, now (y .exit)) (lineOutcome n (now (x .entry)) (now (y .entry))) ⌝ }
+    ensures { λ r. ⌜ _≡_ {A = Result} (r, now (y .exit)) (lineOutcome n (now (x .entry)) (now (y .entry))) ⌝ }
 {
     let number = refusal(n, x.len(), y.len());
     if number != 0 {

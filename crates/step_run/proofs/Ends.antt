@@ -12,7 +12,7 @@ use borrow.Author.Tests.{ltb-false, eqb-true}
 use Rattle.algebra.specs.Refusals.{Refusal, numberOf}
 use Rattle.steps.specs.Steps.{State, Done, Run, refused, ran, andThen, run, start, finished, whole}
 use Rattle.steps.specs.Numbers.{cellOf, decode, listOf}
-use Rattle.steps.specs.Outcome.{Outcome, untouched, listTests, given, numbers}
+use Rattle.steps.specs.Outcome.{Result, untouched, listTests, given, numbers}
 use Rattle.step_run.specs.Parts.{state, tell, outsRefusal, readings}
 use Rattle.step_run.proofs.Laws.{decoded, read-outs}
 
@@ -71,7 +71,7 @@ untold (suc k) a h = absurd (omega arith)
 
 module _ (n : ℕ) (outs y v : List ℤ) (w : List Bool) (c : ℕ) where
   -- the output cells: the first that is refused, or what they hold
-  abbrev last : Run (List ℤ) → Outcome
+  abbrev last : Run (List ℤ) → Result
   last r = given y (andThen r (λ l. ran (record { outs = l; took = c })))
 
   pub not-read : (q : ℕ) → q ≡ outsRefusal n w outs → (q ≡ 0 → ⊥) → untouched y q ≡ given y (finished numbers n (map cellOf outs) (state v w c))
@@ -82,11 +82,11 @@ module _ (n : ℕ) (outs y v : List ℤ) (w : List Bool) (c : ℕ) where
 
   -- the steps: the first that is refused, or the output cells
   module _ (s x : List ℤ) (q : ℕ) (e : tell q (state v w c) ≡ run numbers n (decode s) (start numbers x)) where
-    abbrev rest : Run (State ℤ) → Outcome
+    abbrev rest : Run (State ℤ) → Result
     rest r = given y (andThen r (λ st. finished numbers n (map cellOf outs) st))
 
     pub stopped : (q ≡ 0 → ⊥) → untouched y q ≡ given y (whole numbers (listOf (length x) n s outs) x)
     stopped h = ap rest (told q (state v w c) h ∙ e)
 
-    pub went-on : q ≡ 0 → {o : Outcome} → o ≡ given y (finished numbers n (map cellOf outs) (state v w c)) → o ≡ given y (whole numbers (listOf (length x) n s outs) x)
+    pub went-on : q ≡ 0 → {o : Result} → o ≡ given y (finished numbers n (map cellOf outs) (state v w c)) → o ≡ given y (whole numbers (listOf (length x) n s outs) x)
     went-on z f = f ∙ ap rest (untold q (state v w c) z ∙ e)

@@ -20,7 +20,7 @@ use Rattle.algebra.proofs.Sum.{sum-cong}
 use Rattle.algebra.proofs.Lists.{tabulated, zeros-at}
 use Rattle.algebra.proofs.Table.{and-left, and-right, eqZ→eq, allTo, allTo-at}
 use Rattle.steps.specs.Steps.{Step, StepList, Done, Run, refused, ran, products, run, start, finished, whole, most}
-use Rattle.steps.specs.Outcome.{Outcome, numbers, untouched, listTests, given, runOutcome, fits32, Sixteen}
+use Rattle.steps.specs.Outcome.{Result, numbers, untouched, listTests, given, runOutcome, fits32, Sixteen}
 use Rattle.steps.proofs.Forms.{Form, forms, sizes, unit, units, worth, rowsAre, isProduct, gives}
 use Rattle.steps.proofs.Worth.{worth-plus, worth-less, worth-times, worth-size, worth-sum, worth-unit}
 use Rattle.steps.proofs.Follow.{Keeps, Alike, nil, cons, Same, Follows, alike-length, alike-at, whole-like}
@@ -126,7 +126,7 @@ module _ (W : ℕ → ℕ → ℤ) (n : ℕ) (p : StepList) (xs out : List ℤ) 
         passed-first [] (λ number place. untouched out number) (given out (whole numbers p xs)) (tests (length xs) (length out)) tt not-refused
         ∙ ended (whole numbers p xs) runs
       where
-        ended : (r : Run (Done ℤ)) {o : Outcome} → Ran (λ d. given out (ran d) ≡ o) r → given out r ≡ o
+        ended : (r : Run (Done ℤ)) {o : Result} → Ran (λ d. given out (ran d) ≡ o) r → given out r ≡ o
         ended (refused k) h = absurd h
         ended (ran d) h = h
 

@@ -24,11 +24,11 @@ abbrev pub Sixteen : List ℤ → Type 0
 Sixteen xs = (k : ℕ) → k < length xs → natAbs (at xs k) ≤ 32768
 
 -- what a run hands back, and what its output holds then
-abbrev pub Outcome : Type 0
-Outcome = Taken × List ℤ
+abbrev pub Result : Type 0
+Result = Taken × List ℤ
 
 -- "output untouched and count 0"
-abbrev pub untouched : List ℤ → ℕ → Outcome
+abbrev pub untouched : List ℤ → ℕ → Result
 untouched out number = (record { number = number; count = 0 }, out)
 
 -- "18 for more than 2,048 steps or cells; 6 and 7 for lengths other than the list's own"; "more inputs than cells is 28, before any
@@ -41,11 +41,11 @@ listTests steps cells inputs outs input output =
     ∷ test (ltb cells inputs) 28
     ∷ []
 
-abbrev pub given : List ℤ → Run (Done ℤ) → Outcome
+abbrev pub given : List ℤ → Run (Done ℤ) → Result
 given out (refused number) = untouched out number
 given out (ran d) = (record { number = 0; count = d .took }, d .outs)
 
-unfoldable pub runOutcome : StepList → List ℤ → List ℤ → Outcome
+unfoldable pub runOutcome : StepList → List ℤ → List ℤ → Result
 runOutcome p xs out =
     firstOf (listTests (length (p .steps)) (p .cells) (p .inputs) (length (p .outs)) (length xs) (length out))
     (λ number place. untouched out number)

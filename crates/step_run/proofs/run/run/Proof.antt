@@ -9,7 +9,7 @@ use Rattle.algebra.specs.Refusals.{Refusal, numberOf}
 use Rattle.algebra.proofs.Refusals.{refused-first, passed-first}
 use Rattle.steps.specs.Steps.{StepList, whole}
 use Rattle.steps.specs.Numbers.{listOf}
-use Rattle.steps.specs.Outcome.{Outcome, untouched, listTests, given, numbers, runOutcome}
+use Rattle.steps.specs.Outcome.{Result, untouched, listTests, given, numbers, runOutcome}
 use Rattle.step_run.proofs.Ends.{tests-are, passed}
 use Rattle.step_run.proofs.run.run.Statement.{statement}
 use Rattle.step_run.proofs.run.run.Tie as tie
@@ -20,7 +20,7 @@ list s = listOf (s .args .inputs) (s .args .cells) (s .args .steps .now) (s .arg
 abbrev tests : tie.Start → List Refusal
 tests s = listTests (length (list s .steps)) (s .args .cells) (s .args .inputs) (length (list s .outs)) (length (s .args .x .now)) (length (s .args .y .now))
 
-abbrev done : tie.Start → Outcome
+abbrev done : tie.Start → Result
 done s = given (s .args .y .now) (whole numbers (list s) (s .args .x .now))
 
 refusal-requires : tie.Need-refusal-requires
