@@ -4,6 +4,7 @@
 #   find_x86_64 NAME   sets the words cc and cxx (which is empty where there is no C++) to compile and link with, and run
 #                      to run what comes of it, and the words load to run a program that the kit linked; where something
 #                      is missing it says so in a line that starts with NAME, and fails
+#   find_load          sets load alone, for which no compiler is needed; fails where there is no emulator
 
 # The kit has an emulator beside its other tools.
 find_emulator() {
@@ -44,13 +45,16 @@ find_cross() {
     # gcc compiles C++ too; g++ would add -lm, of which Debian's cross packages have no static form that links
     if command -v x86_64-linux-gnu-g++ >/dev/null; then cxx=("$c" -static); fi
     run=("$emulator")
-    load=("$emulator")
-    find_loader
+    find_load
 }
 
 # A program that the kit linked needs the C library of x86-64, which the kit has beside its emulator.
-find_loader() {
-    local tools
+find_load() {
+    local tools emulator
+    load=()
+    [ "$(uname -m)" != x86_64 ] || return 0
+    emulator=$(find_emulator) || return 1
+    load=("$emulator")
     tools=$(dirname "$(dirname "$(readlink -f "$(command -v rt)")")")/on/$(uname -m)/toolchain
     if [ -x "$tools/lib/ld-linux-x86-64.so.2" ]; then
         load+=("$tools/lib/ld-linux-x86-64.so.2" --library-path "$tools/lib")

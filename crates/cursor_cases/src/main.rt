@@ -1,0 +1,91 @@
+// Drives the reader from any cursor: standard input holds a cursor, its place in eight bytes and its shape in five times four,
+// and then a file. Prints a new cursor, the step's number and tag and its next cursor, and the body. `tests/cursor` holds it to
+// the independent model.
+use block_file::cursor::Cursor;
+use libc::STDOUT_FILENO;
+use meaning::Shape;
+ghost use mathlib.Core.Path.{_≡_};
+ghost use Prim.Native.Nat.{_+_, _≤_, _<_};
+ghost use lib.ListN.{length};
+
+// A cursor and somewhat more than a file may have.
+fn input_buffer() -> [u8; 65600]
+    ensures { λ r. ⌜ 65600 ≡ length r ⌝ }
+{
+    [0; 65600]
+}
+
+fn wide(byte: u8) -> u32
+    ensures { λ r. ⌜ r < 256 ⌝ }
+{
+    byte as u32
+}
+
+fn pair(high: u8, low: u8) -> u32
+    ensures { λ r. ⌜ r < 65536 ⌝ }
+{
+    wide(high) * 256 + wide(low)
+}
+
+// The four bytes from a place on, high byte first.
+fn word(bytes: &[u8], from: usize) -> u32
+    requires { ⌜ from + 4 ≤ length (now bytes) ⌝ }
+    ensures { λ r. ⌜ r < 4294967296 ⌝ }
+{
+    let high = pair(bytes[from], bytes[from + 1]);
+    let low = pair(bytes[from + 2], bytes[from + 3]);
+    high * 65536 + low
+}
+
+fn cursor_of(bytes: &[u8]) -> Cursor
+    requires { ⌜ 28 ≤ length (now bytes) ⌝ }
+{
+    let high = word(bytes, 0) as usize;
+    let low = word(bytes, 4) as usize;
+    let shape = Shape::new(
+        word(bytes, 8),
+        word(bytes, 12),
+        word(bytes, 16),
+        word(bytes, 20),
+        word(bytes, 24),
+    );
+    Cursor {
+        at: high * 4294967296 + low,
+        shape,
+    }
+}
+
+fn print_number(n: u64) {
+    io::print_decimal(STDOUT_FILENO, n);
+    io::write_all(STDOUT_FILENO, b" ");
+}
+
+fn print_cursor(cursor: Cursor) {
+    let shape = cursor.shape;
+    print_number(cursor.at as u64);
+    print_number(shape.width as u64);
+    print_number(shape.height as u64);
+    print_number(shape.horizontal as u64);
+    print_number(shape.vertical as u64);
+    print_number(shape.depth as u64);
+    io::write_all(STDOUT_FILENO, b"\n");
+}
+
+fn print_step(cursor: Cursor, file: &[u8]) {
+    print_cursor(Cursor::new());
+    let step = cursor.step(file);
+    print_number(step.number as u64);
+    print_number(step.tag as u64);
+    print_cursor(step.next);
+    io::write_all(STDOUT_FILENO, cursor.body(file));
+}
+
+fn main() {
+    let mut input = input_buffer();
+    let count = io::read_full(libc::STDIN_FILENO, &mut input);
+    if count < 28 {
+        return;
+    }
+    let given = &input[..count];
+    print_step(cursor_of(given), &given[28..]);
+}
