@@ -1,3 +1,5 @@
+use mathlib.Core.Path.{sym}
+use lib.Seq.{length-take-le}
 use borrow.Author.Needs.{needs}
 use Rattle.print_steps.proofs.write.Statement.{statement}
 use Rattle.print_steps.proofs.write.Tie as tie
@@ -7,7 +9,7 @@ use Rattle.io.proofs.write_all.Reads as write-all-reads
 
 -- src/main.rt:20:45
 slice-aggregate-write-all : tie.Need-slice-aggregate-write-all
-slice-aggregate-write-all c = search needs
+slice-aggregate-write-all c = let s = c .before .before .before .args in sym (length-take-le (s .end) (s .text .now) (c .before .if1 .taken))
 
 -- src/main.rt:20:9
 write-all-requires : tie.Need-write-all-requires
