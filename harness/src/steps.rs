@@ -238,8 +238,8 @@ impl Maker {
 pub fn definitions() -> String {
     let head = "-- Document 02, Wish 6: \"Give such lists for 4, 16 and 32 points\", of the forward DST-VII. Written by tests/step_lists --write.\n\
         use mathlib.Core.List.{List, [], _∷_}\n\
-        use lib.IntN.{ℤ, pos, negsuc}\n\
-        use Rattle.steps.specs.Steps.{Step, add, sub, neg, mul, StepList}\n";
+        use lib.IntN.{pos, negsuc}\n\
+        use Rattle.steps.specs.Steps.{Step, add, sub, mul, StepList}\n";
     let lists = LISTED.map(|(n, ..)| definition(n, &make(n)));
     format!("{head}\n{}", lists.join("\n"))
 }

@@ -1,6 +1,6 @@
 -- The stored numbers are a list again, and what is shown of it holds of a run on them. Assumes nothing.
 use mathlib.Core.Path.{_≡_, refl, sym, ap, _∙_}
-use mathlib.Core.Bool.{Bool, true, false, cond, not, _||_}
+use mathlib.Core.Bool.{Bool, true, false, cond, not}
 use mathlib.Core.List.{List, [], _∷_, map}
 use Prim.Native.Nat.{ℕ}
 use native.Mathlib.Omega.{arith}
@@ -9,7 +9,7 @@ use lib.IntN.{ℤ, pos}
 use lib.ListN.{length}
 use borrow.Author.Tests.{eqb-true, ne-eqb}
 use Rattle.algebra.specs.Refusals.{numberOf}
-use Rattle.steps.specs.Steps.{Step, add, sub, neg, mul, StepList}
+use Rattle.steps.specs.Steps.{Step, add, sub, neg, mul}
 use Rattle.steps.specs.Numbers.{cellOf, decode, encode, listOf}
 use Rattle.steps.specs.Outcome.{Sixteen, runOutcome}
 use Rattle.steps.proofs.Computed.{Right}

@@ -2,15 +2,15 @@
 use mathlib.Core.Path.{_≡_, refl, sym, ap, _∙_}
 use mathlib.Core.Bool.{Bool, true, false, cond, not, _||_}
 use mathlib.Core.List.{List, [], _∷_, _++_, map}
-use Prim.Native.Nat.{ℕ, zero, suc, _-_, _/_, _≤_, _<_}
+use Prim.Native.Nat.{ℕ, zero, suc, _-_, _/_, _≤_}
 use native.Mathlib.Omega.{arith}
 use native.Mathlib.Nat.{sub-zero, zero-sub, suc-sub-suc}
 use lib.Dec.{ltb, eqb}
 use lib.IntN.{ℤ, pos}
 use lib.ListN.{length, drop, replicate}
 use borrow.Author.Tests.{ltb-false, eqb-true}
-use Rattle.algebra.specs.Refusals.{Refusal, numberOf}
-use Rattle.steps.specs.Steps.{State, Done, Run, refused, ran, andThen, run, start, finished, whole}
+use Rattle.algebra.specs.Refusals.{numberOf}
+use Rattle.steps.specs.Steps.{State, Run, refused, ran, andThen, run, start, finished, whole}
 use Rattle.steps.specs.Numbers.{cellOf, decode, listOf}
 use Rattle.steps.specs.Outcome.{Result, untouched, listTests, given, numbers}
 use Rattle.step_run.specs.Parts.{state, tell, outsRefusal, readings}

@@ -1,17 +1,17 @@
 -- Signed tests read back, a step as its parts, and a list that is decoded four numbers at a time. Assumes nothing.
 use mathlib.Core.Path.{_≡_, refl, sym, ap, subst, _∙_}
-use mathlib.Core.Bool.{Bool, true, false, cond, not, _&&_, _||_}
-use mathlib.Core.List.{List, [], _∷_, _++_, map}
+use mathlib.Core.Bool.{Bool, true, false, cond, _&&_, _||_}
+use mathlib.Core.List.{List, [], _∷_, map}
 use Prim.Native.Nat.{ℕ, zero, suc, _+_, _*_, _≤_, _<_, _^_}
 use native.Mathlib.Omega.{arith}
 use native.Mathlib.Nat.{not-suc-le-zero, le-of-suc-le-suc}
 use native.Mathlib.Numerals.{add-one}
-use lib.Dec.{T, ltb, ltb→lt}
+use lib.Dec.{T, ltb}
 use lib.IntN.{ℤ, pos, negsuc, natAbs, negℤ, _+ℤ_, _-ℤ_, _*ℤ_}
-use lib.ListN.{length, drop, getD, set, take, replicate, length-drop, length-append, length-replicate, drop-of-length-le}
-use lib.Seq.{drop-cons, take-suc, set-at, append-snoc, length-take-le}
-use lib.Signed.{ltZ, nonNeg, mag}
-use mir.Syntax.{w16, w32, w64}
+use lib.ListN.{length, drop, getD, set, length-drop, drop-of-length-le}
+use lib.Seq.{drop-cons}
+use lib.Signed.{ltZ, nonNeg}
+use mir.Syntax.{w16, w32}
 use mir.Val.{SFits, ofZ, toZ}
 use mir.ValLaws.{toZ-ofZ}
 use borrow.Author.Tests.{le-ltb, lt-ltb, ltb-true, ltb-false, eq-eqb}
@@ -19,7 +19,7 @@ use Rattle.algebra.specs.Equal.{eqZ}
 use Rattle.algebra.specs.Lists.{at, tabulate}
 use Rattle.algebra.proofs.Lists.{tabulated}
 use Rattle.algebra.proofs.Table.{eqZ-no}
-use Rattle.steps.specs.Steps.{Step, add, sub, neg, mul, State, Run, refused, ran, andThen, muls, step, run, outputs, most}
+use Rattle.steps.specs.Steps.{Step, add, sub, neg, mul, State, Run, refused, ran, andThen, muls, step, run, outputs}
 use Rattle.steps.specs.Outcome.{fits32, numbers}
 use Rattle.steps.specs.Numbers.{cellOf, stepOf, decode}
 use Rattle.step_run.specs.Parts.{stepAt, readsTwo, combined, state, tell, outsRefusal, readings}

@@ -4,7 +4,7 @@ use mathlib.Core.List.{List, [], _∷_}
 use Prim.Native.Nat.{ℕ, zero, suc, _+_}
 use lib.Dec.{ltb, eqb}
 use lib.IntN.{ℤ, pos, negℤ, natAbs, _+ℤ_, _*ℤ_}
-use lib.ListN.{length, getD, replicate}
+use lib.ListN.{length}
 use Rattle.algebra.specs.Equal.{eqZ}
 use Rattle.algebra.specs.Lists.{at}
 use Rattle.algebra.specs.Refusals.{numberOf}

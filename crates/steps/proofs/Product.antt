@@ -7,7 +7,7 @@ use Prim.Native.Nat.{ℕ, zero, suc, _+_, _-_, _*_, _≤_, _<_}
 use native.Mathlib.Nat.{add-zero, zero-add, add-suc, suc-add, le-of-suc-le-suc, not-suc-le-zero}
 use native.Mathlib.Omega.{arith}
 use lib.Dec.{T, ltb, eqb, ltb→lt, lt→ltb, eqb→eq}
-use lib.IntN.{ℤ, pos, negℤ, natAbs, _+ℤ_, _*ℤ_, *ℤ-comm}
+use lib.IntN.{ℤ, pos, negℤ, natAbs, _+ℤ_, _*ℤ_}
 use lib.ListN.{length, getD, replicate}
 use lib.Signed.{mag}
 use Rattle.algebra.specs.Equal.{eqZ}
@@ -21,7 +21,7 @@ use Rattle.algebra.proofs.Lists.{tabulated, zeros-at}
 use Rattle.algebra.proofs.Table.{and-left, and-right, eqZ→eq, allTo, allTo-at}
 use Rattle.steps.specs.Steps.{Step, StepList, Done, Run, refused, ran, products, run, start, finished, whole, most}
 use Rattle.steps.specs.Outcome.{Result, numbers, untouched, listTests, given, runOutcome, fits32, Sixteen}
-use Rattle.steps.proofs.Forms.{Form, forms, sizes, unit, units, worth, rowsAre, isProduct, gives}
+use Rattle.steps.proofs.Forms.{Form, forms, sizes, units, worth, rowsAre, isProduct, gives}
 use Rattle.steps.proofs.Worth.{worth-plus, worth-less, worth-times, worth-size, worth-sum, worth-unit}
 use Rattle.steps.proofs.Follow.{Keeps, Alike, nil, cons, Same, Follows, alike-length, alike-at, whole-like}
 use Rattle.steps.proofs.Count.{Holds, whole-count}

@@ -2,17 +2,17 @@
 use mathlib.Core.Path.{_≡_, refl, sym, ap, _∙_}
 use mathlib.Core.List.{List, [], _∷_}
 use Prim.Native.Nat.{ℕ, zero, suc, _+_, _*_, _≤_, _<_}
-use native.Mathlib.Nat.{add-mul, zero-mul, le-trans, mul-le-mul-left, zero-add, suc-add, add-suc}
+use native.Mathlib.Nat.{add-mul, zero-mul, mul-le-mul-left}
 use native.Mathlib.Omega.{arith}
 use lib.IntN.{ℤ, pos, negℤ, natAbs, _+ℤ_, _*ℤ_, +ℤ-idl, +ℤ-idr, zero-*ℤ, *ℤ-zero}
 use lib.ListN.{length}
 use Rattle.algebra.specs.Lists.{at}
 use Rattle.algebra.specs.Sum.{sum}
-use Rattle.algebra.proofs.Normal.{ν, κ, _⊕_, _⊗_, ⊝, ring}
+use Rattle.algebra.proofs.Normal.{ν, _⊕_, _⊗_, ⊝, ring}
 use Rattle.algebra.proofs.Order.{abs-add, abs-mul}
 use Rattle.algebra.proofs.Sum.{sum-first, sum-cong, sum-none}
 use Rattle.algebra.proofs.Ring.{one-*ℤ}
-use Rattle.steps.proofs.Forms.{Form, plusF, lessF, timesF, sizes, unit, units, worth}
+use Rattle.steps.proofs.Forms.{Form, plusF, lessF, timesF, sizes, unit, worth}
 
 pub worth-plus : (u v : Form) (xs : List ℤ) → worth (plusF u v) xs ≡ worth u xs +ℤ worth v xs
 worth-plus [] v xs = sym (+ℤ-idl (worth v xs))

@@ -1,25 +1,19 @@
+-- `write`: the part that is written lies within the text. Assumes nothing.
 use mathlib.Core.Path.{sym}
 use lib.Seq.{length-take-le}
 use borrow.Author.Needs.{needs}
 use Rattle.print_steps.proofs.write.Statement.{statement}
 use Rattle.print_steps.proofs.write.Tie as tie
-use Rattle.print_steps.proofs.write.Reads as reads
-use Rattle.print_steps.proofs.write.Lts as lts
-use Rattle.io.proofs.write_all.Reads as write-all-reads
 
--- src/main.rt:20:45
 slice-aggregate-write-all : tie.Need-slice-aggregate-write-all
 slice-aggregate-write-all c = let s = c .before .before .before .args in sym (length-take-le (s .end) (s .text .now) (c .before .if1 .taken))
 
--- src/main.rt:20:9
 write-all-requires : tie.Need-write-all-requires
 write-all-requires c κs = search needs
 
--- src/main.rt:20:9
 returns : tie.Need-returns
 returns c = search needs
 
--- src/main.rt:18:1
 returns-2 : tie.Need-returns-2
 returns-2 c = search needs
 

@@ -1,13 +1,9 @@
-use mathlib.Core.Path.{_≡_}
+-- `text::count` ends, and its count fits. Assumes nothing.
 use Prim.Native.Nat.{_-_, _≤_}
 use lib.ListN.{length}
 use borrow.Author.Needs.{needs}
-use native.Mathlib.Omega.{arith}
 use Rattle.print_steps.proofs.text.count.Statement.{statement}
 use Rattle.print_steps.proofs.text.count.Tie as tie
-use Rattle.print_steps.proofs.text.count.Reads as reads
-use Rattle.print_steps.proofs.text.count.Lts as lts
-use Rattle.print_steps.proofs.text.same.Reads as same-reads
 
 abbrev Inv-loop : tie.InvT-loop
 Inv-loop steps o count₀ i₀ count i = (count ≤ i) × (i ≤ length steps)
@@ -15,43 +11,33 @@ Inv-loop steps o count₀ i₀ count i = (count ≤ i) × (i ≤ length steps)
 abbrev μ-loop : tie.MeasureT-loop
 μ-loop steps o count₀ i₀ count i = length steps - i
 
--- src/text.rt:134:5
 loop-holds : tie.Need-loop-holds Inv-loop μ-loop
 loop-holds c = search needs
 
--- src/text.rt:134:16
 sub-loop : tie.Need-sub-loop Inv-loop μ-loop
 sub-loop c = search needs
 
--- src/text.rt:135:23
 mul-same : tie.Need-mul-same Inv-loop μ-loop
 mul-same c = search needs
 
--- src/text.rt:135:23
 shared-slice-copy-out-same : tie.Need-shared-slice-copy-out-same Inv-loop μ-loop
 shared-slice-copy-out-same c = search needs
 
--- src/text.rt:135:18
 same-requires : tie.Need-same-requires Inv-loop μ-loop
 same-requires c κs = search needs
 
--- src/text.rt:135:9
 add-count : tie.Need-add-count Inv-loop μ-loop
 add-count c = search needs
 
--- src/text.rt:136:9
 add-i : tie.Need-add-i Inv-loop μ-loop
 add-i c = search needs
 
--- src/text.rt:134:5
 loop-less : tie.Need-loop-less Inv-loop μ-loop
 loop-less c = search needs
 
--- src/text.rt:134:5
 loop-again : tie.Need-loop-again Inv-loop μ-loop
 loop-again c = search needs
 
--- src/text.rt:131:1
 returns : tie.Need-returns Inv-loop μ-loop
 returns c = search needs
 

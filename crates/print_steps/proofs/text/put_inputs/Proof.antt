@@ -1,15 +1,10 @@
+-- `text::put_inputs` ends. Assumes nothing.
 use mathlib.Core.Path.{_≡_}
-use Prim.Native.Nat.{_-_, _≤_}
+use Prim.Native.Nat.{_-_}
 use lib.ListN.{length}
 use borrow.Author.Needs.{needs}
-use native.Mathlib.Omega.{arith}
 use Rattle.print_steps.proofs.text.put_inputs.Statement.{statement}
 use Rattle.print_steps.proofs.text.put_inputs.Tie as tie
-use Rattle.print_steps.proofs.text.put_inputs.Reads as reads
-use Rattle.print_steps.proofs.text.put_inputs.Lts as lts
-use Rattle.print_steps.proofs.text.put.Reads as put-reads
-use Rattle.print_steps.proofs.text.put_name.Reads as put-name-reads
-use Rattle.print_steps.proofs.text.put_word.Reads as put-word-reads
 
 abbrev Inv-loop : tie.InvT-loop
 Inv-loop inputs text₀ at p₀ k₀ t6 text p k = length text ≡ length text₀
@@ -17,47 +12,36 @@ Inv-loop inputs text₀ at p₀ k₀ t6 text p k = length text ≡ length text�
 abbrev μ-loop : tie.MeasureT-loop
 μ-loop inputs text₀ at p₀ k₀ t6 text p k = inputs - k
 
--- src/text.rt:93:5
 loop-holds : tie.Need-loop-holds Inv-loop μ-loop
 loop-holds c = search needs
 
--- src/text.rt:94:9
 put-name-requires : tie.Need-put-name-requires Inv-loop μ-loop
 put-name-requires c κs = search needs
 
--- src/text.rt:95:22
 slice-aggregate-put-word : tie.Need-slice-aggregate-put-word Inv-loop μ-loop
 slice-aggregate-put-word c = search needs
 
--- src/text.rt:95:9
 put-word-requires : tie.Need-put-word-requires Inv-loop μ-loop
 put-word-requires c κs = search needs
 
--- src/text.rt:96:9
 put-name-requires-2 : tie.Need-put-name-requires-2 Inv-loop μ-loop
 put-name-requires-2 c κs = search needs
 
--- src/text.rt:97:9
 put-requires : tie.Need-put-requires Inv-loop μ-loop
 put-requires c κs = search needs
 
--- src/text.rt:98:9
 add-k : tie.Need-add-k Inv-loop μ-loop
 add-k c = search needs
 
--- src/text.rt:93:5
 loop-less : tie.Need-loop-less Inv-loop μ-loop
 loop-less c = search needs
 
--- src/text.rt:93:5
 loop-again : tie.Need-loop-again Inv-loop μ-loop
 loop-again c = search needs
 
--- src/text.rt:90:1
 same-length : tie.Need-same-length Inv-loop μ-loop
 same-length c = search needs
 
--- src/text.rt:90:1
 returns : tie.Need-returns Inv-loop μ-loop
 returns c = search needs
 

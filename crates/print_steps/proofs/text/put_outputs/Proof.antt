@@ -1,16 +1,10 @@
+-- `text::put_outputs` ends. Assumes nothing.
 use mathlib.Core.Path.{_≡_}
-use Prim.Native.Nat.{_-_, _≤_}
+use Prim.Native.Nat.{_-_}
 use lib.ListN.{length}
 use borrow.Author.Needs.{needs}
-use native.Mathlib.Omega.{arith}
 use Rattle.print_steps.proofs.text.put_outputs.Statement.{statement}
 use Rattle.print_steps.proofs.text.put_outputs.Tie as tie
-use Rattle.print_steps.proofs.text.put_outputs.Reads as reads
-use Rattle.print_steps.proofs.text.put_outputs.Lts as lts
-use Rattle.print_steps.proofs.text.put.Reads as put-reads
-use Rattle.print_steps.proofs.text.put_cell.Reads as put-cell-reads
-use Rattle.print_steps.proofs.text.put_name.Reads as put-name-reads
-use Rattle.print_steps.proofs.text.put_word.Reads as put-word-reads
 
 abbrev Inv-loop : tie.InvT-loop
 Inv-loop outs text₀ at p₀ k₀ t6 text p k = length text ≡ length text₀
@@ -18,55 +12,42 @@ Inv-loop outs text₀ at p₀ k₀ t6 text p k = length text ≡ length text₀
 abbrev μ-loop : tie.MeasureT-loop
 μ-loop outs text₀ at p₀ k₀ t6 text p k = length outs - k
 
--- src/text.rt:106:5
 loop-holds : tie.Need-loop-holds Inv-loop μ-loop
 loop-holds c = search needs
 
--- src/text.rt:107:9
 put-name-requires : tie.Need-put-name-requires Inv-loop μ-loop
 put-name-requires c κs = search needs
 
--- src/text.rt:108:22
 slice-aggregate-put-word : tie.Need-slice-aggregate-put-word Inv-loop μ-loop
 slice-aggregate-put-word c = search needs
 
--- src/text.rt:108:9
 put-word-requires : tie.Need-put-word-requires Inv-loop μ-loop
 put-word-requires c κs = search needs
 
--- src/text.rt:109:22
 mul-put-cell : tie.Need-mul-put-cell Inv-loop μ-loop
 mul-put-cell c = search needs
 
--- src/text.rt:109:22
 shared-slice-copy-out-put-cell : tie.Need-shared-slice-copy-out-put-cell Inv-loop μ-loop
 shared-slice-copy-out-put-cell c = search needs
 
--- src/text.rt:109:9
 put-cell-requires : tie.Need-put-cell-requires Inv-loop μ-loop
 put-cell-requires c κs = search needs
 
--- src/text.rt:110:9
 put-requires : tie.Need-put-requires Inv-loop μ-loop
 put-requires c κs = search needs
 
--- src/text.rt:111:9
 add-k : tie.Need-add-k Inv-loop μ-loop
 add-k c = search needs
 
--- src/text.rt:106:5
 loop-less : tie.Need-loop-less Inv-loop μ-loop
 loop-less c = search needs
 
--- src/text.rt:106:5
 loop-again : tie.Need-loop-again Inv-loop μ-loop
 loop-again c = search needs
 
--- src/text.rt:103:1
 same-length : tie.Need-same-length Inv-loop μ-loop
 same-length c = search needs
 
--- src/text.rt:103:1
 returns : tie.Need-returns Inv-loop μ-loop
 returns c = search needs
 

@@ -1,11 +1,12 @@
+-- `forward::sixteen`: what was read is at most 32768 in size. Assumes nothing.
 use Rattle.algebra.proofs.Table.{last}
 use Rattle.algebra.specs.Lists.{at}
 use mir.ValLaws.{toZ-ofZ}
 use mir.Syntax.{w16}
 use lib.ListN.{length}
 use lib.IntN.{ℤ, natAbs}
-use Prim.Native.Nat.{ℕ, suc, _+_, _-_, _≤_, _<_}
-use mathlib.Core.Path.{_≡_, sym, ap, subst, _∙_}
+use Prim.Native.Nat.{ℕ, _-_, _≤_, _<_}
+use mathlib.Core.Path.{subst, _∙_}
 use borrow.Author.Needs.{needs}
 use native.Mathlib.Omega.{arith}
 use Rattle.step_lists.proofs.forward.sixteen.Statement.{statement}

@@ -1,11 +1,10 @@
+-- `forward::wide`. Assumes nothing.
 use Rattle.algebra.proofs.Machine.{arg, cast, cast-fits, val}
 use Rattle.algebra.proofs.Order.{in-fits}
 use mir.Syntax.{w32}
 use lib.IntN.{ℤ, natAbs}
 use Prim.Native.Nat.{_≤_}
 use mathlib.Core.Path.{sym, subst}
-use borrow.Author.Needs.{needs}
-use native.Mathlib.Omega.{arith}
 use Rattle.step_lists.proofs.forward.wide.Statement.{statement}
 use Rattle.step_lists.proofs.forward.wide.Tie as tie
 

@@ -1,7 +1,7 @@
 -- `list::hand`: 7 for either length, or both buffers copied. Assumes nothing.
 use borrow.Author.Needs.{needs}
 use borrow.Author.Tests.{eq-eqb, ne-eqb}
-use mathlib.Core.Path.{_≡_, sym, ap, _∙_}
+use mathlib.Core.Path.{ap, _∙_}
 use Rattle.step_lists.specs.declared.Listed.{Listed}
 use Rattle.step_lists.specs.Listed.{Handed}
 use Rattle.step_lists.proofs.list.hand.Statement.{statement}

@@ -1,6 +1,6 @@
 -- `list::list`: the list of n points, or 1. Assumes nothing.
 use borrow.Author.Needs.{needs}
-use mathlib.Core.Path.{_≡_, refl, sym, ap, _∙_}
+use mathlib.Core.Path.{refl, sym, ap, _∙_}
 use Prim.Native.Nat.{ℕ}
 use Rattle.steps.specs.Lists.{list4, list16, list32}
 use Rattle.step_lists.specs.Listed.{listOutcome}

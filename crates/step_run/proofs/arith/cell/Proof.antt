@@ -1,13 +1,12 @@
+-- `arith::cell`: past all cells where the number is negative. Assumes nothing.
 use Rattle.step_run.proofs.Laws.{cell-below, cell-from, not-below, count-fits}
 use lib.Signed.{ltZ}
-use lib.IntN.{ℤ, pos}
+use lib.IntN.{pos}
 use mathlib.Core.Bool.{true, false}
 use mir.ValLaws.{toZ-ofZ}
 use mir.Syntax.{w32}
 use lib.IntN.{natAbs}
-use mathlib.Core.Path.{_≡_, refl, sym, ap, _∙_}
-use borrow.Author.Needs.{needs}
-use native.Mathlib.Omega.{arith}
+use mathlib.Core.Path.{_≡_, ap, _∙_}
 use Rattle.step_run.proofs.arith.cell.Statement.{statement}
 use Rattle.step_run.proofs.arith.cell.Tie as tie
 

@@ -1,9 +1,10 @@
+-- `arith::combine`: operation by operation. Assumes nothing.
 use Rattle.step_run.proofs.Laws.{is-of, not-of}
 use mir.ValLaws.{toZ-ofZ}
 use mir.Syntax.{w32, w64}
 use mir.Val.{ofZ, toZ}
 use lib.IntN.{negℤ, _+ℤ_, _-ℤ_, _*ℤ_, +ℤ-idl}
-use mathlib.Core.Path.{_≡_, refl, sym, ap, _∙_}
+use mathlib.Core.Path.{refl, ap, _∙_}
 use borrow.Author.Needs.{needs}
 use Rattle.step_run.proofs.arith.combine.Statement.{statement}
 use Rattle.step_run.proofs.arith.combine.Tie as tie

@@ -1,12 +1,11 @@
+-- `arith::fits`: both ends of 32 bits. Assumes nothing.
 use Rattle.step_run.proofs.Laws.{too-low, too-high, between}
 use lib.Signed.{ltZ}
-use lib.IntN.{ℤ, pos, negsuc}
+use lib.IntN.{pos, negsuc}
 use mathlib.Core.Bool.{true, false}
 use mir.ValLaws.{toZ-ofZ}
 use mir.Syntax.{w64}
-use mathlib.Core.Path.{_≡_, refl, sym, ap, _∙_}
-use borrow.Author.Needs.{needs}
-use native.Mathlib.Omega.{arith}
+use mathlib.Core.Path.{_≡_}
 use Rattle.step_run.proofs.arith.fits.Statement.{statement}
 use Rattle.step_run.proofs.arith.fits.Tie as tie
 

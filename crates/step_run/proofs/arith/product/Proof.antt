@@ -1,7 +1,6 @@
+-- `arith::product`, exact in 64 bits. Assumes nothing.
 use Rattle.algebra.proofs.Machine.{MV, arg, cast, cast-fits, mul, mul-fits, val}
 use mir.Syntax.{w64}
-use borrow.Author.Needs.{needs}
-use native.Mathlib.Omega.{arith}
 use Rattle.step_run.proofs.arith.product.Statement.{statement}
 use Rattle.step_run.proofs.arith.product.Tie as tie
 

@@ -1,7 +1,6 @@
+-- `arith::reads_two`. Assumes nothing.
 use Rattle.step_run.proofs.Laws.{is-of, not-of}
-use mathlib.Core.Path.{_≡_, refl, sym, ap, _∙_}
-use borrow.Author.Needs.{needs}
-use native.Mathlib.Omega.{arith}
+use mathlib.Core.Path.{refl}
 use Rattle.step_run.proofs.arith.reads_two.Statement.{statement}
 use Rattle.step_run.proofs.arith.reads_two.Tie as tie
 

@@ -1,7 +1,6 @@
+-- `arith::sum`, exact in 64 bits. Assumes nothing.
 use Rattle.algebra.proofs.Machine.{MV, arg, cast, cast-fits, add, add-fits, val}
 use mir.Syntax.{w64}
-use borrow.Author.Needs.{needs}
-use native.Mathlib.Omega.{arith}
 use Rattle.step_run.proofs.arith.sum.Statement.{statement}
 use Rattle.step_run.proofs.arith.sum.Tie as tie
 

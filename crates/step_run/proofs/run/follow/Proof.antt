@@ -1,11 +1,12 @@
+-- `run::follow`: what is left to run is what is left of the whole run. Assumes nothing.
 use Rattle.step_run.proofs.Laws.{stops, goes-counted, ends}
 use Rattle.steps.specs.Numbers.{decode}
-use Rattle.step_run.specs.Parts.{stepAt, state, tell}
+use Rattle.step_run.specs.Parts.{state}
 use Rattle.steps.specs.Outcome.{numbers}
-use Rattle.steps.specs.Steps.{State, muls, step, run}
+use Rattle.steps.specs.Steps.{run}
 use lib.ListN.{length, drop}
-use Prim.Native.Nat.{ℕ, _+_, _-_, _≤_, _<_}
-use mathlib.Core.Path.{_≡_, refl, sym, ap, subst, _∙_}
+use Prim.Native.Nat.{_-_, _≤_}
+use mathlib.Core.Path.{_≡_, refl, _∙_}
 use borrow.Author.Needs.{needs}
 use native.Mathlib.Omega.{arith}
 use Rattle.step_run.proofs.run.follow.Statement.{statement}

@@ -1,14 +1,14 @@
+-- `run::hand_over`. Assumes nothing.
 use Rattle.step_run.proofs.Laws.{readings-are}
 use Rattle.steps.specs.Numbers.{cellOf}
-use Rattle.step_run.specs.Parts.{readings}
 use Rattle.algebra.proofs.Lists.{Filled, fill-none, fill-first, filled}
 use lib.ListN.{length}
 use Rattle.algebra.specs.Lists.{at}
-use lib.IntN.{ℤ, pos}
+use lib.IntN.{ℤ}
 use mir.ValLaws.{toZ-ofZ}
-use mir.Syntax.{w16, w32}
-use Prim.Native.Nat.{ℕ, _+_, _-_, _≤_, _<_}
-use mathlib.Core.Path.{_≡_, refl, sym, ap, subst, _∙_}
+use mir.Syntax.{w32}
+use Prim.Native.Nat.{ℕ, _-_, _≤_}
+use mathlib.Core.Path.{_≡_, sym, ap, subst, _∙_}
 use borrow.Author.Needs.{needs}
 use native.Mathlib.Omega.{arith}
 use Rattle.step_run.proofs.run.hand_over.Statement.{statement}

@@ -1,11 +1,12 @@
+-- `run::held`. Assumes nothing.
 use Rattle.steps.specs.Numbers.{cellOf}
-use lib.ListN.{length, getD, List·getD-eq-default}
+use lib.ListN.{List·getD-eq-default}
 use Rattle.algebra.specs.Lists.{at}
-use lib.IntN.{ℤ, pos}
+use lib.IntN.{pos}
 use mir.ValLaws.{toZ-ofZ}
-use mir.Syntax.{w16, w32}
-use Prim.Native.Nat.{ℕ, _+_, _-_, _≤_, _<_}
-use mathlib.Core.Path.{_≡_, refl, sym, ap, subst, _∙_}
+use mir.Syntax.{w32}
+use Prim.Native.Nat.{_-_}
+use mathlib.Core.Path.{sym, ap, _∙_}
 use borrow.Author.Needs.{needs}
 use Rattle.step_run.proofs.run.held.Statement.{statement}
 use Rattle.step_run.proofs.run.held.Tie as tie

@@ -1,3 +1,4 @@
+-- `run::refusal`: 18, 6, 7 and 28 in this order. Assumes nothing.
 use borrow.Author.Tests.{le-ltb, lt-ltb, eq-eqb, ne-eqb}
 use Rattle.step_run.proofs.run.refusal.Statement.{statement}
 use Rattle.step_run.proofs.run.refusal.Tie as tie

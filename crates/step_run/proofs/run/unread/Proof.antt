@@ -1,16 +1,16 @@
+-- `run::unread`: the first output cell that is refused. Assumes nothing.
 use Rattle.step_run.proofs.Laws.{unread-at, unread-end}
 use Rattle.steps.specs.Numbers.{cellOf}
 use Rattle.step_run.specs.Parts.{outsRefusal}
 use borrow.Author.Tests.{le-ltb, lt-ltb}
 use lib.ListN.{length, drop, getD}
-use mathlib.Core.Bool.{true, false, cond}
+use mathlib.Core.Bool.{false, cond}
 use lib.Dec.{ltb}
 use Rattle.algebra.specs.Lists.{at}
-use lib.IntN.{ℤ, pos}
 use mir.ValLaws.{toZ-ofZ}
-use mir.Syntax.{w16, w32}
-use Prim.Native.Nat.{ℕ, _+_, _-_, _≤_, _<_}
-use mathlib.Core.Path.{_≡_, refl, sym, ap, subst, _∙_}
+use mir.Syntax.{w32}
+use Prim.Native.Nat.{_+_, _-_, _≤_}
+use mathlib.Core.Path.{_≡_, refl, sym, ap, _∙_}
 use borrow.Author.Needs.{needs}
 use native.Mathlib.Omega.{arith}
 use Rattle.step_run.proofs.run.unread.Statement.{statement}

@@ -1,3 +1,4 @@
+-- `step::inside`. Assumes nothing.
 use borrow.Author.Tests.{le-ltb, lt-ltb}
 use Rattle.step_run.proofs.step.inside.Statement.{statement}
 use Rattle.step_run.proofs.step.inside.Tie as tie

@@ -1,4 +1,4 @@
-use mathlib.Core.Path.{_≡_, refl, sym, ap, _∙_}
+-- `step::known`. Assumes nothing.
 use borrow.Author.Needs.{needs}
 use Rattle.step_run.proofs.step.known.Statement.{statement}
 use Rattle.step_run.proofs.step.known.Tie as tie

@@ -1,9 +1,10 @@
+-- `step::multiplies`. Assumes nothing.
 use Rattle.step_run.proofs.Laws.{is-of, not-of}
-use lib.IntN.{ℤ, pos}
+use lib.IntN.{ℤ}
 use Rattle.algebra.specs.Lists.{at}
-use mir.Val.{SFits, ofZ}
+use mir.Val.{SFits}
 use mir.Syntax.{w32}
-use mathlib.Core.Path.{_≡_, refl, sym, ap, _∙_}
+use mathlib.Core.Path.{refl}
 use borrow.Author.Needs.{needs}
 use native.Mathlib.Omega.{arith}
 use Rattle.step_run.proofs.step.multiplies.Statement.{statement}

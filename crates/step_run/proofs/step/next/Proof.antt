@@ -1,14 +1,12 @@
+-- `step::next`: the four numbers of a step. Assumes nothing.
 use Rattle.step_run.proofs.Laws.{step-moved}
 use Rattle.steps.specs.Numbers.{cellOf, stepOf}
-use Rattle.step_run.specs.Parts.{stepAt, state, tell}
-use Rattle.steps.specs.Outcome.{numbers}
-use Rattle.steps.specs.Steps.{Step, muls, step}
+use Rattle.step_run.specs.Parts.{stepAt}
 use Rattle.algebra.specs.Lists.{at}
-use lib.IntN.{ℤ, pos}
 use mir.ValLaws.{toZ-ofZ}
 use mir.Syntax.{w32}
 use Prim.Native.Nat.{_+_}
-use mathlib.Core.Path.{_≡_, refl, sym, ap, subst, _∙_}
+use mathlib.Core.Path.{ap, _∙_}
 use borrow.Author.Needs.{needs}
 use Rattle.step_run.proofs.step.next.Statement.{statement}
 use Rattle.step_run.proofs.step.next.Tie as tie

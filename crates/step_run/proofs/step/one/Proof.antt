@@ -1,3 +1,4 @@
+-- `step::one`: 28, then 17, then what `store` says. Assumes nothing.
 use native.Mathlib.Omega.{arith}
 use Rattle.step_run.proofs.Laws.{three, step-parts}
 use Rattle.steps.specs.Numbers.{cellOf, stepOf}
@@ -6,13 +7,12 @@ use Rattle.steps.specs.Outcome.{fits32}
 use Rattle.steps.specs.Steps.{ran, refused, muls}
 use Rattle.algebra.specs.Lists.{at}
 use lib.ListN.{set, getD}
-use lib.IntN.{ℤ, pos}
 use lib.Dec.{ltb}
 use mathlib.Core.Bool.{true, false, cond, _&&_}
 use mir.ValLaws.{toZ-ofZ}
 use mir.Syntax.{w32, w64}
 use Prim.Native.Nat.{_<_, _+_}
-use mathlib.Core.Path.{_≡_, refl, sym, ap, _∙_}
+use mathlib.Core.Path.{_≡_, sym, ap, _∙_}
 use borrow.Author.Needs.{needs}
 use Rattle.step_run.proofs.step.one.Statement.{statement}
 use Rattle.step_run.proofs.step.one.Tie as tie

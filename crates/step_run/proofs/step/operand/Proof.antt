@@ -1,8 +1,9 @@
+-- `step::operand`. Assumes nothing.
 use lib.IntN.{pos}
 use lib.ListN.{getD}
 use mir.ValLaws.{toZ-ofZ}
 use mir.Syntax.{w32}
-use mathlib.Core.Path.{_≡_, refl, sym, ap, _∙_}
+use mathlib.Core.Path.{_∙_}
 use borrow.Author.Needs.{needs}
 use Rattle.step_run.proofs.step.operand.Statement.{statement}
 use Rattle.step_run.proofs.step.operand.Tie as tie

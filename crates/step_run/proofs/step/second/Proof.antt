@@ -1,7 +1,8 @@
+-- `step::second`. Assumes nothing.
 use Rattle.steps.specs.Numbers.{cellOf}
 use mir.ValLaws.{toZ-ofZ}
 use mir.Syntax.{w32}
-use mathlib.Core.Path.{_≡_, refl, sym, ap, _∙_}
+use mathlib.Core.Path.{ap, _∙_}
 use borrow.Author.Needs.{needs}
 use Rattle.step_run.proofs.step.second.Statement.{statement}
 use Rattle.step_run.proofs.step.second.Tie as tie

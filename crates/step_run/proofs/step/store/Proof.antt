@@ -1,12 +1,9 @@
-use Rattle.step_run.specs.Parts.{state}
+-- `step::store`: 29, or the cell is written. Assumes nothing.
 use Rattle.steps.specs.Outcome.{fits32}
-use Rattle.steps.specs.Steps.{ran, refused}
-use lib.ListN.{set}
-use lib.IntN.{ℤ}
-use mathlib.Core.Bool.{true, false, cond}
+use mathlib.Core.Bool.{true, false}
 use mir.ValLaws.{toZ-ofZ}
 use mir.Syntax.{w32, w64}
-use mathlib.Core.Path.{_≡_, refl, sym, ap, _∙_}
+use mathlib.Core.Path.{_≡_, sym, ap, _∙_}
 use borrow.Author.Needs.{needs}
 use Rattle.step_run.proofs.step.store.Statement.{statement}
 use Rattle.step_run.proofs.step.store.Tie as tie
