@@ -24,8 +24,25 @@ pub struct Answer {
     pub rails: u32,
 }
 
+/// What writing a picture hands back: the number of the refusal or 0, and how long the picture is.
+#[repr(C)]
+#[derive(Clone, Copy, Debug, PartialEq, Eq)]
+pub struct Written {
+    pub number: u32,
+    pub bytes: u32,
+}
+
+/// What reading a picture hands back: the number of the refusal or 0, and the sides that its header gives.
+#[repr(C)]
+#[derive(Clone, Copy, Debug, PartialEq, Eq)]
+pub struct Picture {
+    pub number: u32,
+    pub width: u32,
+    pub height: u32,
+}
+
 mod c {
-    use super::{Answer, Shape};
+    use super::{Answer, Picture, Shape, Written};
 
     // Nothing holds these lines to the header or to the Rattle source but the tests.
     extern "C" {
@@ -76,6 +93,20 @@ mod c {
             coefficients: *mut i16,
             coefficients_len: usize,
         ) -> Answer;
+        pub fn hoengtila_picture_write(
+            width: u32,
+            height: u32,
+            residuals: *const i32,
+            residuals_len: usize,
+            file: *mut u8,
+            file_len: usize,
+        ) -> Written;
+        pub fn hoengtila_picture_read(
+            file: *const u8,
+            file_len: usize,
+            residuals: *mut i32,
+            residuals_len: usize,
+        ) -> Picture;
     }
 }
 
@@ -138,6 +169,36 @@ pub fn block_forward(shape: Shape, residuals: &[i16], coefficients: &mut [i16]) 
     unsafe {
         c::hoengtila_block_forward(
             shape,
+            input.as_ptr(),
+            input.len(),
+            output.as_mut_ptr(),
+            output.len(),
+        )
+    }
+}
+
+/// A block of residuals, which stand row by row, as a graymap at the start of `file`.
+#[inline]
+pub fn picture_write(width: u32, height: u32, residuals: &[i32], file: &mut [u8]) -> Written {
+    let (input, output) = (residuals, file);
+    unsafe {
+        c::hoengtila_picture_write(
+            width,
+            height,
+            input.as_ptr(),
+            input.len(),
+            output.as_mut_ptr(),
+            output.len(),
+        )
+    }
+}
+
+/// The residuals of a graymap, row by row.
+#[inline]
+pub fn picture_read(file: &[u8], residuals: &mut [i32]) -> Picture {
+    let (input, output) = (file, residuals);
+    unsafe {
+        c::hoengtila_picture_read(
             input.as_ptr(),
             input.len(),
             output.as_mut_ptr(),

@@ -1,13 +1,19 @@
-// The library for C and Rust: each public function of `transform` under the name and with the arguments that
+// The library for C and Rust: each public function of `transform` and of `picture` under the name and with the arguments that
 // include/hoengtila.h declares. A wrapper is one call and has the contract of what it calls; none has a `requires`, so
 // whatever numbers and lengths a caller hands over, the contract says what comes back. Read it beside the header.
 use meaning::Answer;
 use meaning::Shape;
+use picture::read::Picture;
+use picture::write::Written;
 ghost use mathlib.Core.Path.{_≡_};
+ghost use mathlib.Core.List.{List};
+ghost use Prim.Native.Nat.{ℕ};
+ghost use lib.IntN.{ℤ};
 ghost use Rattle.meaning.specs.Answer.{Outcome, forwardLineOutcome, inverseLineOutcome};
 ghost use Rattle.meaning.specs.Inverse.{inverseOutcome};
 ghost use Rattle.meaning.specs.Forward.{forwardOutcome};
 ghost use Rattle.transform.specs.Line.{weightOrZero};
+ghost use Rattle.picture.specs.Outcomes.{writeOutcome, readOutcome};
 
 #[no_mangle]
 pub extern "C" fn hoengtila_weight(kind: u32, n: u32, i: u32, j: u32) -> i32
@@ -74,4 +80,23 @@ pub extern "C" fn hoengtila_block_forward(
     ensures { λ r. ⌜ _≡_ {A = Outcome} (r, now (coefficients .exit)) (forwardOutcome shape (now (residuals .entry)) (now (coefficients .entry))) ⌝ }
 {
     transform::block::forward(shape, residuals, coefficients)
+}
+
+#[no_mangle]
+pub extern "C" fn hoengtila_picture_write(
+    width: u32,
+    height: u32,
+    residuals: &[i32],
+    file: &mut [u8],
+) -> Written
+    ensures { λ r. ⌜ _≡_ {A = Written × List ℕ} (r, now (file .exit)) (writeOutcome width height (now (residuals .entry)) (now (file .entry))) ⌝ }
+{
+    picture::write::write(width, height, residuals, file)
+}
+
+#[no_mangle]
+pub extern "C" fn hoengtila_picture_read(file: &[u8], residuals: &mut [i32]) -> Picture
+    ensures { λ r. ⌜ _≡_ {A = Picture × List ℤ} (r, now (residuals .exit)) (readOutcome (now (file .entry)) (now (residuals .entry))) ⌝ }
+{
+    picture::read::read(file, residuals)
 }

@@ -48,8 +48,8 @@ fn answer(number: u32, width: u32, height: u32) -> Picture
 }
 
 /// Reads a picture into a block of residuals, row by row. Any bytes and lengths.
-pub fn read(file: &[u8], out: &mut [i32]) -> Picture
-    ensures { λ r. ⌜ _≡_ {A = Picture × List ℤ} (r, now (out .exit)) (readOutcome (now (file .entry)) (now (out .entry))) ⌝ }
+pub fn read(file: &[u8], residuals: &mut [i32]) -> Picture
+    ensures { λ r. ⌜ _≡_ {A = Picture × List ℤ} (r, now (residuals .exit)) (readOutcome (now (file .entry)) (now (residuals .entry))) ⌝ }
 {
     let found = header_of(file);
     let start = found.start;
@@ -63,9 +63,9 @@ pub fn read(file: &[u8], out: &mut [i32]) -> Picture
     if file.len() - start != 2 * count {
         return answer(25, width, height);
     }
-    if out.len() != count {
+    if residuals.len() != count {
         return answer(7, width, height);
     }
-    read_samples(&file[start..], out);
+    read_samples(&file[start..], residuals);
     answer(0, width, height)
 }

@@ -29,7 +29,7 @@ returns : tie.Need-returns
 returns c =
     let a = c .before .before .before .before .before .before .args in
     let file = now (a .file) in
-    let out = now (a .out) in
+    let out = now (a .residuals) in
     ap (λ (x : Picture). (x, out)) (c .answer .ensures) ∙ sym (no-picture file out (c .before .before .before .before .header-of .result) (c .before .before .before .before .header-of .ensures .0) (sym (c .before .before .is-picture .ensures) ∙ not-true _ (c .before .if1 .taken)))
 
 cast-count : tie.Need-cast-count
@@ -54,7 +54,7 @@ returns-2 : tie.Need-returns-2
 returns-2 c =
     let a = c .before .before .before .before .before .before .before .args in
     let file = now (a .file) in
-    let out = now (a .out) in
+    let out = now (a .residuals) in
     ap (λ (x : Picture). (x, out)) (c .answer2 .ensures) ∙ sym (no-count file out (c .before .before .before .before .before .header-of .result) (c .before .before .before .before .before .header-of .ensures .0) (sym (c .before .before .before .is-picture .ensures) ∙ not-false _ (c .before .before .if1 .left)) (λ q. c .before .if2 .taken (sym (length-drop (c .before .before .before .before .before .header-of .result .start) file) ∙ q)))
 
 answer-requires-3 : tie.Need-answer-requires-3
@@ -64,7 +64,7 @@ returns-3 : tie.Need-returns-3
 returns-3 c =
     let a = c .before .before .before .before .before .before .before .before .args in
     let file = now (a .file) in
-    let out = now (a .out) in
+    let out = now (a .residuals) in
     ap (λ (x : Picture). (x, out)) (c .answer3 .ensures) ∙ sym (no-output file out (c .before .before .before .before .before .before .header-of .result) (c .before .before .before .before .before .before .header-of .ensures .0) (sym (c .before .before .before .before .is-picture .ensures) ∙ not-false _ (c .before .before .before .if1 .left)) (length-drop (c .before .before .before .before .before .before .header-of .result .start) file ∙ c .before .before .if2 .left) (c .before .if3 .taken))
 
 sub-read-samples : tie.Need-sub-read-samples
@@ -89,7 +89,7 @@ returns-4 : tie.Need-returns-4
 returns-4 c =
     let a = c .before .before .before .before .before .before .before .before .before .before .before .before .args in
     let file = now (a .file) in
-    let out = now (a .out) in
+    let out = now (a .residuals) in
     let f = c .before .before .before .before .before .before .before .before .before .before .header-of .result in
     let long = length-drop (f .start) file in
     let part = ap (λ (k : ℕ). take k (drop (f .start) file)) (sym long) ∙ take-length (drop (f .start) file) in
