@@ -3,8 +3,8 @@ use mathlib.Core.Path.{_≡_}
 use mathlib.Core.List.{List}
 use Prim.Native.Nat.{ℕ}
 use Rattle.algebra.proofs.Unique.{one}
-use Rattle.block_picture.specs.declared.shown.Shown.{Shown}
+use Rattle.block_picture.specs.declared.shown.View.{View}
 use Rattle.block_picture.specs.Shown.{shownOutcome}
 
-pub shown-one : (file : List ℕ) (n : ℕ) (out : List ℕ) {x y : Shown × List ℕ} → x ≡ shownOutcome file n out → y ≡ shownOutcome file n out → x ≡ y
+pub shown-one : (file : List ℕ) (n : ℕ) (out : List ℕ) {x y : View × List ℕ} → x ≡ shownOutcome file n out → y ≡ shownOutcome file n out → x ≡ y
 shown-one file n out = one

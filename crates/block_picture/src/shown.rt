@@ -16,16 +16,16 @@ ghost use Rattle.block_picture.specs.Shown.{refusedAt, drawnAt, inverseS
 
 /// What is handed back: the number of the refusal or 0, the offset of the field, and how long the picture is: 0 where there is
 /// none, and beside number 0 where the file has no such block.
-pub struct Shown {
+pub struct View {
     pub number: u32,
     pub offset: usize,
     pub bytes: u32,
 }
 
-fn refused(number: u32, offset: usize) -> Shown
+fn refused(number: u32, offset: usize) -> View
     ensures { λ r. ⌜ r ≡ refusedAt number offset ⌝ }
 {
-    Shown {
+    View {
         number,
         offset,
         bytes: 0,
@@ -33,13 +33,13 @@ fn refused(number: u32, offset: usize) -> Shown
 }
 
 // Draws residuals that stand in a block of a shape.
-fn drawn(shape: Shape, residuals: &[i32], offset: usize, picture: &mut [u8]) -> Shown
-    ensures { λ r. ⌜ _≡_ {A = Shown × List ℕ} (r, now (picture .exit)) (drawnAt shape (now (residuals .entry)) offset (now (picture .entry))) ⌝ }
+fn drawn(shape: Shape, residuals: &[i32], offset: usize, picture: &mut [u8]) -> View
+    ensures { λ r. ⌜ _≡_ {A = View × List ℕ} (r, now (picture .exit)) (drawnAt shape (now (residuals .entry)) offset (now (picture .entry))) ⌝ }
 {
     let width = shape.width;
     let height = shape.height;
     let written = picture::write::write(width, height, residuals, picture);
-    Shown {
+    View {
         number: written.number,
         offset,
         bytes: written.bytes,
@@ -53,9 +53,9 @@ fn inverse_drawn(
     residuals: &mut [i32],
     offset: usize,
     picture: &mut [u8],
-) -> Shown
+) -> View
     requires { ⌜ now residuals ≡ blank shape ⌝ }
-    ensures { λ r. ⌜ _≡_ {A = Shown × List ℕ} (r, now (picture .exit)) (inverseShown shape (now (coefficients .entry)) offset (now (picture .entry))) ⌝ }
+    ensures { λ r. ⌜ _≡_ {A = View × List ℕ} (r, now (picture .exit)) (inverseShown shape (now (coefficients .entry)) offset (now (picture .entry))) ⌝ }
 {
     let answer = transform::block::inverse(shape, coefficients, residuals);
     let number = answer.number;
@@ -80,9 +80,9 @@ fn wide_zeros() -> [i32; 1024]
 }
 
 // "Tag 02: coefficients": the residuals of the inverse.
-fn inverse_shown(shape: Shape, body: &[u8], offset: usize, picture: &mut [u8]) -> Shown
+fn inverse_shown(shape: Shape, body: &[u8], offset: usize, picture: &mut [u8]) -> View
     requires { ⌜ Fits shape (now body) ⌝ }
-    ensures { λ r. ⌜ _≡_ {A = Shown × List ℕ} (r, now (picture .exit)) (inverseShown shape (numbers (now (body .entry))) offset (now (picture .entry))) ⌝ }
+    ensures { λ r. ⌜ _≡_ {A = View × List ℕ} (r, now (picture .exit)) (inverseShown shape (numbers (now (body .entry))) offset (now (picture .entry))) ⌝ }
 {
     let n = body.len() / 2;
     let mut coefficients = narrow_zeros();
@@ -98,9 +98,9 @@ fn inverse_shown(shape: Shape, body: &[u8], offset: usize, picture: &mut [u8]) -
 }
 
 // "Tag 03: residuals": those given.
-fn forward_shown(shape: Shape, body: &[u8], offset: usize, picture: &mut [u8]) -> Shown
+fn forward_shown(shape: Shape, body: &[u8], offset: usize, picture: &mut [u8]) -> View
     requires { ⌜ Fits shape (now body) ⌝ }
-    ensures { λ r. ⌜ _≡_ {A = Shown × List ℕ} (r, now (picture .exit)) (drawnAt shape (numbers (now (body .entry))) offset (now (picture .entry))) ⌝ }
+    ensures { λ r. ⌜ _≡_ {A = View × List ℕ} (r, now (picture .exit)) (drawnAt shape (numbers (now (body .entry))) offset (now (picture .entry))) ⌝ }
 {
     let n = body.len() / 2;
     let mut residuals = wide_zeros();
@@ -110,8 +110,8 @@ fn forward_shown(shape: Shape, body: &[u8], offset: usize, picture: &mut [u8]) -
 
 /// Puts the picture of a block at the start of `picture`: that of the n-th data field of a file, of which the first is 1. Any
 /// bytes and lengths.
-pub fn shown(file: &[u8], n: usize, picture: &mut [u8]) -> Shown
-    ensures { λ r. ⌜ _≡_ {A = Shown × List ℕ} (r, now (picture .exit)) (shownOutcome (now (file .entry)) n (now (picture .entry))) ⌝ }
+pub fn shown(file: &[u8], n: usize, picture: &mut [u8]) -> View
+    ensures { λ r. ⌜ _≡_ {A = View × List ℕ} (r, now (picture .exit)) (shownOutcome (now (file .entry)) n (now (picture .entry))) ⌝ }
 {
     let cursor = pick(file, n);
     let step = cursor.step(file);
