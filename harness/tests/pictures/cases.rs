@@ -108,7 +108,11 @@ fn refused_writings() {
         };
         let (width, height) = (side(random), side(random));
         let area = u64::from(width) * u64::from(height);
-        let right = if (1..=1024).contains(&area) { area as i64 } else { 16 };
+        let right = if (1..=1024).contains(&area) {
+            area as i64
+        } else {
+            16
+        };
         let near = |random: &mut Random, right: i64| match random.below(4) {
             0 => random.choose(&[0, right - 1, right + 1, right * 2]).max(0) as usize,
             _ => right as usize,
@@ -151,12 +155,16 @@ fn gap(random: &mut Random) -> Vec<u8> {
 
 /// A number, now and then with zeros before it.
 fn spelt(random: &mut Random, n: u32) -> Vec<u8> {
-    let zeros = if random.once_in(5) { random.below(4) } else { 0 };
+    let zeros = if random.once_in(5) {
+        random.below(4)
+    } else {
+        0
+    };
     format!("{}{n}", "0".repeat(zeros)).into_bytes()
 }
 
 /// The header of a graymap in any spelling.
-fn header(random: &mut Random, width: u32, height: u32) -> Vec<u8> {
+pub fn header(random: &mut Random, width: u32, height: u32) -> Vec<u8> {
     let mut header = b"P5".to_vec();
     for n in [width, height, 65535] {
         header.extend(gap(random));
