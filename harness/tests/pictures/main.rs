@@ -4,5 +4,6 @@
 //! directly. `tests/pictures` at the root of the repository gives both.
 
 mod cases;
+mod program;
 mod subject;
 mod tools;
