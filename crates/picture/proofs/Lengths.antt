@@ -1,17 +1,17 @@
 -- How long a picture is, and what the output holds once it is written. Assumes nothing.
 use mathlib.Core.Path.{_≡_, sym, ap, _∙_}
 use mathlib.Core.Bool.{true}
-use mathlib.Core.List.{List, [], _∷_, _++_}
+use mathlib.Core.List.{List, _++_}
 use Prim.Native.Nat.{ℕ, _+_, _*_, _≤_}
 use native.Mathlib.Nat.{mul-le-mul}
 use native.Mathlib.Omega.{arith}
 use lib.IntN.{ℤ}
-use lib.ListN.{length, take, drop, length-append, take-append-drop}
+use lib.ListN.{length, drop, length-append, take-append-drop}
 use Rattle.meaning.specs.Shape.{isSize}
 use Rattle.meaning.proofs.Cases.{size-cases, size-in}
 use Rattle.block_text.specs.Text.{decimal}
 use Rattle.block_text.specs.Wrote.{Wrote}
-use Rattle.picture.specs.Picture.{number, headerText, samples, pictureOf}
+use Rattle.picture.specs.Picture.{headerText, samples, pictureOf}
 use Rattle.picture.proofs.Samples.{samples-length}
 
 least : (n : ℕ) → isSize n ≡ true → 4 ≤ n

@@ -2,7 +2,7 @@
 use mathlib.Core.Path.{_≡_, refl, sym, ap, _∙_}
 use mathlib.Core.Bool.{Bool, true, false, cond, _||_}
 use mathlib.Core.List.{List, [], _∷_, _++_}
-use Prim.Native.Nat.{ℕ, zero, suc, _+_, _*_, _/_, _%_, _<_}
+use Prim.Native.Nat.{ℕ, zero, suc, _+_, _*_, _<_}
 use native.Mathlib.Numerals.{add-one}
 use native.Mathlib.Omega.{arith}
 use lib.IntN.{ℤ, pos}
@@ -10,7 +10,7 @@ use lib.ListN.{length, take, drop, getD}
 use lib.Seq.{take-suc, take-length, drop-cons}
 use Rattle.block_text.specs.Wrote.{Wrote}
 use Rattle.block_text.proofs.Writing.{andThen, retext, within}
-use Rattle.picture.specs.Picture.{outside, anyOutside, level, samples, residuals}
+use Rattle.picture.specs.Picture.{outside, anyOutside, samples, residuals}
 use Rattle.picture.proofs.Levels.{neither, sample-back}
 
 pub samples-back : (zs : List ℤ) → anyOutside zs ≡ false → residuals (samples zs) ≡ zs

@@ -11,8 +11,6 @@ use Rattle.meaning.specs.Shape.{isSize}
 use Rattle.meaning.specs.Answer.{test}
 use Rattle.picture.specs.declared.write.Written.{Written}
 use Rattle.picture.specs.declared.read.Picture.{Picture}
-use Rattle.picture.specs.declared.header.Header.{Header}
-use Rattle.picture.specs.declared.header.Found.{Found}
 use Rattle.picture.specs.Picture.{anyOutside, pictureOf, residuals}
 use Rattle.picture.specs.Header.{headerOf, isPicture}
 

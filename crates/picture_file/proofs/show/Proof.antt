@@ -1,7 +1,6 @@
 -- `show` meets its contract. Assumes nothing.
 use mathlib.Core.Path.{sym}
 use lib.Seq.{length-take-le}
-use native.Mathlib.Omega.{arith}
 use borrow.Author.Needs.{needs}
 use Rattle.picture_file.proofs.show.Statement.{statement}
 use Rattle.picture_file.proofs.show.Tie as tie

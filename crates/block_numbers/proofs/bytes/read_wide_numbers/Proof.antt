@@ -5,7 +5,7 @@ use Prim.Native.Nat.{_+_, _-_, _≤_, _<_}
 use lib.Dec.{lit<}
 use lib.ListN.{length, take, drop, length-set}
 use mir.Syntax.{w16, w32}
-use mir.Val.{SFits, toZ, ofZ}
+use mir.Val.{toZ, ofZ}
 use denote.Ref.{now}
 use Rattle.algebra.proofs.Word.{arg, cast-fits, castV}
 use Rattle.block_numbers.specs.Numbers.{signed16, numbers}

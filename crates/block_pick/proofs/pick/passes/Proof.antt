@@ -1,9 +1,6 @@
 -- `passes` meets its contract. Assumes nothing.
 use borrow.Author.Tests.{eq-eqb, ne-eqb}
-use lib.Dec.{eqb}
 use Rattle.block_pick.specs.Pick.{passes}
-use borrow.Author.Needs.{needs}
-use native.Mathlib.Omega.{arith}
 use Rattle.block_pick.proofs.pick.passes.Statement.{statement}
 use Rattle.block_pick.proofs.pick.passes.Tie as tie
 

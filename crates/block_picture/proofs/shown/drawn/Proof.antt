@@ -3,7 +3,6 @@ use mathlib.Core.Path.{ap}
 use mathlib.Core.List.{List}
 use Prim.Native.Nat.{ℕ}
 use Rattle.picture.specs.declared.write.Written.{Written}
-use Rattle.block_picture.specs.declared.shown.View.{View}
 use borrow.Author.Needs.{needs}
 use Rattle.block_picture.proofs.shown.drawn.Statement.{statement}
 use Rattle.block_picture.proofs.shown.drawn.Tie as tie

@@ -1,10 +1,10 @@
 -- `forward_shown` meets its contract. Assumes nothing.
-use mathlib.Core.Path.{_≡_, ap, _∙_}
+use mathlib.Core.Path.{ap, _∙_}
 use mathlib.Core.List.{List}
-use Prim.Native.Nat.{_-_, _/_, _≤_}
+use Prim.Native.Nat.{_-_}
 use native.Mathlib.Omega.{arith}
 use lib.IntN.{ℤ}
-use lib.ListN.{length, take, length-append}
+use lib.ListN.{length, length-append}
 use denote.Ref.{now}
 use Rattle.block_picture.specs.Shown.{drawnAt}
 use Rattle.block_run.proofs.Turns.{half-most, half-long, read-part}

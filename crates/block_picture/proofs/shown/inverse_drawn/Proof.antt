@@ -1,7 +1,5 @@
 -- `inverse_drawn` meets its contract. Assumes nothing.
 use mathlib.Core.Path.{ap, _∙_}
-use mathlib.Core.List.{List}
-use Prim.Native.Nat.{ℕ}
 use denote.Ref.{now}
 use Rattle.block_picture.specs.declared.shown.View.{View}
 use Rattle.block_picture.proofs.Drawing.{inverse-refused, inverse-drawn}

@@ -1,12 +1,11 @@
 -- `inverse_shown` meets its contract. Assumes nothing.
-use mathlib.Core.Path.{_≡_, ap, _∙_}
+use mathlib.Core.Path.{ap, _∙_}
 use mathlib.Core.List.{List}
 use Prim.Native.Nat.{_-_, _/_, _≤_}
 use native.Mathlib.Omega.{arith}
 use lib.IntN.{ℤ}
-use lib.ListN.{length, take, length-append}
+use lib.ListN.{length, length-append}
 use denote.Ref.{now}
-use Rattle.algebra.proofs.Lists.{part-long}
 use Rattle.block_picture.specs.Shown.{inverseShown}
 use Rattle.block_run.proofs.Turns.{half, half-most, half-long, zero-part, read-part}
 use borrow.Author.Needs.{needs}

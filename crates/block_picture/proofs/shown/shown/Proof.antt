@@ -6,7 +6,7 @@ use Prim.Native.Nat.{ℕ}
 use denote.Ref.{now}
 use Rattle.block_file.specs.declared.cursor.Step.{Step}
 use Rattle.block_file.specs.Field.{isData}
-use Rattle.block_file.specs.Cursor.{foundAt, bytesOf}
+use Rattle.block_file.specs.Cursor.{foundAt}
 use Rattle.block_numbers.specs.Numbers.{numbers}
 use Rattle.block_run.specs.Does.{Fits}
 use Rattle.block_picture.specs.declared.shown.View.{View}

@@ -1,8 +1,6 @@
 -- `wide_zeros` meets its contract. Assumes nothing.
 use mathlib.Core.Path.{refl}
 use Rattle.algebra.proofs.Lists.{zeros-at}
-use borrow.Author.Needs.{needs}
-use native.Mathlib.Omega.{arith}
 use Rattle.block_picture.proofs.shown.wide_zeros.Statement.{statement}
 use Rattle.block_picture.proofs.shown.wide_zeros.Tie as tie
 

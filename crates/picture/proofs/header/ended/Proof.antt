@@ -1,7 +1,5 @@
 -- `ended` meets its contract. Assumes nothing.
 use borrow.Author.Tests.{lt-ltb, le-ltb}
-use borrow.Author.Needs.{needs}
-use native.Mathlib.Omega.{arith}
 use Rattle.picture.proofs.header.ended.Statement.{statement}
 use Rattle.picture.proofs.header.ended.Tie as tie
 

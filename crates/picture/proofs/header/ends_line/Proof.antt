@@ -1,7 +1,5 @@
 -- `ends_line` meets its contract. Assumes nothing.
 use borrow.Author.Tests.{eq-eqb, ne-eqb}
-use borrow.Author.Needs.{needs}
-use native.Mathlib.Omega.{arith}
 use Rattle.picture.proofs.header.ends_line.Statement.{statement}
 use Rattle.picture.proofs.header.ends_line.Tie as tie
 

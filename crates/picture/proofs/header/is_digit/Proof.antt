@@ -1,7 +1,5 @@
 -- `is_digit` meets its contract. Assumes nothing.
 use borrow.Author.Tests.{le-leb, lt-leb}
-use borrow.Author.Needs.{needs}
-use native.Mathlib.Omega.{arith}
 use Rattle.picture.proofs.header.is_digit.Statement.{statement}
 use Rattle.picture.proofs.header.is_digit.Tie as tie
 

@@ -1,6 +1,5 @@
 -- `residual` meets its contract. Assumes nothing.
 use native.Mathlib.Omega.{arith}
-use mathlib.Core.Path.{_≡_}
 use Prim.Native.Nat.{ℕ, _+_, _*_, _<_}
 use mir.Syntax.{w32}
 use lib.IntN.{pos}

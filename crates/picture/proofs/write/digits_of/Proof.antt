@@ -6,7 +6,6 @@ use lib.ListN.{length}
 use Rattle.meaning.specs.Shape.{isSize}
 use Rattle.meaning.proofs.Cases.{size-cases}
 use Rattle.block_text.specs.Text.{digits, decimal}
-use borrow.Author.Needs.{needs}
 use native.Mathlib.Omega.{arith}
 use Rattle.picture.proofs.write.digits_of.Statement.{statement}
 use Rattle.picture.proofs.write.digits_of.Tie as tie

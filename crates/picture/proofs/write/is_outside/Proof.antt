@@ -1,8 +1,6 @@
 -- `is_outside` meets its contract. Assumes nothing.
 use mir.Syntax.{w32}
 use mir.ValLaws.{toZ-ofZ}
-use borrow.Author.Needs.{needs}
-use native.Mathlib.Omega.{arith}
 use Rattle.picture.proofs.write.is_outside.Statement.{statement}
 use Rattle.picture.proofs.write.is_outside.Tie as tie
 

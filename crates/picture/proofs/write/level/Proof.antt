@@ -1,9 +1,8 @@
 -- `level` meets its contract. Assumes nothing.
-use mathlib.Core.Path.{_≡_, refl}
+use mathlib.Core.Path.{refl}
 use mir.Syntax.{w32}
 use Rattle.algebra.proofs.Machine.{MV, arg≤, lit, add, add-fits, val}
 use Rattle.picture.proofs.Levels.{inside}
-use borrow.Author.Needs.{needs}
 use native.Mathlib.Omega.{arith}
 use Rattle.picture.proofs.write.level.Statement.{statement}
 use Rattle.picture.proofs.write.level.Tie as tie

@@ -3,7 +3,7 @@ use mathlib.Core.Path.{ap, _∙_}
 use mir.Syntax.{w32}
 use mir.ValLaws.{toZ-ofZ}
 use Rattle.picture.specs.Picture.{level, samples}
-use mathlib.Core.List.{List, [], _∷_}
+use mathlib.Core.List.{[], _∷_}
 use Prim.Native.Nat.{ℕ, _/_, _%_}
 use Rattle.block_text.proofs.Writing.{andThen, retext}
 use borrow.Author.Needs.{needs}

@@ -1,15 +1,8 @@
 -- `write` meets its contract. Assumes nothing.
-use mathlib.Core.Path.{_≡_, refl, sym, ap, _∙_}
-use mathlib.Core.Bool.{true}
-use mathlib.Core.List.{List}
-use Prim.Native.Nat.{ℕ, _*_, _≤_}
+use mathlib.Core.Path.{sym, ap, _∙_}
 use native.Mathlib.Omega.{arith}
-use native.Mathlib.Nat.{lt-of-le-of-lt, mul-le-mul}
 use borrow.Author.Tests.{not-true, not-false}
-use lib.Dec.{lit<}
-use lib.ListN.{length}
 use denote.Ref.{now}
-use Rattle.meaning.specs.Shape.{isSize}
 use Rattle.block_text.proofs.Writing.{andThen}
 use Rattle.picture.specs.declared.write.Written.{Written}
 use Rattle.picture.specs.Picture.{pictureOf}
