@@ -50,6 +50,22 @@ fn whole_case() -> Vec<u8> {
     [four(), inverse_of_64()].concat()
 }
 
+/// An inverse of three coefficients, and a forward of residuals that rise and start anew: what pictures show.
+fn waves() -> [Vec<u8>; 4] {
+    let mut coefficients = alone(1024, 0, 900);
+    coefficients[37] = -1300;
+    coefficients[98] = 2400;
+    let rising: Vec<i16> = (0..64)
+        .map(|k| (28 * (k % 8) + 52 * (k / 8)) % 256 - 128)
+        .collect();
+    [
+        shape(32, 32, 1, 2, 8),
+        data(TAG_COEFFICIENTS, &coefficients),
+        shape(8, 8, 1, 1, 8),
+        data(TAG_RESIDUALS, &rising),
+    ]
+}
+
 // ---- cases
 
 fn accepted() -> Vec<Case> {
@@ -63,6 +79,7 @@ fn accepted() -> Vec<Case> {
             "both_directions",
             &[four(), data(TAG_RESIDUALS, &rising), inverse_of_64()],
         ),
+        case("waves", &waves()),
         case(
             "rails",
             &[

@@ -9,11 +9,12 @@ use std::path::Path;
 use std::{env, fs, io};
 
 /// The cases that the examples show.
-const EXAMPLES: [&str; 4] = [
+const EXAMPLES: [&str; 5] = [
     "whole_case",
     "both_directions",
     "shape_replaced",
     "refused_after_lines",
+    "waves",
 ];
 
 fn write_cases(folder: &Path, cases: &[Case]) -> io::Result<()> {
