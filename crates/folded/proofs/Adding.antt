@@ -4,7 +4,7 @@ use mathlib.Core.List.{List, [], _∷_}
 use Prim.Native.Nat.{ℕ, _+_, _*_, _≤_, _<_}
 use native.Mathlib.Omega.{arith}
 use native.Mathlib.Nat.{le-trans, mul-le-mul-right, zero-add}
-use lib.ListN.{replicate, length-replicate}
+use lib.ListN.{length, replicate, length-replicate}
 use lib.IntN.{ℤ, pos, natAbs, _+ℤ_, _*ℤ_, +ℤ-comm}
 use Rattle.algebra.specs.Lists.{at}
 use Rattle.algebra.proofs.Lists.{Filled, zeros-at}
@@ -38,17 +38,30 @@ row-summed {n} {m} {i} {x} {rows} {a} s p =
 -- all places of a row are done
 pub row-done : {n m i g : ℕ} {w x a b : List ℤ} {v : ℤ} (u : ℤ) → Adding n m i w x a → m ≤ g → Filled 0 g b a (λ k. at a k +ℤ S n i k *ℤ v) → v ≡ u → natAbs u ≤ 32768
     → Added n m i u a b × Adding n m (i + 1) w x b
-row-done {n} {m} {i} {g} {a = a} {b = b} u p h l e s =
-    (
-      record { are = is },
-      record {
-        few = p .few;
-        fits = p .fits;
-        table = p .table;
-        inputs = p .inputs;
-        sums = record { long = l .long ∙ p .sums .long; small = λ k q. subst (λ (z : ℤ). natAbs z ≤ (i + 1) * 2949120) (sym (is k q)) (grown 32768 (at a k) (S n i k) u i (p .sums .small k q) (S-size n i k) s) };
-      },
-    )
+row-done {n} {m} {i} {g} {a = a} {b = b} u p h l e s = (
+  record { are = is },
+  record {
+    few = p .few;
+    fits = p .fits;
+    table = p .table;
+    inputs = p .inputs;
+    sums = record { long = l .long ∙ p .sums .long; small = λ k q. subst (λ (z : ℤ). natAbs z ≤ (i + 1) * 2949120) (sym (is k q)) (grown 32768 (at a k) (S n i k) u i (p .sums .small k q) (S-size n i k) s) };
+  },
+)
   where
     is : (k : ℕ) → k < m → at b k ≡ at a k +ℤ S n i k *ℤ u
     is k q = ap (at b) (sym (zero-add k)) ∙ l .done k (omega arith) ∙ ap (λ (z : ℤ). at a k +ℤ S n i k *ℤ z) e
+
+-- ---- a class that starts from zeros
+pub zero-summed : {n m : ℕ} {x : ℕ → ℤ} (l : ℕ) {a : List ℤ} → a ≡ replicate l (pos 0) → Summed n m x [] a
+zero-summed {n} {m} {x} l e = subst (Summed n m x []) (sym e) (none-summed n m l x)
+
+-- the sums after the last row
+pub sums-small : {n m i : ℕ} {w x a : List ℤ} → i ≤ 32 → Adding n m i w x a → Small m 94371840 a
+sums-small {i = i} h p = larger 94371840 (mul-le-mul-right 2949120 h) (p .sums)
+
+pub adding-long : {n m i j : ℕ} {w x a b : List ℤ} → Adding n m i w x a → Adding n m j w x b → length b ≡ length a
+adding-long p q = q .sums .long ∙ sym (p .sums .long)
+
+pub adding-none : (m : ℕ) {n : ℕ} {w x : List ℤ} → n ≤ 32 → m ≤ n → Table n w → length x ≡ n → Adding n m 0 w x (replicate m (pos 0))
+adding-none m f h t l = record { few = f; fits = h; table = t; inputs = l; sums = nothing m (0 * 2949120) }

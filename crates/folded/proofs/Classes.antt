@@ -18,7 +18,7 @@ use Rattle.algebra.proofs.Sum.{sum-cong, sum-add}
 use Rattle.algebra.proofs.Table.{allTo, allTo-at, and-left, and-right, eqZ→eq}
 use Rattle.meaning.specs.Weights.{S, fold, first}
 use Rattle.folded.specs.Folds.{Part, folded, coefficient, half, classOf, leading, periodic, leadingInto, periodicInto, width, parts, into}
-use Rattle.folded.specs.Steps.{Stretched, Sized, shortSum, joined}
+use Rattle.folded.specs.Steps.{Sized, shortSum, only, Class, joined}
 use Rattle.folded.proofs.Law.{below, folded-sum, fold-inputs, fold-sums}
 
 -- ---- the tests of a class
@@ -36,10 +36,6 @@ turnsRound n p q c g = below n (into n p q c g) && allTo n (sameSide n p q c g)
 
 abbrev pub folds : ℕ → ℕ → ℕ → ℕ → Bool
 folds n p q c = allTo n (placeFolds n p q c) && allTo (width p q c) (turnsRound n p q c)
-
--- the inputs of a class, and 0 elsewhere
-abbrev pub only : ℕ → ℕ → ℕ → (ℕ → ℤ) → ℕ → ℤ
-only p q c x i = cond (eqb (classOf p q i) c) (x i) (pos 0)
 
 pub record Shared (n p q : ℕ) : Type 0 where
   pub size : Sized n p q
@@ -114,10 +110,6 @@ three p q i x = go (eqb (i % p) (half p)) (eqb (i % q) (half q)) (x i)
     go true b z = sym (+ℤ-idl (z +ℤ pos 0) ∙ +ℤ-idr z)
     go false true z = sym (+ℤ-idl (pos 0 +ℤ z) ∙ +ℤ-idl z)
     go false false z = sym (+ℤ-idr z)
-
--- the sums of a class of rows, over its first places
-pub record Class (n p q c : ℕ) (x : ℕ → ℤ) (a : List ℤ) : Type 0 where
-  pub are : (g : ℕ) → g < width p q c → at a g ≡ sum n (λ i. S n i g *ℤ only p q c x i)
 
 pub joined-is : {n p q : ℕ} → Shared n p q → (x : ℕ → ℤ) {a b d : List ℤ} → Class n p q 1 x a → Class n p q 2 x b → Class n p q 3 x d
     → (k : ℕ) → k < n → joined p q a b d k ≡ sum n (λ i. S n i k *ℤ x i)

@@ -16,13 +16,9 @@ use Rattle.algebra.proofs.Lists.{tabulated}
 use Rattle.meaning.specs.Weights.{S, C, weight, signed}
 use Rattle.meaning.specs.Line.{forwardSum, inverseSum, forwardLine, inverseLine}
 use Rattle.folded.specs.Folds.{odd}
-use Rattle.folded.specs.Lines.{turned, alternated, reading, used, isSine}
+use Rattle.folded.specs.Lines.{turned, alternated, reading, used, isSine, isShared, kindOf}
 use Rattle.folded.specs.Steps.{Front}
 use Rattle.folded.proofs.Reading.{turned-in, turned-twice}
-
--- the kind that is asked for
-abbrev pub kindOf : Bool → ℕ
-kindOf back = cond {A = ℕ} back 2 1
 
 pub eqb-true : (a b : ℕ) → eqb a b ≡ true → a ≡ b
 eqb-true a b e = eqb→eq a b (subst T (sym e) tt)
@@ -85,3 +81,15 @@ sine P one two kind = either (eqb kind 1) (eqb kind 2) (λ e. subst P (sym (eqb-
     either : (a b : Bool) → (a ≡ true → P kind) → (b ≡ true → P kind) → a || b ≡ true → P kind
     either true b f g h = f h
     either false b f g h = g h
+
+pub kind-back : (kind : ℕ) → isSine kind ≡ true → kindOf (eqb kind 2) ≡ kind
+kind-back = sine (λ k. kindOf (eqb k 2) ≡ k) refl refl
+
+-- a size that is neither of the two others
+pub thirty-two : (n : ℕ) → isShared n ≡ true → (n ≡ 4 → ⊥) → (n ≡ 16 → ⊥) → n ≡ 32
+thirty-two n s a b = eqb-true n 32 (rest (eqb n 4) (eqb n 16) (eqb n 32) (λ e. a (eqb-true n 4 e)) (λ e. b (eqb-true n 16 e)) s)
+  where
+    rest : (x y z : Bool) → (x ≡ true → ⊥) → (y ≡ true → ⊥) → x || (y || z) ≡ true → z ≡ true
+    rest true y z f g e = absurd (f refl)
+    rest false true z f g e = absurd (g refl)
+    rest false false z f g e = e

@@ -2,7 +2,7 @@
 use mathlib.Core.Path.{_≡_, refl, sym, ap, _∙_, subst}
 use mathlib.Core.Bool.{Bool, true, false, not, cond, _&&_, _||_}
 use mathlib.Core.List.{List}
-use Prim.Native.Nat.{ℕ, _<_}
+use Prim.Native.Nat.{ℕ, _≤_, _<_}
 use native.Mathlib.Omega.{arith}
 use native.Mathlib.Decide.{ℕ-discrete}
 use borrow.Author.Tests.{eq-eqb, ne-eqb}
@@ -15,11 +15,12 @@ use Rattle.algebra.specs.Lists.{at}
 use Rattle.algebra.proofs.Table.{allTo, allTo-at}
 use Rattle.meaning.specs.Weights.{S}
 use Rattle.meaning.specs.Line.{forwardLine}
+use Rattle.tables.specs.Table.{Table}
 use Rattle.folded.specs.Folds.{classOf, width}
-use Rattle.folded.specs.Lines.{alternated, reading}
+use Rattle.folded.specs.Lines.{alternated, reading, kindOf}
 use Rattle.folded.specs.Steps.{Gathered, Ready, Put, Wrote, shortSum}
 use Rattle.folded.proofs.Classes.{folds, short-is}
-use Rattle.folded.proofs.TwoKinds.{eqb-true, kindOf, output, forward-whole}
+use Rattle.folded.proofs.TwoKinds.{eqb-true, output, forward-whole}
 
 eqb-false : (a b : ℕ) → eqb a b ≡ false → a ≡ b → ⊥
 eqb-false a b e d = never (sym (eq-eqb a b d) ∙ e)
@@ -98,8 +99,12 @@ all-rows back {n} x {P} l t w = forward-whole back n x (w .long ∙ l) (λ i h. 
 
 -- row i is written
 pub put-done : {n m i : ℕ} {w t y : List ℤ} {v : ℤ} (z : ℤ) → i < n → Ready n m w t y → z ≡ v → Put i v y (set y i z) × Ready n m w t (set y i z)
-put-done {n} {m} {i} {y = y} z h r e =
-    (
-      record { long = length-set y i z; here = getD-set-same y i z (pos 0) (omega (arith, r .room)) ∙ e; others = λ k d. getD-set-other y i k z (pos 0) d },
-      record { few = r .few; fits = r .fits; most = r .most; table = r .table; numbers = r .numbers; room = length-set y i z ∙ r .room },
-    )
+put-done {n} {m} {i} {y = y} z h r e = (
+  record { long = length-set y i z; here = getD-set-same y i z (pos 0) (omega (arith, r .room)) ∙ e; others = λ k d. getD-set-other y i k z (pos 0) d },
+  record { few = r .few; fits = r .fits; most = r .most; table = r .table; numbers = r .numbers; room = length-set y i z ∙ r .room },
+)
+
+-- what the rows of a class are given
+pub ready : {n p q c : ℕ} {X : ℕ → ℤ} {w t y : List ℤ} → n ≤ 32 → width p q c ≤ n → width p q c ≤ 26 → Table n w → Gathered n p q c X (width p q c) t → length y ≡ n
+    → Ready n (width p q c) w t y
+ready f h m a g l = record { few = f; fits = h; most = m; table = a; numbers = record { long = g .long; small = g .small }; room = l }

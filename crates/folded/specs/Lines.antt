@@ -34,6 +34,10 @@ isShared n = eqb n 4 || (eqb n 16 || eqb n 32)
 abbrev pub isSine : ℕ → Bool
 isSine kind = eqb kind 1 || eqb kind 2
 
+-- DCT-VIII where the inputs are read backwards, or the sums written so
+abbrev pub kindOf : Bool → ℕ
+kindOf back = cond {A = ℕ} back 2 1
+
 -- what a line is given
 pub record Given (n kind : ℕ) (x y : List ℤ) : Type 0 where
   pub size : isShared n ≡ true

@@ -1,15 +1,16 @@
 -- What each step of a folded line is given and leaves.
 use mathlib.Core.Path.{_≡_}
-use mathlib.Core.Bool.{Bool, true, false}
+use mathlib.Core.Bool.{Bool, true, false, cond}
 use mathlib.Core.List.{List}
 use Prim.Native.Nat.{ℕ, _+_, _*_, _/_, _≤_, _<_}
 use lib.ListN.{length}
-use lib.IntN.{ℤ, natAbs, _+ℤ_, _*ℤ_}
+use lib.Dec.{eqb}
+use lib.IntN.{ℤ, pos, natAbs, _+ℤ_, _*ℤ_}
 use Rattle.algebra.specs.Sum.{sum}
 use Rattle.algebra.specs.Lists.{at}
 use Rattle.meaning.specs.Weights.{S}
 use Rattle.tables.specs.Table.{Table}
-use Rattle.folded.specs.Folds.{half, width, parts, into, folded}
+use Rattle.folded.specs.Folds.{half, classOf, width, parts, into, folded}
 use Rattle.folded.specs.Lines.{turned, reading, used}
 
 -- m numbers, of size at most B
@@ -81,6 +82,14 @@ pub record Adding (n m i : ℕ) (w x a : List ℤ) : Type 0 where
 -- row i times v is added
 pub record Added (n m i : ℕ) (v : ℤ) (a b : List ℤ) : Type 0 where
   pub are : (g : ℕ) → g < m → at b g ≡ at a g +ℤ S n i g *ℤ v
+
+-- the inputs of a class, and 0 elsewhere
+abbrev pub only : ℕ → ℕ → ℕ → (ℕ → ℤ) → ℕ → ℤ
+only p q c x i = cond (eqb (classOf p q i) c) (x i) (pos 0)
+
+-- the sums of a class, over its first places
+pub record Class (n p q c : ℕ) (x : ℕ → ℤ) (a : List ℤ) : Type 0 where
+  pub are : (g : ℕ) → g < width p q c → at a g ≡ sum n (λ i. S n i g *ℤ only p q c x i)
 
 -- the sums of the three classes; 94371840 = 32 * 90 * 32768
 pub record Sums (n p q : ℕ) (a c d : List ℤ) : Type 0 where

@@ -42,15 +42,7 @@ fn periodic_input(x: &[i16], n: usize, q: usize, back: bool, g: usize) -> i32
     plus(sum, sign(k % 2 == 1, taken(x, n, back, k * q + g)))
 }
 
-fn folded_input(
-    x: &[i16],
-    n: usize,
-    p: usize,
-    q: usize,
-    class: usize,
-    back: bool,
-    g: usize,
-) -> i32
+fn folded_input(x: &[i16], n: usize, p: usize, q: usize, class: usize, back: bool, g: usize) -> i32
     requires { ⌜ (length (now x) ≡ n) × ((g < width p q class) × Sized n p q) ⌝ }
     ensures { λ r. ⌜ (r ≡ folded (reading back n (now (x .entry))) (into n p q class g)) × (natAbs r ≤ 425984) ⌝ }
 {

@@ -1,7 +1,11 @@
 // Internal: the folded lines.
-pub mod arith;
-pub mod places;
-pub mod outputs;
-pub mod sums;
-pub mod inputs;
-pub mod spread;
+mod arith;
+mod class_sums;
+pub mod forward;
+mod inputs;
+pub mod inverse;
+mod outputs;
+mod places;
+mod rows;
+mod spread;
+mod sums;

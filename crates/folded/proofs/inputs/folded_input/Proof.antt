@@ -39,8 +39,7 @@ periodic-input-requires-2 c κs =
 returns-3 : tie.Need-returns-3
 returns-3 c =
     let s = c .before .before .before .args in
-    let r = reads 425984 (c .periodic-input2 .ensures .0) (c .periodic-input2 .ensures .1) (omega arith) in
-    (
+    let r = reads 425984 (c .periodic-input2 .ensures .0) (c .periodic-input2 .ensures .1) (omega arith) in (
       r .is ∙ sym (ap (folded (reading (s .back) (s .n) (s .x .now))) (third-into (s .p) (s .q) (s .class) (c .before .before .if1 .left) (c .before .if2 .left) (s .n) (s .g))),
       is-small r,
     )

@@ -40,8 +40,7 @@ loop-less c = omega (arith, c .before .loop-test .taken)
 loop-again : tie.Need-loop-again Inv-loop μ-loop
 loop-again c =
     let L = c .before in
-    let r = reads 425984 (c .folded-input .ensures .0) (c .folded-input .ensures .1) (omega arith) in
-    (
+    let r = reads 425984 (c .folded-input .ensures .0) (c .folded-input .ensures .1) (omega arith) in (
       omega (arith, L .loop-test .taken),
       gather-next _ (L .before .loop .inv .1) (omega (arith, L .loop-test .taken, L .before .before .pre .1 .0 .1)) (r .is) (is-small r),
     )

@@ -37,8 +37,7 @@ add-r c = omega (arith, stretch (c .before))
 returns : tie.Need-returns
 returns c =
     let s = c .before .before .args in
-    let x = reading (s .back) (s .n) (s .x .now) in
-    (
+    let x = reading (s .back) (s .n) (s .x .now) in (
       own (c .before) .is ∙ sym (+ℤ-idr (x (s .g))) ∙ ap (folded x) (sym (into-own (s .p) (s .q) (s .g) (c .if1 .taken))),
       omega (arith, is-small (own (c .before))),
     )
@@ -104,8 +103,7 @@ returns-2 c =
     let s = t .before .args in
     let x = reading (s .back) (s .n) (s .x .now) in
     let k = half (s .p) * s .q in
-    let r = reads-sum (own t) (changed (c .before)) (c .plus .ensures) (omega arith) in
-    (
+    let r = reads-sum (own t) (changed (c .before)) (c .plus .ensures) (omega arith) in (
       r .is
           ∙ ap (λ (z : ℤ). x (s .g) +ℤ z)
           (ap (λ (j : ℕ). signed (less (t .before)) (x (k + (j - 1)))) (c .before .before .before .nearer .ensures) ∙ sym (lone-part (less (t .before)) x _))

@@ -114,8 +114,7 @@ loop-again c =
     let s = L .before .before in
     let k = L .before .loop .k in
     let v = changed (c .before) in
-    let e = stretch-next (X s) (s .args .q) (s .args .g) k in
-    (
+    let e = stretch-next (X s) (s .args .q) (s .args .g) k in (
       omega (arith, L .loop-test .taken),
       (
         ap (ofZ w32) (c .plus2 .ensures ∙ (λ t. sofar (L .before) .0 t +ℤ v .is t) ∙ sym e),
@@ -161,8 +160,7 @@ returns c =
     let v = last (c .before) in
     let z = signed (odd k) (X s (k * s .args .q + s .args .g)) in
     let e : c .plus3 .result ≡ so s k +ℤ z = c .plus3 .ensures ∙ (λ t. sofar (E .before) .0 t +ℤ v .is t) in
-    let r = reads 425984 e (omega (arith, ap natAbs e, abs-add (so s k) z, sofar (E .before) .1, v .size)) (omega arith) in
-    (
+    let r = reads 425984 e (omega (arith, ap natAbs e, abs-add (so s k) z, sofar (E .before) .1, v .size)) (omega arith) in (
       r .is ∙ ap (λ (j : ℕ). so s j +ℤ signed (odd j) (X s (j * s .args .q + s .args .g))) (ended E) ∙ sym (stretch-last (X s) (s .args .n) (s .args .q) (s .args .g)),
       is-small r,
     )

@@ -58,8 +58,7 @@ mac-requires : tie.Need-mac-requires Inv-loop μ-loop
 mac-requires c κs =
     let L = c .before .before in
     let s = L .before .before .args in
-    let g = L .before .loop .g in
-    (
+    let g = L .before .loop .g in (
       subst (λ (z : ℤ). natAbs z ≤ 1000000000) (sym (sofar L)) (omega (arith, L .before .loop .inv .1 .1, L .before .before .pre .1 .1 .1 .0)),
       (subst (λ (z : ℤ). natAbs z ≤ 90) (sym (weighs (c .before))) (S-size (s .n) (s .i) g), read-small (at (s .t .now) g) 425984 (counts L) (omega arith)),
     )
@@ -76,8 +75,7 @@ loop-again c =
     let s = L .before .before .args in
     let g = L .before .loop .g in
     let t = s .t .now in
-    let e = next (s .n) t (s .i) g in
-    (
+    let e = next (s .n) t (s .i) g in (
       omega (arith, L .loop-test .taken),
       (
         ap (ofZ w32) (c .mac .ensures ∙ (λ j. sofar L j +ℤ weighs (c .before .before) j *ℤ read-back (at t g) 425984 (counts L) (omega arith) j) ∙ sym e),

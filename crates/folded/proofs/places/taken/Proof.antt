@@ -32,8 +32,7 @@ wide-requires c κs = search needs
 returns : tie.Need-returns
 returns c =
     let s = c .before .before .before .args in
-    let e = toZ-ofZ w32 (c .wide .result) (search needs) in
-    (
+    let e = toZ-ofZ w32 (c .wide .result) (search needs) in (
       e ∙ c .wide .ensures .0 ∙ toZ-ofZ w16 _ (record { sfits = c .before .wide-arg .given }) ∙ ap (at (s .x .now)) (c .before .before .place .ensures),
       subst (λ (z : ℤ). natAbs z ≤ 32768) (sym e) (c .wide .ensures .1),
     )

@@ -84,8 +84,7 @@ returns-2 : tie.Need-returns-2
 returns-2 c =
     let I = c .before .before .before .before in
     let s = I .before in
-    let r = first (c .before) in
-    (
+    let r = first (c .before) in (
       r .is ∙ ap (λ (z : ℤ). sums s (past s) +ℤ z) (sym (+ℤ-idr (sums s (s .args .q - 2 - past s))))
           ∙ ap (folded (sums s)) (sym (leading-two (s .args .p) (s .args .q) (s .args .k) (I .if1 .left) (c .if2 .taken))),
       omega (arith, is-small r),
@@ -160,8 +159,7 @@ returns-3 c =
     let s = I .before in
     let r = reads-sum (changed (c .before .before .before .before)) (second (c .before)) (c .plus3 .ensures) (omega arith) in
     let g = past s in
-    let q = s .args .q in
-    (
+    let q = s .args .q in (
       r .is ∙ four (sums s g) (sums s (q - 2 - g)) (sums s (q + g)) (sums s (2 * q - 2 - g))
           ∙ ap (folded (sums s)) (sym (leading-four (s .args .p) q (s .args .k) (I .if1 .left) (c .before .before .before .before .before .if2 .left))),
       is-small r,

@@ -73,8 +73,7 @@ returns-2 c =
     let N = c .before .before in
     let s = N .before .before .args in
     let b : Bool = not (ltb ((s .k + 1) % (2 * s .q)) (s .q)) in
-    let r = reads-sign (number N) b (c .sign .ensures) (omega arith) in
-    (
+    let r = reads-sign (number N) b (c .sign .ensures) (omega arith) in (
       r .is ∙ ap (λ (j : ℕ). signed b (at (s .c .now) (j - 1))) (N .nearer .ensures) ∙ sym (lone-part b (at (s .c .now)) _)
           ∙ ap (folded (at (s .c .now))) (sym (periodic-one (s .q) (s .k) (N .before .if1 .left))),
       is-small r,

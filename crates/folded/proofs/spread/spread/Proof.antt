@@ -86,8 +86,7 @@ loop-again c =
     let L = c .before .before .before .before .before .before in
     let s = L .before .before .args in
     let k = L .before .loop .k in
-    let r = reads-sum (first (c .before .before)) (others (c .before .before .before)) (c .before .plus2 .ensures) (omega arith) in
-    (
+    let r = reads-sum (first (c .before .before)) (others (c .before .before .before)) (c .before .plus2 .ensures) (omega arith) in (
       omega (arith, L .loop-test .taken),
       front-next _ _ (L .before .loop .inv .1) (inside L) (c .place .ensures) (r .is ∙ joined-at (s .p) (s .q) (s .a .now) (s .c .now) (s .d .now) k),
     )

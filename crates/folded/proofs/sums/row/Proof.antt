@@ -48,8 +48,7 @@ value c =
     let v = c .before .wide .result in
     let b = s .change && eqb (s .i % 2) 1 in
     let e = read-back v 32768 (c .before .wide .ensures .1) (omega arith) in
-    let h : natAbs (c .sign .result) ≤ 32768 = omega (arith, ap natAbs (c .sign .ensures), abs-signed b (toZ w32 (ofZ w32 v)), read-small v 32768 (c .before .wide .ensures .1) (omega arith)) in
-    (
+    let h : natAbs (c .sign .result) ≤ 32768 = omega (arith, ap natAbs (c .sign .ensures), abs-signed b (toZ w32 (ofZ w32 v)), read-small v 32768 (c .before .wide .ensures .1) (omega arith)) in (
       read-back (c .sign .result) 32768 h (omega arith) ∙ c .sign .ensures
           ∙ ap (signed b) (e ∙ c .before .wide .ensures .0 ∙ toZ-ofZ w16 _ (record { sfits = c .before .before .wide-arg .given })),
       read-small (c .sign .result) 32768 h (omega arith),
@@ -85,8 +84,7 @@ stored-requires c κs =
 mac-requires : tie.Need-mac-requires Inv-loop μ-loop
 mac-requires c κs =
     let L = c .before .before in
-    let s = L .before .before .before .before .before .args in
-    (
+    let s = L .before .before .before .before .before .args in (
       subst (λ (z : ℤ). natAbs z ≤ 1000000000) (sym (summed L .0)) (omega (arith, summed L .1)),
       (subst (λ (z : ℤ). natAbs z ≤ 90) (sym (weighs c)) (S-size (s .n) (s .i) (L .before .loop .g)), omega (arith, value (L .before .before) .1)),
     )
@@ -107,8 +105,7 @@ loop-again : tie.Need-loop-again Inv-loop μ-loop
 loop-again c =
     let L = c .before .before .before in
     let s = L .before .before .before .before .before in
-    let v = L .before .before .sign .result in
-    (
+    let v = L .before .before .sign .result in (
       omega (arith, L .loop-test .taken),
       fill-first _ (omega (arith, L .loop-test .taken, s .pre .1 .sums .long)) (L .before .loop .inv .1)
           (toZ-ofZ w32 (c .mac .result) (search needs) ∙ c .mac .ensures ∙ (λ j. summed L .0 j +ℤ weighs (c .before) j *ℤ toZ w32 (ofZ w32 v))),
