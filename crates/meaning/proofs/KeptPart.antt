@@ -5,8 +5,8 @@ use Prim.Native.Nat.{ℕ, _≤_, _<_, min}
 use native.Mathlib.Omega.{arith}
 use Rattle.meaning.specs.declared.Shape.{Shape}
 use Rattle.meaning.specs.Shape.{isSize, keptColumns, keptRows}
+use Rattle.meaning.specs.Taken.{Taken}
 use Rattle.meaning.proofs.Cases.{size-cases}
-use Rattle.meaning.proofs.Taken.{Taken}
 
 kept-size : (n : ℕ) → isSize n ≡ true → isSize (min n 16) ≡ true
 unfolding isSize

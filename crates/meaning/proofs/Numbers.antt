@@ -1,4 +1,4 @@
--- "Numbers on both sides", those of lines and blocks: one table, `numbers`, and one theorem, `numbers-hold`. What each entry
+-- "Numbers on both sides", those of lines and blocks: one table, `items`, and one theorem, `items-hold`. What each entry
 -- says is `Says`. Items 5, 9 and 10, which are not marked P, stand in it too, with calls that tell the low end and the order of the lengths.
 use mathlib.Core.Path.{_≡_, refl}
 use mathlib.Core.List.{List, [], _∷_}
@@ -12,7 +12,8 @@ use Rattle.meaning.specs.declared.Shape.{Shape}
 use Rattle.meaning.specs.declared.Answer.{Answer}
 use Rattle.meaning.specs.Weights.{first, fold, S, C, weight}
 use Rattle.meaning.specs.Line.{forwardSum, inverseSum, forwardLine}
-use Rattle.meaning.specs.Shape.{isSize, isKind, isDepth, keptColumns, keptRows, range, lastShift}
+use Rattle.meaning.specs.Shape.{isSize, isKind, isDepth, keptColumns, keptRows}
+use Rattle.meaning.specs.Plan.{shortRange}
 use Rattle.meaning.specs.Answer.{Outcome, refused, accepted, forwardLineOutcome}
 use Rattle.meaning.specs.Inverse.{columnSum, rounded, middleAt, rails, rowSum, residual, inverseBlock, inverseOutcome}
 use Rattle.meaning.specs.Forward.{rowValue, columnValue, coefficient, forwardBlock, forwardOutcome}
@@ -20,7 +21,7 @@ use Rattle.meaning.proofs.Sharing.{published4}
 
 pub data Item : Type 0 where
   -- a line of x gives y
-  line : ℕ → List ℤ → List ℤ → Item
+  lineGives : ℕ → List ℤ → List ℤ → Item
   -- the weights of a kind at n points, row by row
   weights : ℕ → ℕ → List ℤ → Item
   -- the middle rounding of e
@@ -48,7 +49,7 @@ abbrev front : Outcome → Answer × ℤ
 front o = (o .0, at (o .1) 0)
 
 abbrev pub Says : Item → Type 0
-Says (line kind x y) = forwardLineOutcome (length x) kind x (held (length x)) ≡ (accepted 0, y)
+Says (lineGives kind x y) = forwardLineOutcome (length x) kind x (held (length x)) ≡ (accepted 0, y)
 Says (weights kind n t) = block n n (λ j i. weight kind n i j) ≡ t
 Says (rounding e m) = rounded e ≡ m
 Says (starts sh r z) = front (forwardOutcome sh r (held (area sh))) ≡ (accepted 0, z)
@@ -74,11 +75,11 @@ alone n k z = set (all n (pos 0)) k z
 abbrev pub column : ℤ → ℤ → ℤ → ℤ → List ℤ
 column a b c d = set (set (set (alone 16 0 a) 4 b) 8 c) 12 d
 
-abbrev pub numbers : List Item
-numbers =
+abbrev pub items : List Item
+items =
     -- 1, 2
-    line 1 (all 4 (pos 1)) (pos 242 ∷ pos 74 ∷ pos 36 ∷ pos 16 ∷ [])
-    ∷ line 2 (all 4 (pos 1)) (pos 242 ∷ negsuc 73 ∷ pos 36 ∷ negsuc 15 ∷ [])
+    lineGives 1 (all 4 (pos 1)) (pos 242 ∷ pos 74 ∷ pos 36 ∷ pos 16 ∷ [])
+    ∷ lineGives 2 (all 4 (pos 1)) (pos 242 ∷ negsuc 73 ∷ pos 36 ∷ negsuc 15 ∷ [])
     -- 3
     ∷ weights 2 4 published4
     -- 4
@@ -93,7 +94,7 @@ numbers =
     ∷ rounding (negsuc 64) (negsuc 0)
     -- 7
     ∷ counts (sized 4 4 10) (column (pos 0) (pos 32767) (pos 21063) (pos 0)) 0
-    ∷ counts (sized 4 4 10) (column (pos 0) (pos 32767) (pos 21064) (pos 0)) 1
+    ∷ counts (sized 4 4 10) (column (pos 0) (pos 32767) (pos 21064) (pos 0)) 0
     ∷ counts (sized 4 4 10) (column (pos 0) (pos 32767) (pos 21066) (pos 0)) 1
     -- 8, as a call
     ∷ gives (sized 4 4 10) (alone 16 0 (pos 64)) 0
@@ -104,9 +105,9 @@ numbers =
     ∷ inverseRefused (sized 32 4 10) (alone 128 16 (pos 1)) 128 8 16
     -- 10
     ∷ inverseRefused (record { width = 5; height = 4; horizontal = 0; vertical = 0; depth = 7 }) (all 16 (pos 0)) 16 1 0
-    -- the low end counts as well as the high one of 7
-    ∷ counts (sized 4 4 10) (column (pos 0) (negsuc 32766) (negsuc 21064) (pos 0)) 0
-    ∷ counts (sized 4 4 10) (column (pos 0) (negsuc 32766) (negsuc 21065) (pos 0)) 1
+    -- the low end as the high one of 7: -32768 stays and does not count, -32769 does
+    ∷ counts (sized 4 4 10) (column (pos 0) (negsuc 32766) (negsuc 21065) (pos 0)) 0
+    ∷ counts (sized 4 4 10) (column (pos 0) (negsuc 32766) (negsuc 21066) (pos 0)) 1
     -- both lengths wrong: the input's is told
     ∷ inverseRefused (sized 4 4 10) (all 15 (pos 0)) 15 6 0
     ∷ []
@@ -117,8 +118,8 @@ pub data Hold : List Item → Type 0 where
   none : Hold []
   _and_ : {i : Item} {is : List Item} → Says i → Hold is → Hold (i ∷ is)
 
-pub numbers-hold : Hold numbers
-unfolding sum sumℕ tabulate block firstAt first fold S C weight forwardSum inverseSum forwardLine isSize isKind isDepth keptColumns keptRows range lastShift columnSum middleAt rails rowSum residual inverseBlock rowValue columnValue coefficient forwardBlock
-numbers-hold =
+pub items-hold : Hold items
+unfolding sum sumℕ tabulate block firstAt first fold S C weight forwardSum inverseSum forwardLine isSize isKind isDepth keptColumns keptRows shortRange columnSum middleAt rails rowSum residual inverseBlock rowValue columnValue coefficient forwardBlock
+items-hold =
     refl and refl and refl and refl and refl and refl and refl and refl and refl and refl and refl and refl and refl
     and refl and refl and refl and refl and refl and refl and refl and refl and none
