@@ -1,4 +1,4 @@
--- `line::accepted_line` meets its contract: in each arm the table lent is that of n points. Assumes nothing.
+-- `line::product_line` meets its contract: in each arm the table lent is that of n points. Assumes nothing.
 use borrow.Author.Needs.{needs}
 use mathlib.Core.Path.{_≡_, sym, ap, _∙_}
 use Prim.Native.Nat.{ℕ}
@@ -9,8 +9,8 @@ use Rattle.meaning.proofs.Accepted.{line-taken}
 use Rattle.engine.specs.Lines.{line}
 use Rattle.transform.proofs.Lent.{given}
 use Rattle.meaning.proofs.Cases.{thirty-two}
-use Rattle.transform.proofs.line.accepted_line.Statement.{statement}
-use Rattle.transform.proofs.line.accepted_line.Tie as tie
+use Rattle.transform.proofs.line.product_line.Statement.{statement}
+use Rattle.transform.proofs.line.product_line.Tie as tie
 
 here : (s : tie.Start) → TakenLine (s .args .n) (s .args .kind) (length (s .args .x .now)) (length (s .args .y .now))
 here s = line-taken (s .args .n) (s .args .kind) (length (s .args .x .now)) (length (s .args .y .now)) (s .pre)
@@ -88,8 +88,8 @@ same-length-4 c = search needs
 returns-4 : tie.Need-returns-4
 returns-4 c = c .before .run4 .ensures ∙ sized (c .before .before .before .before .before .before .before .before) (thirty-two _ (here (c .before .before .before .before .before .before .before .before) .size) (c .before .before .before .before .before .before .before .if1 .left) (c .before .before .before .before .before .before .if2 .left) (c .before .before .before .before .before .if3 .left))
 
-pub accepted-line-spec : {M : Type 1} → statement M
-accepted-line-spec =
+pub product-line-spec : {M : Type 1} → statement M
+product-line-spec =
     tie.close
     (tie.spec
     weights-4-requires
