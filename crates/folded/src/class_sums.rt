@@ -1,10 +1,10 @@
 // Inverse, the sums of each class, row by row.
-use crate::sums::row;
+use folding::sums::row;
 ghost use mathlib.Core.Path.{_≡_};
 ghost use lib.IntN.{pos};
 ghost use lib.ListN.{replicate};
-ghost use Rattle.folded.specs.Lines.{used};
-ghost use Rattle.folded.specs.Steps.{Adding, Small, Class};
+ghost use Rattle.folding.specs.Lines.{used};
+ghost use Rattle.folding.specs.Steps.{Adding, Small, Class};
 
 pub fn first_4(w: &[i16], x: &[i16], back: bool, a: &mut [i32])
     requires { ⌜ Adding 4 3 0 (now w) (now x) (now a) × (now a ≡ replicate 3 (pos 0)) ⌝ }

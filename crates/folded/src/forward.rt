@@ -1,5 +1,4 @@
 // The forward lines.
-use crate::inputs::gather;
 use crate::rows::first_4;
 use crate::rows::first_16;
 use crate::rows::first_even_32;
@@ -9,6 +8,7 @@ use crate::rows::second_16;
 use crate::rows::second_32;
 use crate::rows::third_16;
 use crate::rows::third_32;
+use folding::inputs::gather;
 use tables::weights_4;
 use tables::weights_16;
 use tables::weights_32;
@@ -16,9 +16,9 @@ ghost use mathlib.Core.Path.{_≡_};
 ghost use lib.ListN.{length};
 ghost use Rattle.algebra.specs.Lists.{at};
 ghost use Rattle.meaning.specs.Line.{forwardLine};
-ghost use Rattle.folded.specs.Folds.{width};
-ghost use Rattle.folded.specs.Lines.{Given, kindOf, reading};
-ghost use Rattle.folded.specs.Steps.{Gathered};
+ghost use Rattle.folding.specs.Folds.{width};
+ghost use Rattle.folding.specs.Lines.{Given, kindOf, reading};
+ghost use Rattle.folding.specs.Steps.{Gathered};
 
 // The numbers of class 1 at 32 points.
 fn leading_inputs_32(x: &[i16], back: bool, t: &mut [i32])

@@ -7,7 +7,7 @@ use crate::class_sums::second_16;
 use crate::class_sums::second_32;
 use crate::class_sums::third_16;
 use crate::class_sums::third_32;
-use crate::spread::spread;
+use folding::spread::spread;
 use tables::weights_4;
 use tables::weights_16;
 use tables::weights_32;
@@ -15,8 +15,8 @@ ghost use mathlib.Core.Path.{_≡_};
 ghost use lib.ListN.{length};
 ghost use Rattle.algebra.specs.Lists.{at};
 ghost use Rattle.meaning.specs.Line.{inverseLine};
-ghost use Rattle.folded.specs.Lines.{Given, kindOf};
-ghost use Rattle.folded.specs.Steps.{Sums, Front, joined};
+ghost use Rattle.folding.specs.Lines.{Given, kindOf};
+ghost use Rattle.folding.specs.Steps.{Sums, Front, joined};
 
 fn inverse_4(x: &[i16], back: bool, y: &mut [i32])
     requires { ⌜ (length (now x) ≡ 4) × (length (now y) ≡ 4) ⌝ }

@@ -1,11 +1,11 @@
 // Forward, the outputs row by row. Rows of class 1 at 32 points come in two turns, even and odd, between which inputs are read: the
 // compiler then multiplies number by number with the weights in its code, which is quicker than its vectors of 32-bit products.
-use crate::outputs::put;
+use folding::outputs::put;
 ghost use mathlib.Core.Bool.{not, _&&_};
 ghost use lib.Dec.{eqb};
-ghost use Rattle.folded.specs.Folds.{odd, classOf};
-ghost use Rattle.folded.specs.Lines.{alternated};
-ghost use Rattle.folded.specs.Steps.{Ready, Wrote, shortSum};
+ghost use Rattle.folding.specs.Folds.{odd, classOf};
+ghost use Rattle.folding.specs.Lines.{alternated};
+ghost use Rattle.folding.specs.Steps.{Ready, Wrote, shortSum};
 
 pub fn first_4(w: &[i16], t: &[i32], back: bool, y: &mut [i32])
     requires { ⌜ Ready 4 3 (now w) (now t) (now y) ⌝ }

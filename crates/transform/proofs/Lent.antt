@@ -14,8 +14,8 @@ use Rattle.meaning.specs.Shape.{isSize, isKind}
 use Rattle.meaning.specs.Taken.{TakenLine}
 use Rattle.meaning.proofs.Cases.{size-cases, kind-cases}
 use Rattle.engine.specs.Lines.{Spot, Given, input, line}
-use Rattle.folded.specs.Lines as Folded
-use Rattle.folded.specs.Lines.{isShared, isSine}
+use Rattle.folding.specs.Lines as Folded
+use Rattle.folding.specs.Lines.{isShared, isSine}
 use Rattle.tables.specs.Table.{Table}
 use Rattle.transform.specs.Line.{isPlace}
 

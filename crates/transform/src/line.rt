@@ -101,13 +101,14 @@ fn product_line(n: u32, kind: u32, forward: bool, x: &[i16], y: &mut [i32])
 }
 
 // A line that was accepted, by its folds. At 8 points nothing is shared, and the product is the only path. The directions are
-// apart, so that neither has the other's numbers on its stack.
+// apart, so that neither has the other's numbers on its stack, nor the larger tables.
 fn folded_forward(n: u32, kind: u32, x: &[i16], y: &mut [i32])
     requires { ⌜ numberOf (lineTests n kind (length (now x)) (length (now y))) ≡ 0 ⌝ }
     ensures { λ _. ⌜ now (y .exit) ≡ line true kind n n (at (now (x .entry))) ⌝ }
 {
     if n == 8 {
-        product_line(n, kind, true, x, y);
+        let t = weights_8();
+        run(&t, 8, kind, true, x, y);
     } else {
         folded::forward::forward(n as usize, kind, x, y);
     }
@@ -118,7 +119,8 @@ fn folded_inverse(n: u32, kind: u32, x: &[i16], y: &mut [i32])
     ensures { λ _. ⌜ now (y .exit) ≡ line false kind n n (at (now (x .entry))) ⌝ }
 {
     if n == 8 {
-        product_line(n, kind, false, x, y);
+        let t = weights_8();
+        run(&t, 8, kind, false, x, y);
     } else {
         folded::inverse::inverse(n as usize, kind, x, y);
     }
@@ -140,9 +142,9 @@ fn total(n: u32, kind: u32, forward: bool, x: &[i16], y: &mut [i32]) -> Answer
 pub fn forward(n: u32, kind: u32, x: &[i16], y: &mut [i32]) -> Answer
     ensures { λ r. ⌜ _≡_ {A = Outcome} (r, now (y .exit)) (forwardLineOutcome n kind (now (x .entry)) (now (y .entry))) ⌝ }
 {
-    let number = line_refusal(n, kind, x.len(), y.len());
-    if number != 0 {
-        return refusal(number, 0);
+    let refused = line_refusal(n, kind, x.len(), y.len());
+    if refused != 0 {
+        return refusal(refused, 0);
     }
     folded_forward(n, kind, x, y);
     acceptance(0)
@@ -159,9 +161,9 @@ pub fn forward_product(n: u32, kind: u32, x: &[i16], y: &mut [i32]) -> Answer
 pub fn inverse(n: u32, kind: u32, x: &[i16], y: &mut [i32]) -> Answer
     ensures { λ r. ⌜ _≡_ {A = Outcome} (r, now (y .exit)) (inverseLineOutcome n kind (now (x .entry)) (now (y .entry))) ⌝ }
 {
-    let number = line_refusal(n, kind, x.len(), y.len());
-    if number != 0 {
-        return refusal(number, 0);
+    let refused = line_refusal(n, kind, x.len(), y.len());
+    if refused != 0 {
+        return refusal(refused, 0);
     }
     folded_inverse(n, kind, x, y);
     acceptance(0)

@@ -2,14 +2,14 @@
 use borrow.Author.Needs.{needs}
 use native.Mathlib.Omega.{arith}
 use mathlib.Core.Path.{refl, sym, _∙_}
-use Rattle.folded.specs.Folds.{classOf}
-use Rattle.folded.specs.Lines.{used}
-use Rattle.folded.proofs.Sizes.{shared4}
-use Rattle.folded.proofs.Adding.{adding-none, nothing, none-summed}
-use Rattle.folded.proofs.Classes.{joined-is, class-is}
-use Rattle.folded.proofs.TwoKinds.{inverse-whole}
+use Rattle.folding.specs.Folds.{classOf}
+use Rattle.folding.specs.Lines.{used}
+use Rattle.folding.proofs.Sizes.{shared4}
+use Rattle.folding.proofs.Adding.{adding-none, nothing, none-summed}
+use Rattle.folding.proofs.Classes.{joined-is, class-is}
+use Rattle.folding.proofs.TwoKinds.{inverse-whole}
 use mathlib.Core.List.{[]}
-use Rattle.folded.proofs.Gathering.{front-none}
+use Rattle.folding.proofs.Gathering.{front-none}
 use Rattle.folded.proofs.inverse.inverse_4.Statement.{statement}
 use Rattle.folded.proofs.inverse.inverse_4.Tie as tie
 

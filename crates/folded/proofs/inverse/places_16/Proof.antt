@@ -1,7 +1,7 @@
 -- `inverse::places_16` meets its contract. Assumes nothing.
 use native.Mathlib.Omega.{arith}
 use mathlib.Core.Path.{sym, _∙_}
-use Rattle.folded.proofs.Gathering.{front-none}
+use Rattle.folding.proofs.Gathering.{front-none}
 use Rattle.folded.proofs.inverse.places_16.Statement.{statement}
 use Rattle.folded.proofs.inverse.places_16.Tie as tie
 

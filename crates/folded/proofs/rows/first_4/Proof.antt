@@ -3,8 +3,8 @@ use native.Mathlib.Omega.{arith}
 use mathlib.Core.Path.{_∙_}
 use mathlib.Core.Bool.{not, _&&_}
 use lib.Dec.{eqb}
-use Rattle.folded.specs.Folds.{classOf, odd}
-use Rattle.folded.proofs.Writing.{put-one, and-then, by-test}
+use Rattle.folding.specs.Folds.{classOf, odd}
+use Rattle.folding.proofs.Writing.{put-one, and-then, by-test}
 use Rattle.folded.proofs.rows.first_4.Statement.{statement}
 use Rattle.folded.proofs.rows.first_4.Tie as tie
 

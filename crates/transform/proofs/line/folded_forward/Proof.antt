@@ -1,23 +1,35 @@
 -- `line::folded_forward` meets its contract. Assumes nothing.
 use borrow.Author.Needs.{needs}
-use Rattle.transform.proofs.Lent.{folded-given}
+use mathlib.Core.Path.{sym, ap, _∙_}
+use mathlib.Core.Bool.{true}
+use Prim.Native.Nat.{ℕ}
+use Rattle.algebra.specs.Lists.{at}
 use Rattle.meaning.proofs.Accepted.{line-taken}
+use Rattle.engine.specs.Lines.{line}
+use Rattle.transform.proofs.Lent.{given, folded-given}
 use Rattle.transform.proofs.line.folded_forward.Statement.{statement}
 use Rattle.transform.proofs.line.folded_forward.Tie as tie
 
-product-line-requires : tie.Need-product-line-requires
-product-line-requires c κs = search needs
+weights-8-requires : tie.Need-weights-8-requires
+weights-8-requires c κs = search needs
+
+slice-aggregate-run : tie.Need-slice-aggregate-run
+slice-aggregate-run c = search needs
+
+run-requires : tie.Need-run-requires
+run-requires c κs =
+    given _ (line-taken _ _ _ _ (c .before .before .before .before .pre)) (c .before .before .before .if1 .taken) (c .before .before .weights-8 .ensures)
 
 forward-requires : tie.Need-forward-requires
-forward-requires c κs =
-    let s = c .before .before in
-    folded-given (line-taken _ _ _ _ (s .pre)) (c .before .if1 .left)
+forward-requires c κs = folded-given (line-taken _ _ _ _ (c .before .before .pre)) (c .before .if1 .left)
 
 same-length : tie.Need-same-length
 same-length c = search needs
 
 returns : tie.Need-returns
-returns c = c .before .product-line .ensures
+returns c =
+    let s = c .before .before .before .before .before .before .args in
+    c .before .run .ensures ∙ ap (λ (n : ℕ). line true (s .kind) n n (at (s .x .now))) (sym (c .before .before .before .before .before .if1 .taken))
 
 same-length-2 : tie.Need-same-length-2
 same-length-2 c = search needs
@@ -28,4 +40,12 @@ returns-2 c = c .before .forward .ensures
 pub folded-forward-spec : {M : Type 1} → statement M
 folded-forward-spec =
     tie.close
-    (tie.spec product-line-requires forward-requires same-length returns same-length-2 returns-2)
+    (tie.spec
+    weights-8-requires
+    slice-aggregate-run
+    run-requires
+    forward-requires
+    same-length
+    returns
+    same-length-2
+    returns-2)
