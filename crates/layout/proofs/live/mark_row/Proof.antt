@@ -59,9 +59,10 @@ loop-again c =
       omega arith,
       marked-next _ (omega (arith, I .loop-test .taken, p .long, s .pre .0, s .pre .1 .1)) p
           (λ e.
-          let b = c .mark .ensures (sym (toZ-ofZ w16 (c .mark .result) (search needs)) ∙ e) in
-          (sym (toZ-ofZ w16 (at (L .loop .seen) (L .loop .x)) (record { sfits = c .before .before .mark-arg .given })) ∙ b .0,
-          sym (toZ-ofZ w16 (at (s .args .c .now) (s .args .o + L .loop .x)) (record { sfits = c .before .mark-arg2 .given })) ∙ b .1)),
+          let b = c .mark .ensures (sym (toZ-ofZ w16 (c .mark .result) (search needs)) ∙ e) in (
+            sym (toZ-ofZ w16 (at (L .loop .seen) (L .loop .x)) (record { sfits = c .before .before .mark-arg .given })) ∙ b .0,
+            sym (toZ-ofZ w16 (at (s .args .c .now) (s .args .o + L .loop .x)) (record { sfits = c .before .mark-arg2 .given })) ∙ b .1,
+          )),
     )
 
 returns : tie.Need-returns Inv-loop μ-loop
