@@ -55,24 +55,24 @@ fn large(shape: Shape, rows: usize, columns: usize, c: &[i16], r: &mut [i32]) ->
     let mut z = [0i16; 512];
     let mut m = [0i16; 512];
     zip(c, w, rows / 2, columns, &mut z);
-    let u = weights_512(shape.vertical, false, h);
+    let down = weights_512(shape.vertical, false, h);
     if rows <= 4 {
-        lines(2, 2 * columns, &u, 2, 2 * h, &z, columns, h, 64, 7, r);
+        lines(2, 2 * columns, &down, 2, 2 * h, &z, columns, h, 64, 7, r);
     } else if rows <= 8 {
-        lines(4, 2 * columns, &u, 2, 2 * h, &z, columns, h, 64, 7, r);
+        lines(4, 2 * columns, &down, 2, 2 * h, &z, columns, h, 64, 7, r);
     } else {
-        lines(8, 2 * columns, &u, 2, 2 * h, &z, columns, h, 64, 7, r);
+        lines(8, 2 * columns, &down, 2, 2 * h, &z, columns, h, 64, 7, r);
     }
     let rails = settle(&r[0..area], &mut m[0..area]);
     let last = 20 - shape.depth;
     let half = half(last);
-    let t = weights_512(shape.horizontal, false, w);
+    let along = weights_512(shape.horizontal, false, w);
     if columns <= 4 {
-        lines(2, 2 * w, &m, columns, 2, &t, w, h, half, last, r);
+        lines(2, 2 * w, &m, columns, 2, &along, w, h, half, last, r);
     } else if columns <= 8 {
-        lines(4, 2 * w, &m, columns, 2, &t, w, h, half, last, r);
+        lines(4, 2 * w, &m, columns, 2, &along, w, h, half, last, r);
     } else {
-        lines(8, 2 * w, &m, columns, 2, &t, w, h, half, last, r);
+        lines(8, 2 * w, &m, columns, 2, &along, w, h, half, last, r);
     }
     rails
 }

@@ -23,13 +23,7 @@ pub fn inverse(shape: Shape, coefficients: &[i16], residuals: &mut [i32]) -> Ans
     if place < coefficients.len() {
         return refusal(8, place as u32);
     }
-    acceptance(inverse_block::stages::stages(
-        shape,
-        rows,
-        columns,
-        coefficients,
-        residuals,
-    ))
+    acceptance(inverse_block::stages::stages(shape, rows, columns, coefficients, residuals))
 }
 
 /// The forward block: residuals to coefficients. Refusals 1 to 7 and 9.

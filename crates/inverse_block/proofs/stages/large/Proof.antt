@@ -51,16 +51,16 @@ depth : (s : tie.Start) → (8 ≤ s .args .shape .depth) × (s .args .shape .de
 depth s = depth-cases (s .args .shape .depth) (given s .block .taken .depth)
 
 cast-w : tie.Need-cast-w
-cast-w c = search needs
+cast-w c = omega arith
 
 cast-h : tie.Need-cast-h
-cast-h c = search needs
+cast-h c = omega arith
 
 mul-area : tie.Need-mul-area
 mul-area c = omega (arith, area-room (c .before .before))
 
 slice-aggregate-zip : tie.Need-slice-aggregate-zip
-slice-aggregate-zip c = search needs
+slice-aggregate-zip c = refl
 
 zip-requires : tie.Need-zip-requires
 zip-requires c κs =
@@ -72,13 +72,13 @@ weights-512-requires : tie.Need-weights-512-requires
 weights-512-requires c κs = search needs
 
 mul-lines : tie.Need-mul-lines
-mul-lines c = search needs
+mul-lines c = omega arith
 
 slice-aggregate-lines : tie.Need-slice-aggregate-lines
 slice-aggregate-lines c = search needs
 
 mul-lines-2 : tie.Need-mul-lines-2
-mul-lines-2 c = search needs
+mul-lines-2 c = omega arith
 
 slice-aggregate-lines-2 : tie.Need-slice-aggregate-lines-2
 slice-aggregate-lines-2 c = search needs
@@ -90,13 +90,13 @@ lines-requires c κs =
     (down-given (given s) 2 e (fits s 2 e) (c .before .before .before .before .weights-512 .ensures) (c .before .before .before .before .before .before .zip .ensures) (omega arith), (record { small = omega arith; short = omega arith }, room s))
 
 mul-lines-3 : tie.Need-mul-lines-3
-mul-lines-3 c = search needs
+mul-lines-3 c = omega arith
 
 slice-aggregate-lines-3 : tie.Need-slice-aggregate-lines-3
 slice-aggregate-lines-3 c = search needs
 
 mul-lines-4 : tie.Need-mul-lines-4
-mul-lines-4 c = search needs
+mul-lines-4 c = omega arith
 
 slice-aggregate-lines-4 : tie.Need-slice-aggregate-lines-4
 slice-aggregate-lines-4 c = search needs
@@ -108,13 +108,13 @@ lines-requires-2 c κs =
     (down-given (given s) 4 e (fits s 4 e) (c .before .before .before .before .before .weights-512 .ensures) (c .before .before .before .before .before .before .before .zip .ensures) (omega arith), (record { small = omega arith; short = omega arith }, room s))
 
 mul-lines-5 : tie.Need-mul-lines-5
-mul-lines-5 c = search needs
+mul-lines-5 c = omega arith
 
 slice-aggregate-lines-5 : tie.Need-slice-aggregate-lines-5
 slice-aggregate-lines-5 c = search needs
 
 mul-lines-6 : tie.Need-mul-lines-6
-mul-lines-6 c = search needs
+mul-lines-6 c = omega arith
 
 slice-aggregate-lines-6 : tie.Need-slice-aggregate-lines-6
 slice-aggregate-lines-6 c = search needs
@@ -150,19 +150,19 @@ first-long c =
     ap length (first c) ∙ length-append (sums (given s)) (drop area (s .args .r .now)) ∙ omega (arith, sums-long (given s), length-drop area (s .args .r .now), room s)
 
 sub-settle : tie.Need-sub-settle
-sub-settle c = search needs
+sub-settle c = omega arith
 
 part-settle-start : tie.Need-part-settle-start
-part-settle-start c = search needs
+part-settle-start c = omega arith
 
 part-settle-end : tie.Need-part-settle-end
 part-settle-end c = omega (arith, first-long (c .before), room (c .before .before .before .before .before .before .before .before))
 
 sub-settle-2 : tie.Need-sub-settle-2
-sub-settle-2 c = search needs
+sub-settle-2 c = omega arith
 
 part-m-start : tie.Need-part-m-start
-part-m-start c = search needs
+part-m-start c = omega arith
 
 part-m-end : tie.Need-part-m-end
 part-m-end c = omega (arith, area-room (c .before .before .before .before .before .before .before .before .before))

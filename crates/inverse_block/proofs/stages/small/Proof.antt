@@ -41,16 +41,16 @@ fits-along : (s : tie.Start) (pairs : ℕ) → 2 * pairs ≡ s .args .columns �
 fits-along s pairs e = omega (arith, s .pre .1 .1 .1 .1 .0, ap (λ (n : ℕ). n * s .args .shape .width) e, mul-assoc 2 pairs (s .args .shape .width), mul-assoc pairs 2 (s .args .shape .width), mul-comm 2 pairs)
 
 cast-w : tie.Need-cast-w
-cast-w c = search needs
+cast-w c = omega arith
 
 cast-h : tie.Need-cast-h
-cast-h c = search needs
+cast-h c = omega arith
 
 mul-area : tie.Need-mul-area
-mul-area c = search needs
+mul-area c = omega arith
 
 slice-aggregate-zip : tie.Need-slice-aggregate-zip
-slice-aggregate-zip c = search needs
+slice-aggregate-zip c = refl
 
 zip-requires : tie.Need-zip-requires
 zip-requires c κs =
@@ -62,13 +62,13 @@ weights-128-requires : tie.Need-weights-128-requires
 weights-128-requires c κs = search needs
 
 mul-lines : tie.Need-mul-lines
-mul-lines c = search needs
+mul-lines c = omega arith
 
 slice-aggregate-lines : tie.Need-slice-aggregate-lines
 slice-aggregate-lines c = search needs
 
 mul-lines-2 : tie.Need-mul-lines-2
-mul-lines-2 c = search needs
+mul-lines-2 c = omega arith
 
 slice-aggregate-lines-2 : tie.Need-slice-aggregate-lines-2
 slice-aggregate-lines-2 c = search needs
@@ -80,13 +80,13 @@ lines-requires c κs =
     (down-given (given s) 2 e (fits s 2 e) (c .before .before .before .before .weights-128 .ensures) (c .before .before .before .before .before .before .zip .ensures) (omega arith), (record { small = omega arith; short = omega arith }, room s))
 
 mul-lines-3 : tie.Need-mul-lines-3
-mul-lines-3 c = search needs
+mul-lines-3 c = omega arith
 
 slice-aggregate-lines-3 : tie.Need-slice-aggregate-lines-3
 slice-aggregate-lines-3 c = search needs
 
 mul-lines-4 : tie.Need-mul-lines-4
-mul-lines-4 c = search needs
+mul-lines-4 c = omega arith
 
 slice-aggregate-lines-4 : tie.Need-slice-aggregate-lines-4
 slice-aggregate-lines-4 c = search needs
@@ -118,22 +118,22 @@ first-long c =
     ap length (first c) ∙ length-append (sums (given s)) (drop area (s .args .r .now)) ∙ omega (arith, sums-long (given s), length-drop area (s .args .r .now), room s)
 
 sub-settle : tie.Need-sub-settle
-sub-settle c = search needs
+sub-settle c = omega arith
 
 part-settle-start : tie.Need-part-settle-start
-part-settle-start c = search needs
+part-settle-start c = omega arith
 
 part-settle-end : tie.Need-part-settle-end
 part-settle-end c = omega (arith, first-long (c .before), room (c .before .before .before .before .before .before .before .before))
 
 sub-settle-2 : tie.Need-sub-settle-2
-sub-settle-2 c = search needs
+sub-settle-2 c = omega arith
 
 part-m-start : tie.Need-part-m-start
-part-m-start c = search needs
+part-m-start c = omega arith
 
 part-m-end : tie.Need-part-m-end
-part-m-end c = search needs
+part-m-end c = omega arith
 
 settle-requires : tie.Need-settle-requires
 settle-requires c κs = search needs
@@ -189,7 +189,7 @@ weights-128-requires-2 : tie.Need-weights-128-requires-2
 weights-128-requires-2 c κs = search needs
 
 mul-lines-5 : tie.Need-mul-lines-5
-mul-lines-5 c = search needs
+mul-lines-5 c = omega arith
 
 slice-aggregate-lines-5 : tie.Need-slice-aggregate-lines-5
 slice-aggregate-lines-5 c =
@@ -207,7 +207,7 @@ lines-requires-3 c κs =
     (along-given (given s) (between S) 2 e (fits-along s 2 e) (c .before .before .before .before .weights-1282 .ensures) (between-long S) (between-at S) (omega arith), (rounding (c .before .before .before .before .before), full (c .before .before .before .before .before .before .before .before .before .before .before .before)))
 
 mul-lines-6 : tie.Need-mul-lines-6
-mul-lines-6 c = search needs
+mul-lines-6 c = omega arith
 
 slice-aggregate-lines-7 : tie.Need-slice-aggregate-lines-7
 slice-aggregate-lines-7 c =
