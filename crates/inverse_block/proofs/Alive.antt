@@ -1,5 +1,5 @@
 -- Only the live part of a block is worked: zero inputs add nothing, and a zero column has middle values 0 and no rail. Over any
--- plan whose range keeps 0 and does not end there. Assumes nothing.
+-- plan whose range keeps 0. Assumes nothing.
 use mathlib.Core.Path.{_≡_, refl, sym, ap, _∙_}
 use mathlib.Core.Bool.{Bool, true, false, cond}
 use mathlib.Core.List.{List}
@@ -18,7 +18,7 @@ use Rattle.meaning.specs.Plan.{Plan}
 use Rattle.meaning.specs.Inverse.{columnSum, rounded, middle, middleAt, railed, count, rails, rowSum}
 use Rattle.inverse_block.specs.Part.{Part}
 
-module _ (p : Plan) (keeps : clip (p .range) (pos 0) ≡ pos 0) (inner : railed (p .range) (pos 0) (pos 0) ≡ false)
+module _ (p : Plan) (keeps : clip (p .range) (pos 0) ≡ pos 0)
     (c : List ℤ) (columns rows : ℕ) (live : Part (p .width) (p .height) columns rows c) (kept : Part (p .width) (p .height) (p .columns) (p .rows) c) where
   abbrev down : ℕ → ℕ → ℕ → ℤ
   down x y i = weight (p .vertical) (p .height) i y *ℤ at c (x + i * p .width)
@@ -59,10 +59,10 @@ module _ (p : Plan) (keeps : clip (p .range) (pos 0) ≡ pos 0) (inner : railed 
 
   -- .. and no rail
   abbrev pub rail : ℕ → ℕ → ℕ
-  rail x y = count (railed (p .range) (rounded (columnSum p c x y)) (mid x y))
+  rail x y = count (railed (rounded (columnSum p c x y)) (mid x y))
 
   rail-none : (x y : ℕ) → columnSum p c x y ≡ pos 0 → rail x y ≡ 0
-  rail-none x y e = (λ i. count (railed (p .range) (rounded (e i)) (mid-none x y e i))) ∙ ap count inner
+  rail-none x y e = λ i. count (railed (rounded (e i)) (mid-none x y e i))
 
   -- ---- the row stage, and the count
   abbrev along : ℕ → ℕ → ℕ → ℤ
@@ -92,4 +92,4 @@ module _ (p : Plan) (keeps : clip (p .range) (pos 0) ≡ pos 0) (inner : railed 
       sumℕ-swap (p .height) columns (λ y x. rail x y)
       ∙ sym (sumℕ-rest columns (p .width) of-column (live .narrow) (λ x l g. zero-sum (p .height) _ (λ y _. rail-none x y (right-none x y l g))))
       ∙ sumℕ-rest (p .columns) (p .width) of-column (kept .narrow) (λ x l g. zero-sum (p .height) _ (λ y _. rail-none x y (beyond x y l g)))
-      ∙ sumℕ-cong (p .columns) _ _ (λ x h. sumℕ-cong (p .height) _ _ (λ y _. ap (λ (z : ℤ). count (railed (p .range) (rounded (columnSum p c x y)) z)) (middle-is x y (omega (arith, kept .narrow)))))
+      ∙ sumℕ-cong (p .columns) _ _ (λ x h. sumℕ-cong (p .height) _ _ (λ y _. ap (λ (z : ℤ). count (railed (rounded (columnSum p c x y)) z)) (middle-is x y (omega (arith, kept .narrow)))))

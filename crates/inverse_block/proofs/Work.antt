@@ -60,10 +60,6 @@ module _ {sh : Shape} {rows columns : ℕ} {c r : List ℤ} (g : Given sh rows c
   unfolding shortRange
   keeps = refl
 
-  inner : railed shortRange (pos 0) (pos 0) ≡ false
-  unfolding shortRange
-  inner = refl
-
   pub even-rows : (4 ≤ rows) × (2 * (rows / 2) ≡ rows)
   even-rows = size-even rows (g .size-rows)
 
@@ -107,7 +103,7 @@ module _ {sh : Shape} {rows columns : ℕ} {c r : List ℤ} (g : Given sh rows c
     down-is =
         lines-are there here (pos 64) 7
         ∙ block-cong columns h _ _ (λ x y k v. ap rounded (ap (λ (n : ℕ). sum n (λ i. weightDown i y *ℤ down i x)) e
-        ∙ column-is p keeps inner c columns rows (g .live) (g .kept) x y (omega (arith, g .live .narrow))))
+        ∙ column-is p keeps c columns rows (g .live) (g .kept) x y (omega (arith, g .live .narrow))))
 
   -- ---- between the stages
   abbrev pub sums : List ℤ
@@ -122,7 +118,7 @@ module _ {sh : Shape} {rows columns : ℕ} {c r : List ℤ} (g : Given sh rows c
   pub middles-long : length middles ≡ h * columns
   middles-long = tab-length (length sums) (λ k. clip shortRange (at sums k)) ∙ sums-long
 
-  middle-at : (i y : ℕ) → i < columns → y < h → at middles (i + y * columns) ≡ mid p keeps inner c columns rows (g .live) (g .kept) i y
+  middle-at : (i y : ℕ) → i < columns → y < h → at middles (i + y * columns) ≡ mid p keeps c columns rows (g .live) (g .kept) i y
   middle-at i y k v =
       tab-at (length sums) (λ k. clip shortRange (at sums k)) (i + y * columns) (omega (arith, sums-long, place-in {x = i} {y = y} {w = columns} {h = h} k v))
       ∙ ap (clip shortRange) (block-at columns h (λ x y. rounded (columnSum p c x y)) i y k v)
@@ -130,9 +126,9 @@ module _ {sh : Shape} {rows columns : ℕ} {c r : List ℤ} (g : Given sh rows c
   pub settled-rails : railsOf (length sums) sums middles ≡ rails p c
   unfolding railsOf
   settled-rails =
-      sumℕ-cong (length sums) _ _ (λ k l. ap (λ (z : ℤ). count (railed shortRange (at sums k) z)) (tab-at (length sums) (λ k. clip shortRange (at sums k)) k l))
-      ∙ block-count columns h (λ x y. rounded (columnSum p c x y)) (λ z. count (railed shortRange z (clip shortRange z)))
-      ∙ rails-are p keeps inner c columns rows (g .live) (g .kept)
+      sumℕ-cong (length sums) _ _ (λ k l. ap (λ (z : ℤ). count (railed (at sums k) z)) (tab-at (length sums) (λ k. clip shortRange (at sums k)) k l))
+      ∙ block-count columns h (λ x y. rounded (columnSum p c x y)) (λ z. count (railed z (clip shortRange z)))
+      ∙ rails-are p keeps c columns rows (g .live) (g .kept)
 
   pub block-long : length (inverseBlock p c) ≡ length r
   unfolding inverseBlock
@@ -143,7 +139,7 @@ module _ {sh : Shape} {rows columns : ℕ} {c r : List ℤ} (g : Given sh rows c
   weightAlong i x = weight (sh .horizontal) w i x
 
   abbrev middleOf : ℕ → ℕ → ℤ
-  middleOf i y = mid p keeps inner c columns rows (g .live) (g .kept) i y
+  middleOf i y = mid p keeps c columns rows (g .live) (g .kept) i y
 
   module _ {room : ℕ} (m : List ℤ) {t : List ℤ} (pairs : ℕ) (e : 2 * pairs ≡ columns) (fits : pairs * (2 * w) ≤ room)
       (weights : Weights room w false (sh .horizontal) w t) (long : h * columns ≤ length m) (same : (k : ℕ) → k < h * columns → at m k ≡ at middles k) where
@@ -177,7 +173,7 @@ module _ {sh : Shape} {rows columns : ℕ} {c r : List ℤ} (g : Given sh rows c
         ∙ append-nil (block w h (λ x y. shifted half last (lineSum m (columns * y) 2 t (2 * w) pairs x)))
         ∙ lines-are rows-laid along-laid half last
         ∙ block-cong w h _ _ (λ x y k v. (λ i. shifted (q i) last (sum (e i) (λ i. middleOf i y *ℤ weightAlong i x)))
-        ∙ ap (nearest last) (row-is p keeps inner c columns rows (g .live) (g .kept) x y))
+        ∙ ap (nearest last) (row-is p keeps c columns rows (g .live) (g .kept) x y))
 
 -- ---- a list at the front of a room of n numbers
 pub room-full : (n a : ℕ) (l z : List ℤ) → length l ≡ a → length z ≡ n → a ≤ n → n ≡ length (l ++ drop (a - 0) z)

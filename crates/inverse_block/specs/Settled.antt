@@ -4,8 +4,7 @@ use Prim.Native.Nat.{ℕ}
 use lib.IntN.{ℤ}
 use Rattle.algebra.specs.Sum.{sumℕ}
 use Rattle.algebra.specs.Lists.{at}
-use Rattle.meaning.specs.Plan.{shortRange}
 use Rattle.meaning.specs.Inverse.{railed, count}
 
 unfoldable pub railsOf : ℕ → List ℤ → List ℤ → ℕ
-railsOf n e m = sumℕ n (λ k. count (railed shortRange (at e k) (at m k)))
+railsOf n e m = sumℕ n (λ k. count (railed (at e k) (at m k)))

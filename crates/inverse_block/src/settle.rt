@@ -23,17 +23,11 @@ fn clip16(v: i32) -> i16
     v as i16
 }
 
-// Whether a middle value counts, by what it was before the clip and after it.
+// Whether a middle value counts: whether the clip altered it.
 fn rail(before: i32, after: i16) -> bool
-    ensures { λ r. ⌜ r ≡ railed shortRange before after ⌝ }
+    ensures { λ r. ⌜ r ≡ railed before after ⌝ }
 {
-    if after == -32768 {
-        return true;
-    }
-    if after == 32767 {
-        return true;
-    }
-    false
+    if after as i32 == before { false } else { true }
 }
 
 fn clipped(e: &[i32], m: &mut [i16])

@@ -1,10 +1,9 @@
 -- How large the numbers of an inverse block can be, over any plan: of coefficients of size at most B, where the sizes of the
 -- weights of a sum add up to at most W and no number of the range is above M. Assumes nothing.
---   column-part, row-part:        every partial sum of either stage: its first k terms
+--   column-part, row-part:         every partial sum of either stage: its first k terms, for every k
 --   column-rounding, row-rounding: what the two roundings are put to: e + 64, and r + 2^(s-1) for the last shift s
---   columnSum-size, rounded-size, middle-size, rowSum-size, residual-size: the sums and the values
-use mathlib.Core.Path.{_≡_}
-use mathlib.Core.Bool.{Bool}
+--   columnSum-size, rounded-size, middle-size, rowSum-size, residual-size: the sums and the values that come of them
+-- `Sized` gives W (`down-sizes`, `along-sizes`), `Around` is what is asked of the range.
 use mathlib.Core.List.{List}
 use Prim.Native.Nat.{ℕ, _+_, _*_, _-_, _^_, _≤_, _<_}
 use native.Mathlib.Nat.{le-refl, le-trans}
@@ -12,7 +11,7 @@ use native.Mathlib.Omega.{arith}
 use lib.Dec.{ltb}
 use lib.IntN.{ℤ, pos, natAbs, _+ℤ_}
 use lib.Signed.{_≤ℤ_}
-use Rattle.algebra.specs.Clip.{Range, clip}
+use Rattle.algebra.specs.Clip.{Range}
 use Rattle.algebra.specs.Lists.{at}
 use Rattle.algebra.proofs.Order.{abs-parts, parts-le, parts-abs, le-parts}
 use Rattle.algebra.proofs.Clip.{clip-low, clip-high}

@@ -10,7 +10,6 @@ use lib.IntN.{ℤ}
 use mir.Syntax.{w16, w32}
 use mir.ValLaws.{toZ-ofZ}
 use Rattle.algebra.specs.Lists.{at}
-use Rattle.meaning.specs.Plan.{shortRange}
 use Rattle.meaning.specs.Inverse.{railed, count}
 use Rattle.layout.proofs.Looking.{true-not-false}
 use Rattle.inverse_block.specs.Settled.{railsOf}
@@ -50,12 +49,12 @@ loop-less c = search needs
 
 -- what `rail` said of the numbers that were read
 said : (c : tie.After-rail Inv-loop μ-loop) → let L = c .before .before .before .before in let s = L .before .args in
-    c .rail .result ≡ railed shortRange (at (s .e .now) (L .loop .x)) (at (s .m .now) (L .loop .x))
+    c .rail .result ≡ railed (at (s .e .now) (L .loop .x)) (at (s .m .now) (L .loop .x))
 said c =
     let L = c .before .before .before .before in
     let s = L .before .args in
     c .rail .ensures
-    ∙ (λ i. railed shortRange (toZ-ofZ w32 (at (s .e .now) (L .loop .x)) (record { sfits = c .before .before .rail-arg .given }) i) (toZ-ofZ w16 (at (s .m .now) (L .loop .x)) (record { sfits = c .before .rail-arg2 .given }) i))
+    ∙ (λ i. railed (toZ-ofZ w32 (at (s .e .now) (L .loop .x)) (record { sfits = c .before .before .rail-arg .given }) i) (toZ-ofZ w16 (at (s .m .now) (L .loop .x)) (record { sfits = c .before .rail-arg2 .given }) i))
 
 loop-again : tie.Need-loop-again Inv-loop μ-loop
 loop-again c =
@@ -66,7 +65,7 @@ loop-again c =
       λ f. ⊎-elim
           (λ t. absurd (true-not-false (sym (t .1) ∙ f)))
           (λ t.
-          let b : railed shortRange (at (s .e .now) (L .loop .x)) (at (s .m .now) (L .loop .x)) ≡ false = sym (said R) ∙ t .0 .left in
+          let b : railed (at (s .e .now) (L .loop .x)) (at (s .m .now) (L .loop .x)) ≡ false = sym (said R) ∙ t .0 .left in
           rails-next (s .e .now) (s .m .now) (L .loop .x) ∙ omega (arith, L .loop .inv .1 (sym (t .1) ∙ f), ap count b))
           (c .if1 .came),
     )

@@ -10,7 +10,6 @@ use lib.IntN.{ℤ}
 use mir.Syntax.{w16, w32}
 use mir.ValLaws.{toZ-ofZ}
 use Rattle.algebra.specs.Lists.{at}
-use Rattle.meaning.specs.Plan.{shortRange}
 use Rattle.meaning.specs.Inverse.{railed, count}
 use Rattle.inverse_block.specs.Settled.{railsOf}
 use Rattle.inverse_block.proofs.Railing.{rails-none, rails-next, rails-in}
@@ -55,12 +54,12 @@ loop-less c = search needs
 
 -- what `rail` said of the numbers that were read
 said : (c : tie.After-rail Inv-loop μ-loop) → let L = c .before .before .before .before in let s = L .before .args in
-    c .rail .result ≡ railed shortRange (at (s .e .now) (L .loop .x)) (at (s .m .now) (L .loop .x))
+    c .rail .result ≡ railed (at (s .e .now) (L .loop .x)) (at (s .m .now) (L .loop .x))
 said c =
     let L = c .before .before .before .before in
     let s = L .before .args in
     c .rail .ensures
-    ∙ (λ i. railed shortRange (toZ-ofZ w32 (at (s .e .now) (L .loop .x)) (record { sfits = c .before .before .rail-arg .given }) i) (toZ-ofZ w16 (at (s .m .now) (L .loop .x)) (record { sfits = c .before .rail-arg2 .given }) i))
+    ∙ (λ i. railed (toZ-ofZ w32 (at (s .e .now) (L .loop .x)) (record { sfits = c .before .before .rail-arg .given }) i) (toZ-ofZ w16 (at (s .m .now) (L .loop .x)) (record { sfits = c .before .rail-arg2 .given }) i))
 
 loop-again : tie.Need-loop-again Inv-loop μ-loop
 loop-again c =

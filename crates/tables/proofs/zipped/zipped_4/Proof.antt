@@ -1,18 +1,22 @@
--- `zipped_4` hands out the order of 4 points that kind and direction take. Assumes nothing.
+-- `zipped_4` hands out the order of 4 points that kind and direction take, each by one computed test. Assumes nothing.
 use mathlib.Core.Path.{refl}
-use Rattle.tables.proofs.Orders.{inverse4-laid, forward4-laid, cosine4-laid, cosine4-laid-turned}
+use Rattle.meaning.specs.Weights.{S, C, fold, first}
+use Rattle.tables.proofs.Pairs.{laid-by}
 use Rattle.tables.proofs.Choice.{forward-sine, inverse-sine, cosine, no-kind}
 use Rattle.tables.proofs.zipped.zipped_4.Statement.{statement}
 use Rattle.tables.proofs.zipped.zipped_4.Tie as tie
 
 returns : tie.Need-returns
-returns c = forward-sine 4 2 (c .before .before .args .kind) (c .before .before .args .forward) (c .before .if1 .taken) (c .if2 .taken) forward4-laid
+unfolding S fold first
+returns c = forward-sine 4 2 (c .before .before .args .kind) (c .before .before .args .forward) (c .before .if1 .taken) (c .if2 .taken) (laid-by 4 2 (λ i j. S 4 j i) _ tt refl)
 
 returns-2 : tie.Need-returns-2
-returns-2 c = inverse-sine 4 2 (c .before .before .args .kind) (c .before .before .args .forward) (c .before .if1 .taken) (c .if2 .left) inverse4-laid
+unfolding S fold first
+returns-2 c = inverse-sine 4 2 (c .before .before .args .kind) (c .before .before .args .forward) (c .before .if1 .taken) (c .if2 .left) (laid-by 4 2 (S 4) _ tt refl)
 
 returns-3 : tie.Need-returns-3
-returns-3 c = cosine 4 2 (c .before .before .args .kind) (c .before .before .args .forward) (c .if3 .taken) cosine4-laid cosine4-laid-turned
+unfolding S C fold first
+returns-3 c = cosine 4 2 (c .before .before .args .kind) (c .before .before .args .forward) (c .if3 .taken) (laid-by 4 2 (C 4) _ tt refl) (laid-by 4 2 (λ i j. C 4 j i) _ tt refl)
 
 returns-4 : tie.Need-returns-4
 returns-4 c = no-kind 4 2 (c .before .before .args .kind) (c .before .before .args .forward) (c .before .if1 .left) (c .if3 .left) refl
