@@ -4,12 +4,13 @@ use mathlib.Core.Bool.{Bool, true, false}
 use mathlib.Core.List.{List}
 use Prim.Native.Nat.{ℕ, _+_, _*_, _/_, _%_, _≤_, _<_}
 use native.Mathlib.Omega.{arith}
-use lib.ListN.{length}
+use native.Mathlib.Nat.{zero-add}
+use lib.ListN.{length, set}
 use lib.IntN.{ℤ}
-use Rattle.algebra.specs.Lists.{at, block}
-use Rattle.algebra.proofs.Lists.{block-at, block-length}
+use Rattle.algebra.specs.Lists.{at}
+use Rattle.algebra.proofs.Lists.{Filled, fill-first}
 use Rattle.product.specs.Product.{spot, Laid}
-use Rattle.tables.specs.Stage.{Front, outputs, Weights}
+use Rattle.tables.specs.Stage.{Front, halfAt, Halves, outputs, Weights}
 use Rattle.tables.proofs.Pairs.{place-held}
 
 -- the first pairs
@@ -22,20 +23,15 @@ front {n} z f pairs l m =
     }
 
 -- the first 16 outputs
-pub halved : {W : ℕ → ℕ → ℤ} {r t : List ℤ} → Laid 32 16 2 64 W t → r ≡ block 32 16 (λ q k. at t (k * 64 + q)) → (pairs : ℕ) → 2 * pairs ≤ 32 → Laid 16 pairs 2 32 W r
-halved {W} {r} {t} z e pairs l =
+pub halved : {W : ℕ → ℕ → ℤ} {r t : List ℤ} → Laid 32 16 2 64 W t → Halves r t → (pairs : ℕ) → 2 * pairs ≤ 32 → Laid 16 pairs 2 32 W r
+halved {W} {r} {t} z f pairs l =
     record {
-      held = λ i j h g. omega (arith, ap length e, block-length 32 16 (λ q k. at t (k * 64 + q)));
-      right = λ i j h g. ap (λ (l : List ℤ). at l (2 * j + spot 32 i)) e ∙ ap (at (block 32 16 (λ q k. at t (k * 64 + q)))) (here i j)
-          ∙ block-at 32 16 (λ q k. at t (k * 64 + q)) (2 * j + i % 2) (i / 2) (omega arith) (omega arith)
-          ∙ ap (at t) (sym (there i j)) ∙ z .right i j (omega arith) (omega arith);
+      held = λ i j h g. omega (arith, f .long);
+      right = λ i j h g. f .same (2 * j + spot 32 i) (omega arith) ∙ ap (at t) (there i j g) ∙ z .right i j (omega arith) (omega arith);
     }
   where
-    here : (i j : ℕ) → 2 * j + spot 32 i ≡ 2 * j + i % 2 + i / 2 * 32
-    here i j = omega arith
-
-    there : (i j : ℕ) → 2 * j + spot 64 i ≡ i / 2 * 64 + (2 * j + i % 2)
-    there i j = omega arith
+    there : (i j : ℕ) → j < 16 → (2 * j + spot 32 i) / 32 * 64 + (2 * j + spot 32 i) % 32 ≡ 2 * j + spot 64 i
+    there i j g = omega arith
 
 -- up to 16 points these are all
 pub narrow : (room n kind : ℕ) (forward : Bool) {r : List ℤ} → n ≤ 16 → Weights room n forward kind n r → Weights room (outputs forward n) forward kind n r
@@ -44,3 +40,14 @@ narrow room n kind forward {r} l w = subst (λ (m : ℕ). Weights room m forward
     all : (f : Bool) → outputs f n ≡ n
     all true = omega arith
     all false = refl
+
+-- the first j numbers of a room of 512 are copied
+pub record Copied (j : ℕ) (u t : List ℤ) : Type 0 where
+  pub long : length u ≡ 512
+  pub done : (k : ℕ) → k < j → at u k ≡ halfAt t k
+
+pub copied-next : {j : ℕ} {u t : List ℤ} (z : ℤ) → j < 512 → Copied j u t → z ≡ halfAt t j → Copied (j + 1) (set u j z) t
+copied-next {j} {u} {t} z l p e =
+    let p₀ : Filled 0 j u u (halfAt t) = record { long = refl; done = λ k h. ap (at u) (zero-add k) ∙ p .done k h; before = λ k h. absurd (omega arith); after = λ k h. refl } in
+    let f : Filled 0 (j + 1) (set u j z) u (halfAt t) = fill-first z (omega (arith, p .long)) p₀ e in
+    record { long = f .long ∙ p .long; done = λ k h. ap (at (set u j z)) (sym (zero-add k)) ∙ f .done k h }

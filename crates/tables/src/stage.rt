@@ -8,10 +8,9 @@ use crate::zipped::zipped_32;
 ghost use mathlib.Core.Path.{_≡_};
 ghost use mathlib.Core.Bool.{true};
 ghost use Prim.Native.Nat.{ℕ, _+_, _*_, _<_, _≤_, min};
-ghost use lib.ListN.{length};
-ghost use Rattle.algebra.specs.Lists.{at, tabulate, block};
+ghost use Rattle.algebra.specs.Lists.{at};
 ghost use Rattle.meaning.specs.Shape.{isSize};
-ghost use Rattle.tables.specs.Stage.{Front, outputs, Weights};
+ghost use Rattle.tables.specs.Stage.{Front, Halves, outputs, Weights};
 
 fn least(a: usize, b: usize) -> usize
     ensures { λ r. ⌜ r ≡ min a b ⌝ }
@@ -45,27 +44,18 @@ fn front_512(t: &[i16]) -> [i16; 512]
     u
 }
 
-// Row k of them: the first 16 outputs of 32.
-fn half_row(t: &[i16; 1024], k: usize, part: &mut [i16])
-    requires { ⌜ (k < 16) × (length (now part) ≡ 32) ⌝ }
-    ensures { λ _. ⌜ now (part .exit) ≡ tabulate 32 (λ q. at (now (t .entry)) (k * 64 + q)) ⌝ }
-{
-    let mut q = 0;
-    while q < 32 {
-        part[q] = t[k * 64 + q];
-        q += 1;
-    }
-}
-
+// The first 16 outputs of 32. The two loops stand in one function: so the compiler works them out, and writes down what they leave.
 fn halves(t: &[i16; 1024]) -> [i16; 512]
-    ensures { λ r. ⌜ r ≡ block 32 16 (λ q k. at (now (t .entry)) (k * 64 + q)) ⌝ }
+    ensures { λ r. ⌜ Halves r (now (t .entry)) ⌝ }
 {
     let mut u = [0i16; 512];
     let mut k = 0;
     while k < 16 {
-        let a = k * 32;
-        let b = a + 32;
-        half_row(t, k, &mut u[a..b]);
+        let mut q = 0;
+        while q < 32 {
+            u[k * 32 + q] = t[k * 64 + q];
+            q += 1;
+        }
         k += 1;
     }
     u

@@ -34,10 +34,10 @@ pub fn forward(shape: Shape, residuals: &[i16], coefficients: &mut [i16]) -> Ans
     if number != 0 {
         return refusal(number, 0);
     }
-    let place = forward_block::forward::first_too_large(shape, residuals);
+    let place = forward_block::hunt::first_too_large(shape, residuals);
     if place < residuals.len() {
         return refusal(9, place as u32);
     }
-    forward_block::forward::stages(shape, residuals, coefficients);
+    forward_block::stages::stages(shape, residuals, coefficients);
     acceptance(0)
 }
