@@ -2,7 +2,7 @@
 use mathlib.Core.Path.{_≡_, refl, sym, ap, _∙_, subst}
 use mathlib.Core.List.{List, _++_}
 use Prim.Native.Nat.{ℕ, _+_, _*_, _-_, _≤_, _<_}
-use native.Mathlib.Nat.{not-suc-le-zero}
+use native.Mathlib.Nat.{not-suc-le-zero, add-comm}
 use native.Mathlib.Decide.{ℕ-discrete}
 use native.Mathlib.Omega.{arith}
 use lib.ListN.{length, take, drop, length-append, length-take, length-drop, List·getD-append}
@@ -15,6 +15,11 @@ use Rattle.forward_block.specs.Stage.{Stage}
 -- ---- a part of k numbers from a on, that was lent and came back as f 0, f 1, ..
 pub part-in : (l : List ℤ) (a k : ℕ) → a + k ≤ length l → length (take (a + k - a) (drop a l)) ≡ k
 part-in l a k h = simp (length-take, length-drop) (omega arith)
+
+pub part-at : (l : List ℤ) (a k x : ℕ) → x < k → at (take (a + k - a) (drop a l)) x ≡ at l (x + a)
+part-at l a k x h =
+    let n : a + k - a ≡ k = omega arith in
+    rw n (getD-take k (drop a l) x (pos 0) h ∙ getD-drop a l x (pos 0) ∙ ap (at l) (add-comm a x))
 
 pub part-filled : (l ys : List ℤ) (a k : ℕ) (f : ℕ → ℤ) → a + k ≤ length l → ys ≡ tabulate (length (take (a + k - a) (drop a l))) f
     → Filled a k (take a l ++ (ys ++ drop (a + k - a) (drop a l))) l f

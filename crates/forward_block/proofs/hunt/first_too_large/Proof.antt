@@ -14,17 +14,17 @@ use Rattle.forward_block.proofs.hunt.first_too_large.Statement.{stateme
 use Rattle.forward_block.proofs.hunt.first_too_large.Tie as tie
 
 any-too-large-requires : tie.Need-any-too-large-requires
-any-too-large-requires c κs = c .before .pre .0
+any-too-large-requires c κs = c .pre .0
 
 searched-requires : tie.Need-searched-requires
-searched-requires c κs = c .before .before .before .pre
+searched-requires c κs = c .before .before .pre
 
 returns : tie.Need-returns
 returns c = c .searched .ensures
 
 returns-2 : tie.Need-returns-2
 returns-2 c =
-    let s = c .before .before .before in
+    let s = c .before .before in
     let r = s .args .residuals .now in
     let none = c .before .any-too-large .ensures (c .if1 .left) in
     sym (first-past (tooLarge (s .args .shape)) r 0 (λ i h. le-ltb (2 ^ s .args .shape .depth - 1) (natAbs (at r i)) (none i)) ∙ zero-add (length r))
