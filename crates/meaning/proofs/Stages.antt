@@ -25,17 +25,18 @@ use Rattle.meaning.specs.Forward.{log2, rowShift, columnShift, rowValue,
 use Rattle.meaning.proofs.Cases.{size-cases, depth-cases, pick}
 use Rattle.meaning.proofs.Taken.{Taken}
 use Rattle.meaning.proofs.Small.{NoneAbove}
+use Rattle.meaning.proofs.KeptPart.{kept-in}
 use Rattle.meaning.proofs.Sizes.{forwardSum-in, forwardSum-short, inverseSum-short}
 
 -- ---- the inverse
 module _ (sh : Shape) where
   pub columns-in : keptColumns sh ≤ sh .width
   unfolding keptColumns
-  columns-in = omega arith
+  columns-in = kept-in (sh .horizontal) (sh .width)
 
   pub rows-in : keptRows sh ≤ sh .height
   unfolding keptRows
-  rows-in = omega arith
+  rows-in = kept-in (sh .vertical) (sh .height)
 
   -- by the clip, whatever the coefficients are
   pub middle-fits : (c : List ℤ) (x y : ℕ) → SFits w16 (middleAt sh c x y)
