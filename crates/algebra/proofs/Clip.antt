@@ -6,7 +6,7 @@ use lib.Dec.{T}
 use lib.IntN.{ℤ}
 use lib.Signed.{ltZ, _≤ℤ_, _<ℤ_, ltZ-yes, ltZ-no}
 use Rattle.algebra.specs.Clip.{Range, clip}
-use Rattle.algebra.proofs.Order.{le-parts, lt-parts}
+use Rattle.algebra.proofs.Order.{le-parts, parts-le, lt-parts}
 
 -- a test of order, by what it says
 pub order-cases : (a b : ℤ) (P : Bool → Type 0) → (a <ℤ b → P true) → (b ≤ℤ a → P false) → P (ltZ a b)
@@ -34,3 +34,12 @@ module _ (r : Range) (z : ℤ) where
   -- a value that is at neither end was not changed
   pub clip-inner : (clip r z ≡ r .low → ⊥) → (clip r z ≡ r .high → ⊥) → clip r z ≡ z
   clip-inner = clip-cases r z (λ (x : ℤ). (x ≡ r .low → ⊥) → (x ≡ r .high → ⊥) → x ≡ z) (λ _ n _. absurd (n refl)) (λ _ _ n. absurd (n refl)) (λ _ _ _ _. refl)
+
+  -- in the range, where there is one
+  pub clip-low : r .low ≤ℤ r .high → r .low ≤ℤ clip r z
+  clip-low e =
+      clip-cases r z (λ (x : ℤ). r .low ≤ℤ x) (λ _. parts-le (r .low) (r .low) (omega arith)) (λ _. e) (λ l _. l)
+
+  pub clip-high : r .low ≤ℤ r .high → clip r z ≤ℤ r .high
+  clip-high e =
+      clip-cases r z (λ (x : ℤ). x ≤ℤ r .high) (λ _. e) (λ _. parts-le (r .high) (r .high) (omega arith)) (λ _ h. h)

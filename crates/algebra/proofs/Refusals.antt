@@ -1,6 +1,6 @@
--- Tests in two parts: where the first part refuses, its number is the answer; where it does not, the second part decides.
--- Assumes nothing.
-use mathlib.Core.Path.{_≡_, refl, ap, subst}
+-- Tests in two parts: where the first part refuses, its number is the answer; where it does not, the second part decides. And
+-- what a number of 0 says: no test applied (`clear`). Assumes nothing.
+use mathlib.Core.Path.{_≡_, refl, sym, ap, _∙_, subst}
 use mathlib.Core.Bool.{Bool, true, false, cond, not, _&&_}
 use mathlib.Core.List.{List, [], _∷_, _++_}
 use Prim.Native.Nat.{ℕ}
@@ -41,3 +41,30 @@ module _ {A : Type 0} (us : List Refusal) (f : ℕ → ℕ → A) (d : A) where
       let here = and-left (not (eqb (t .number) 0) && eqb (t .place) 0) (plain ts) p in
       passed-here (t .applies) (t .number) (t .place) ts (and-left (not (eqb (t .number) 0)) (eqb (t .place) 0) here)
       (λ m. passed-first ts (and-right (not (eqb (t .number) 0) && eqb (t .place) 0) (plain ts) p) m) e
+
+-- ---- no test of a list applies
+abbrev pub Clear : List Refusal → Type 0
+Clear [] = Unit {0}
+Clear (t ∷ ts) = (t .applies ≡ false) × Clear ts
+
+pub clear-split : (ts us : List Refusal) → Clear (ts ++ us) → Clear ts × Clear us
+clear-split [] us c = (tt, c)
+clear-split (t ∷ ts) us c = ((c .0, clear-split ts us (c .1) .0), clear-split ts us (c .1) .1)
+
+-- no number of a list is 0
+abbrev pub numbered : List Refusal → Bool
+numbered [] = true
+numbered (t ∷ ts) = not (eqb (t .number) 0) && numbered ts
+
+-- an outcome that tells the number of its refusal, and whose number is 0
+module _ {A : Type 0} (number : A → ℕ) (refused : ℕ → ℕ → A) (done : A) (tells : (n place : ℕ) → number (refused n place) ≡ n) where
+  pub clear : (ts : List Refusal) → T (numbered ts) → number (firstOf ts refused done) ≡ 0 → Clear ts
+  clear [] n e = tt
+  clear (t ∷ ts) n e =
+      let here = and-left (not (eqb (t .number) 0)) (numbered ts) n in
+      one (t .applies) here (λ e. clear ts (and-right (not (eqb (t .number) 0)) (numbered ts) n) e) e
+    where
+      one : (b : Bool) → T (not (eqb (t .number) 0)) → (number (firstOf ts refused done) ≡ 0 → Clear ts)
+          → number (cond b (refused (t .number) (t .place)) (firstOf ts refused done)) ≡ 0 → (b ≡ false) × Clear ts
+      one true n next e = absurd (not-zero (t .number) n (sym (tells (t .number) (t .place)) ∙ e))
+      one false n next e = (refl, next e)

@@ -1,9 +1,9 @@
 -- Laws of finite sums: congruence, addition, scaling, splitting, exchange, reversal, sizes. Assumes nothing.
-use mathlib.Core.Path.{_≡_, refl, sym, ap, _∙_}
+use mathlib.Core.Path.{_≡_, refl, sym, ap, _∙_, subst}
 use mathlib.Core.List.{[], _∷_}
 use Prim.Native.Nat.{ℕ, zero, suc, _+_, _-_, _*_, _≤_, _<_}
 use native.Mathlib.Omega.{arith}
-use native.Mathlib.Nat.{le-trans, le-refl, mul-le-mul-left, add-mul, zero-mul, add-zero, add-suc, add-le-add, not-suc-le-zero}
+use native.Mathlib.Nat.{le-trans, le-refl, mul-le-mul-left, mul-le-mul-right, add-mul, zero-mul, add-zero, add-suc, add-le-add, not-suc-le-zero}
 use lib.IntN.{ℤ, pos, negℤ, natAbs, _+ℤ_, _*ℤ_, +ℤ-idr, +ℤ-assoc, +ℤ-comm, *ℤ-zero, negℤ-+ℤ}
 use Rattle.algebra.specs.Sum.{sum, sumℕ}
 use Rattle.algebra.proofs.Ring.{*ℤ-add}
@@ -143,6 +143,15 @@ sumℕ-le (suc k) n f = rw (add-suc n k) (more (n + k) (sumℕ-le k n f))
 
     more : (m : ℕ) → sumℕ n f ≤ sumℕ m f → sumℕ n f ≤ sumℕ (suc m) f
     more m h = omega (arith, sumℕ-next m f, ap (λ (x : ℕ). sumℕ x f) (one-more m))
+
+-- no partial sum is larger: |w 0 x 0 + .. + w (k - 1) x (k - 1)| ≤ W M for every k ≤ n, where Σ |w| ≤ W
+pub abs-part : (n : ℕ) (w x : ℕ → ℤ) (W M : ℕ) → sumℕ n (λ i. natAbs (w i)) ≤ W → ((i : ℕ) → i < n → natAbs (x i) ≤ M)
+    → (k : ℕ) → k ≤ n → natAbs (sum k (λ i. w i *ℤ x i)) ≤ W * M
+abs-part n w x W M v h k l =
+    let rest : k + (n - k) ≡ n = omega arith in
+    let f : ℕ → ℕ = λ i. natAbs (w i) in
+    le-trans (abs-dot k w x M (λ i p. h i (omega arith)))
+    (mul-le-mul-right M (le-trans (subst (λ (m : ℕ). sumℕ k f ≤ sumℕ m f) rest (sumℕ-le (n - k) k f)) v))
 
 -- ---- a sum is 0 where each of its numbers is
 pub sum-zero : (n : ℕ) (f : ℕ → ℕ) → sumℕ n f ≡ 0 → (i : ℕ) → i < n → f i ≡ 0

@@ -8,8 +8,8 @@ use borrow.Author.Tests.{ne-eqb}
 use lib.Dec.{eqb}
 use Rattle.meaning.specs.declared.Shape.{Shape}
 use Rattle.meaning.specs.Shape.{isSize, kept, keptColumns, keptRows}
+use Rattle.meaning.specs.Taken.{Taken}
 use Rattle.meaning.proofs.Cases.{size-cases}
-use Rattle.meaning.proofs.Taken.{Taken}
 
 -- either bound
 kept-cases : (P : ℕ → Type 0) (kind n : ℕ) → P (min n 32) → P (min n 16) → P (kept kind n)

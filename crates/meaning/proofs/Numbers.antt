@@ -13,7 +13,8 @@ use Rattle.meaning.specs.declared.Shape.{Shape}
 use Rattle.meaning.specs.declared.Answer.{Answer}
 use Rattle.meaning.specs.Weights.{first, fold, S, C, cosines, turn, D, weight}
 use Rattle.meaning.specs.Line.{forwardSum, inverseSum, forwardLine}
-use Rattle.meaning.specs.Shape.{isSize, isKind, isDepth, kept, keptColumns, keptRows, range, lastShift}
+use Rattle.meaning.specs.Shape.{isSize, isKind, isDepth, kept, keptColumns, keptRows}
+use Rattle.meaning.specs.Plan.{shortRange}
 use Rattle.meaning.specs.Answer.{Outcome, refused, accepted, forwardLineOutcome}
 use Rattle.meaning.specs.Inverse.{columnSum, rounded, middleAt, rails, rowSum, residual, inverseBlock, inverseOutcome}
 use Rattle.meaning.specs.Forward.{rowValue, columnValue, coefficient, forwardBlock, forwardOutcome}
@@ -140,7 +141,7 @@ pub data Hold : List Item → Type 0 where
   _and_ : {i : Item} {is : List Item} → Says i → Hold is → Hold (i ∷ is)
 
 pub numbers-hold : Hold numbers
-unfolding sum sumℕ tabulate block firstAt first fold S C cosines turn D weight forwardSum inverseSum forwardLine isSize isKind isDepth kept keptColumns keptRows range lastShift columnSum middleAt rails rowSum residual inverseBlock rowValue columnValue coefficient forwardBlock
+unfolding sum sumℕ tabulate block firstAt first fold S C cosines turn D weight forwardSum inverseSum forwardLine isSize isKind isDepth kept keptColumns keptRows shortRange columnSum middleAt rails rowSum residual inverseBlock rowValue columnValue coefficient forwardBlock
 numbers-hold =
     refl and refl and refl and refl and refl and refl and refl and refl and refl and refl and refl and refl and refl
     and refl and refl and refl and refl and refl and refl and refl and refl and refl and refl and refl and refl and refl

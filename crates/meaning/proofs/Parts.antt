@@ -1,5 +1,5 @@
--- The four parts of a residual, over any range between the stages and any last shift. Assumes nothing.
---   four-parts:     2^(7+s) · residual = exact + middle roundings + clippings + last rounding, for the last shift s
+-- The four parts of a residual, over any plan: any range between the stages, any last shift s. Assumes nothing.
+--   four-parts:     2^(7+s) · residual = exact + middle roundings + clippings + last rounding
 --   middles-near:   |middle roundings| ≤ 64 · A
 --   last-near:      |last rounding| ≤ 64 · 2^s, where 1 ≤ s
 -- and where the clip altered no middle value of the row's kept columns:
@@ -18,81 +18,80 @@ use Rattle.algebra.proofs.Normal.{ν, κ, _⊕_, _⊖_, _⊗_, ring! }
 use Rattle.algebra.proofs.Order.{abs-mul}
 use Rattle.algebra.proofs.Sum.{sum-cong, sum-add, sum-scale, abs-dot}
 use Rattle.algebra.proofs.Shift.{shift-near}
-use Rattle.meaning.specs.declared.Shape.{Shape}
 use Rattle.meaning.specs.Weights.{weight}
 use Rattle.meaning.specs.Line.{inverseSum}
-use Rattle.meaning.specs.Shape.{keptColumns, lastShift}
+use Rattle.meaning.specs.Plan.{Plan}
 use Rattle.meaning.specs.Inverse.{columnSum, rounded, middleAt, rowSum, residual}
 use Rattle.meaning.specs.Exact.{carried, exact, weightSizes, middleRoundings, clippings, lastRounding}
 
 -- ---- what is carried through the weights
-module _ (sh : Shape) (x : ℕ) where
-  carried-cong : (f g : ℕ → ℤ) → ((i : ℕ) → i < keptColumns sh → f i ≡ g i) → carried sh x f ≡ carried sh x g
+module _ (p : Plan) (x : ℕ) where
+  carried-cong : (f g : ℕ → ℤ) → ((i : ℕ) → i < p .columns → f i ≡ g i) → carried p x f ≡ carried p x g
   unfolding carried
   carried-cong f g e =
-      let w : ℕ → ℤ = λ i. weight (sh .horizontal) (sh .width) i x in
-      sum-cong (keptColumns sh) (λ i. w i *ℤ f i) (λ i. w i *ℤ g i) (λ i h. ap (λ (z : ℤ). w i *ℤ z) (e i h))
+      let w : ℕ → ℤ = λ i. weight (p .horizontal) (p .width) i x in
+      sum-cong (p .columns) (λ i. w i *ℤ f i) (λ i. w i *ℤ g i) (λ i h. ap (λ (z : ℤ). w i *ℤ z) (e i h))
 
-  carried-add : (f g : ℕ → ℤ) → carried sh x (λ i. f i +ℤ g i) ≡ carried sh x f +ℤ carried sh x g
+  carried-add : (f g : ℕ → ℤ) → carried p x (λ i. f i +ℤ g i) ≡ carried p x f +ℤ carried p x g
   unfolding carried
   carried-add f g =
-      let w : ℕ → ℤ = λ i. weight (sh .horizontal) (sh .width) i x in
-      sum-cong (keptColumns sh) (λ i. w i *ℤ (f i +ℤ g i)) (λ i. w i *ℤ f i +ℤ w i *ℤ g i)
+      let w : ℕ → ℤ = λ i. weight (p .horizontal) (p .width) i x in
+      sum-cong (p .columns) (λ i. w i *ℤ (f i +ℤ g i)) (λ i. w i *ℤ f i +ℤ w i *ℤ g i)
       (λ i h. ring! (w i ∷ f i ∷ g i ∷ []) (ν 0 ⊗ (ν 1 ⊕ ν 2)) (ν 0 ⊗ ν 1 ⊕ ν 0 ⊗ ν 2) tt)
-      ∙ sum-add (keptColumns sh) (λ i. w i *ℤ f i) (λ i. w i *ℤ g i)
+      ∙ sum-add (p .columns) (λ i. w i *ℤ f i) (λ i. w i *ℤ g i)
 
-  carried-scale : (k : ℤ) (f : ℕ → ℤ) → carried sh x (λ i. k *ℤ f i) ≡ k *ℤ carried sh x f
+  carried-scale : (k : ℤ) (f : ℕ → ℤ) → carried p x (λ i. k *ℤ f i) ≡ k *ℤ carried p x f
   unfolding carried
   carried-scale k f =
-      let w : ℕ → ℤ = λ i. weight (sh .horizontal) (sh .width) i x in
-      sum-cong (keptColumns sh) (λ i. w i *ℤ (k *ℤ f i)) (λ i. k *ℤ (w i *ℤ f i))
+      let w : ℕ → ℤ = λ i. weight (p .horizontal) (p .width) i x in
+      sum-cong (p .columns) (λ i. w i *ℤ (k *ℤ f i)) (λ i. k *ℤ (w i *ℤ f i))
       (λ i h. ring! (w i ∷ f i ∷ k ∷ []) (ν 0 ⊗ (ν 2 ⊗ ν 1)) (ν 2 ⊗ (ν 0 ⊗ ν 1)) tt)
-      ∙ sum-scale (keptColumns sh) k (λ i. w i *ℤ f i)
+      ∙ sum-scale (p .columns) k (λ i. w i *ℤ f i)
 
   -- of numbers of size at most M
-  carried-in : (f : ℕ → ℤ) (M : ℕ) → ((i : ℕ) → i < keptColumns sh → natAbs (f i) ≤ M) → natAbs (carried sh x f) ≤ M * weightSizes sh x
+  carried-in : (f : ℕ → ℤ) (M : ℕ) → ((i : ℕ) → i < p .columns → natAbs (f i) ≤ M) → natAbs (carried p x f) ≤ M * weightSizes p x
   unfolding carried weightSizes
   carried-in f M h =
-      let w : ℕ → ℤ = λ i. weight (sh .horizontal) (sh .width) i x in
-      rw (mul-comm M (sumℕ (keptColumns sh) (λ i. natAbs (w i)))) (abs-dot (keptColumns sh) w f M h)
+      let w : ℕ → ℤ = λ i. weight (p .horizontal) (p .width) i x in
+      rw (mul-comm M (sumℕ (p .columns) (λ i. natAbs (w i)))) (abs-dot (p .columns) w f M h)
 
-module _ (sh : Shape) (c : List ℤ) (x y : ℕ) where
-  row-carried : rowSum sh c x y ≡ carried sh x (λ i. middleAt sh c i y)
+module _ (p : Plan) (c : List ℤ) (x y : ℕ) where
+  row-carried : rowSum p c x y ≡ carried p x (λ i. middleAt p c i y)
   unfolding rowSum inverseSum carried
   row-carried = refl
 
   -- 128 · row sum = exact + middle roundings + clippings
-  three-parts : pos 128 *ℤ rowSum sh c x y ≡ exact sh c x y +ℤ middleRoundings sh c x y +ℤ clippings sh c x y
+  three-parts : pos 128 *ℤ rowSum p c x y ≡ exact p c x y +ℤ middleRoundings p c x y +ℤ clippings p c x y
   unfolding exact middleRoundings clippings
   three-parts =
-      let e : ℕ → ℤ = λ i. columnSum sh c i y in
-      let r : ℕ → ℤ = λ i. rounded (columnSum sh c i y) in
-      let m : ℕ → ℤ = λ i. middleAt sh c i y in
+      let e : ℕ → ℤ = λ i. columnSum p c i y in
+      let r : ℕ → ℤ = λ i. rounded (columnSum p c i y) in
+      let m : ℕ → ℤ = λ i. middleAt p c i y in
       let a : ℕ → ℤ = λ i. pos 128 *ℤ r i -ℤ e i in
       let b : ℕ → ℤ = λ i. pos 128 *ℤ (m i -ℤ r i) in
-      ap (λ (z : ℤ). pos 128 *ℤ z) row-carried ∙ sym (carried-scale sh x (pos 128) m)
-      ∙ carried-cong sh x (λ i. pos 128 *ℤ m i) (λ i. e i +ℤ a i +ℤ b i)
+      ap (λ (z : ℤ). pos 128 *ℤ z) row-carried ∙ sym (carried-scale p x (pos 128) m)
+      ∙ carried-cong p x (λ i. pos 128 *ℤ m i) (λ i. e i +ℤ a i +ℤ b i)
       (λ i h. ring! (e i ∷ r i ∷ m i ∷ []) (κ (pos 128) ⊗ ν 2) (ν 0 ⊕ (κ (pos 128) ⊗ ν 1 ⊖ ν 0) ⊕ κ (pos 128) ⊗ (ν 2 ⊖ ν 1)) tt)
-      ∙ carried-add sh x (λ i. e i +ℤ a i) b ∙ ap (λ (z : ℤ). z +ℤ carried sh x b) (carried-add sh x e a)
+      ∙ carried-add p x (λ i. e i +ℤ a i) b ∙ ap (λ (z : ℤ). z +ℤ carried p x b) (carried-add p x e a)
 
-  pub four-parts : pos (2 ^ (7 + lastShift sh)) *ℤ residual sh c x y ≡ exact sh c x y +ℤ middleRoundings sh c x y +ℤ clippings sh c x y +ℤ lastRounding sh c x y
+  pub four-parts : pos (2 ^ (7 + p .last)) *ℤ residual p c x y ≡ exact p c x y +ℤ middleRoundings p c x y +ℤ clippings p c x y +ℤ lastRounding p c x y
   unfolding lastRounding
   four-parts =
-      let p = pos (2 ^ lastShift sh) in
-      let r = rowSum sh c x y in
-      let z = residual sh c x y in
-      ap (λ (n : ℕ). pos n *ℤ z) (pow-add 2 7 (lastShift sh))
-      ∙ ring! (p ∷ r ∷ z ∷ []) (κ (pos 128) ⊗ ν 0 ⊗ ν 2) (κ (pos 128) ⊗ ν 1 ⊕ κ (pos 128) ⊗ (ν 0 ⊗ ν 2 ⊖ ν 1)) tt
-      ∙ ap (λ (t : ℤ). t +ℤ pos 128 *ℤ (p *ℤ z -ℤ r)) three-parts
+      let b = pos (2 ^ p .last) in
+      let r = rowSum p c x y in
+      let z = residual p c x y in
+      ap (λ (n : ℕ). pos n *ℤ z) (pow-add 2 7 (p .last))
+      ∙ ring! (b ∷ r ∷ z ∷ []) (κ (pos 128) ⊗ ν 0 ⊗ ν 2) (κ (pos 128) ⊗ ν 1 ⊕ κ (pos 128) ⊗ (ν 0 ⊗ ν 2 ⊖ ν 1)) tt
+      ∙ ap (λ (t : ℤ). t +ℤ pos 128 *ℤ (b *ℤ z -ℤ r)) three-parts
 
-  pub middles-near : natAbs (middleRoundings sh c x y) ≤ 64 * weightSizes sh x
+  pub middles-near : natAbs (middleRoundings p c x y) ≤ 64 * weightSizes p x
   unfolding middleRoundings
   middles-near =
-      carried-in sh x (λ i. pos 128 *ℤ rounded (columnSum sh c i y) -ℤ columnSum sh c i y) 64 (λ i h. shift-near (columnSum sh c i y) 6)
+      carried-in p x (λ i. pos 128 *ℤ rounded (columnSum p c i y) -ℤ columnSum p c i y) 64 (λ i h. shift-near (columnSum p c i y) 6)
 
-  pub last-near : 1 ≤ lastShift sh → natAbs (lastRounding sh c x y) ≤ 64 * 2 ^ lastShift sh
+  pub last-near : 1 ≤ p .last → natAbs (lastRounding p c x y) ≤ 64 * 2 ^ p .last
   unfolding lastRounding residual
-  last-near h = near (lastShift sh) (rowSum sh c x y) h
+  last-near h = near (p .last) (rowSum p c x y) h
     where
       near : (s : ℕ) (r : ℤ) → 1 ≤ s → natAbs (pos 128 *ℤ (pos (2 ^ s) *ℤ nearest s r -ℤ r)) ≤ 64 * 2 ^ s
       near zero r h = absurd (omega arith)
@@ -101,18 +100,18 @@ module _ (sh : Shape) (c : List ℤ) (x y : ℕ) where
           let n : natAbs (pos (2 ^ suc k) *ℤ nearest (suc k) r -ℤ r) ≤ 2 ^ k = rw e (shift-near r k) in
           rw (abs-mul (pos 128) (pos (2 ^ suc k) *ℤ nearest (suc k) r -ℤ r)) (omega (arith, pow-succ' 2 k))
 
-  pub clippings-none : ((i : ℕ) → i < keptColumns sh → middleAt sh c i y ≡ rounded (columnSum sh c i y)) → clippings sh c x y ≡ pos 0
+  pub clippings-none : ((i : ℕ) → i < p .columns → middleAt p c i y ≡ rounded (columnSum p c i y)) → clippings p c x y ≡ pos 0
   unfolding clippings
   clippings-none same =
-      carried-cong sh x (λ i. pos 128 *ℤ (middleAt sh c i y -ℤ rounded (columnSum sh c i y))) (λ i. pos 0 *ℤ pos 0)
-      (λ i h. ap (λ (z : ℤ). pos 128 *ℤ (z -ℤ rounded (columnSum sh c i y))) (same i h) ∙ ring! (rounded (columnSum sh c i y) ∷ []) (κ (pos 128) ⊗ (ν 0 ⊖ ν 0)) (κ (pos 0)) tt)
-      ∙ carried-scale sh x (pos 0) (λ i. pos 0) ∙ ring! (carried sh x (λ i. pos 0) ∷ []) (κ (pos 0) ⊗ ν 0) (κ (pos 0)) tt
+      carried-cong p x (λ i. pos 128 *ℤ (middleAt p c i y -ℤ rounded (columnSum p c i y))) (λ i. pos 0 *ℤ pos 0)
+      (λ i h. ap (λ (z : ℤ). pos 128 *ℤ (z -ℤ rounded (columnSum p c i y))) (same i h) ∙ ring! (rounded (columnSum p c i y) ∷ []) (κ (pos 128) ⊗ (ν 0 ⊖ ν 0)) (κ (pos 0)) tt)
+      ∙ carried-scale p x (pos 0) (λ i. pos 0) ∙ ring! (carried p x (λ i. pos 0) ∷ []) (κ (pos 0) ⊗ ν 0) (κ (pos 0)) tt
 
-  pub two-parts : ((i : ℕ) → i < keptColumns sh → middleAt sh c i y ≡ rounded (columnSum sh c i y))
-      → pos (2 ^ (7 + lastShift sh)) *ℤ residual sh c x y -ℤ exact sh c x y ≡ middleRoundings sh c x y +ℤ lastRounding sh c x y
+  pub two-parts : ((i : ℕ) → i < p .columns → middleAt p c i y ≡ rounded (columnSum p c i y))
+      → pos (2 ^ (7 + p .last)) *ℤ residual p c x y -ℤ exact p c x y ≡ middleRoundings p c x y +ℤ lastRounding p c x y
   two-parts same =
-      let e = exact sh c x y in
-      let m = middleRoundings sh c x y in
-      let l = lastRounding sh c x y in
+      let e = exact p c x y in
+      let m = middleRoundings p c x y in
+      let l = lastRounding p c x y in
       ap (λ (z : ℤ). z -ℤ e) (four-parts ∙ ap (λ (z : ℤ). e +ℤ m +ℤ z +ℤ l) (clippings-none same))
       ∙ ring! (e ∷ m ∷ l ∷ []) (ν 0 ⊕ ν 1 ⊕ κ (pos 0) ⊕ ν 2 ⊖ ν 0) (ν 1 ⊕ ν 2) tt

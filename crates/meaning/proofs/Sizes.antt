@@ -1,21 +1,22 @@
 -- Sizes of weights and of a line's sums. No row and no column of weights is above 64 n in size (`rowSizes`, `columnSizes`),
--- so no sum of a line over inputs of size M is above 64 n M (`forwardSum-in`, `inverseSum-in`), and over 16-bit inputs each
--- fits 32 bits (`forwardSum-fits`, `inverseSum-fits`). "Biggest row sums of sizes: 242, 475, 935, 1858" is `rowLargest`; a row of
--- kind 0 reaches 64 n, 2048 at 32 points.
+-- so no sum of a line over inputs of size M is above 64 n M (`forwardSum-in`, `inverseSum-in`), and no partial sum, its first
+-- k terms, is (`forward-part`, `inverse-part`). Over 16-bit inputs each partial sum fits 32 bits (`forward-part-fits`, and
+-- `inverseSum-fits`, since an inverse sum is one over its first `count` inputs). "Biggest row sums of sizes: 242, 475, 935,
+-- 1858" is `rowLargest`; a row of kind 0 reaches 64 n, 2048 at 32 points.
 use mathlib.Core.Path.{_≡_, refl, subst}
 use mathlib.Core.Bool.{Bool, true, false, cond, _&&_}
 use mathlib.Core.List.{List, [], _∷_}
 use Prim.Native.Nat.{ℕ, zero, suc, _+_, _*_, _-_, _/_, _%_, _≤_, _<_, min, zero-le}
-use native.Mathlib.Nat.{le-trans, mul-le-mul-right}
+use native.Mathlib.Nat.{le-refl, le-trans}
 use native.Mathlib.Omega.{arith}
 use lib.Dec.{T, eqb, leb, leb→le}
-use lib.IntN.{ℤ, natAbs}
+use lib.IntN.{ℤ, natAbs, _*ℤ_}
 use lib.ListN.{getD}
 use mir.Syntax.{w32}
 use mir.Val.{SFits}
-use Rattle.algebra.specs.Sum.{sumℕ}
+use Rattle.algebra.specs.Sum.{sum, sumℕ}
 use Rattle.algebra.proofs.Order.{abs-neg, within, fits-in}
-use Rattle.algebra.proofs.Sum.{sumℕ-le, abs-dot}
+use Rattle.algebra.proofs.Sum.{sumℕ-le, abs-part}
 use Rattle.algebra.proofs.Table.{allTo, allTo-at, and-left, and-right}
 use Rattle.meaning.specs.Weights.{first, signed, fold, S, C, cosines, turn, D, weight}
 use Rattle.meaning.specs.Line.{forwardSum, inverseSum}
@@ -39,6 +40,15 @@ largestRow kind n = cond (eqb kind 0) (64 * n) (largestOf n)
 
 abbrev pub largestColumn : ℕ → ℕ → ℕ
 largestColumn kind n = cond (eqb kind 0) (cond (eqb n 4) 247 (cond (eqb n 8) 479 (cond (eqb n 16) 940 1862))) (largestOf n)
+
+-- ---- every partial sum of a line, of any kind and any size, for weights of size at most W in all and inputs of size at most M
+module _ (kind n : ℕ) (x : ℕ → ℤ) (W M : ℕ) where
+  pub forward-part : (i : ℕ) → rowSize kind n i ≤ W → ((j : ℕ) → j < n → natAbs (x j) ≤ M) → (k : ℕ) → k ≤ n → natAbs (sum k (λ j. weight kind n i j *ℤ x j)) ≤ W * M
+  forward-part i = abs-part n (λ j. weight kind n i j) x W M
+
+  pub inverse-part : (count j : ℕ) → columnSize kind n count j ≤ W → ((i : ℕ) → i < count → natAbs (x i) ≤ M) → (k : ℕ) → k ≤ count → natAbs (inverseSum kind n k x j) ≤ W * M
+  unfolding inverseSum
+  inverse-part count j = abs-part count (λ i. weight kind n i j) x W M
 
 -- ---- one test of a kind and a size, carried to each row and column
 abbrev sizesTo : ℕ → ℕ → ℕ → ℕ → Bool
@@ -86,34 +96,49 @@ module _ (kind n : ℕ) (k : isKind kind ≡ true) (s : isSize n ≡ true) where
   columnSizes j h =
       le-trans (columnLargest j h) (leb→le (largestColumn kind n) (64 * n) (and-right (leb (largestRow kind n) (64 * n)) (leb (largestColumn kind n) (64 * n)) inside))
 
-  pub columnSizesKept : (count j : ℕ) → count ≤ n → j < n → columnSize kind n count j ≤ 64 * n
-  columnSizesKept count j c h =
+  -- of the first `count` rows
+  kept : (count j : ℕ) → count ≤ n → columnSize kind n count j ≤ columnSize kind n n j
+  kept count j c =
       let rest : count + (n - count) ≡ n = omega arith in
-      le-trans (subst (λ m. columnSize kind n count j ≤ columnSize kind n m j) rest (sumℕ-le (n - count) count (λ i. natAbs (weight kind n i j)))) (columnSizes j h)
+      subst (λ m. columnSize kind n count j ≤ columnSize kind n m j) rest (sumℕ-le (n - count) count (λ i. natAbs (weight kind n i j)))
+
+  pub columnSizesKept : (count j : ℕ) → count ≤ n → j < n → columnSize kind n count j ≤ 64 * n
+  columnSizesKept count j c h = le-trans (kept count j c) (columnSizes j h)
+
+  pub columnLargestKept : (count j : ℕ) → count ≤ n → j < n → columnSize kind n count j ≤ largestColumn kind n
+  columnLargestKept count j c h = le-trans (kept count j c) (columnLargest j h)
 
   -- ---- of sums: what inputs of size M give
   module _ (x : ℕ → ℤ) (M : ℕ) where
     pub forwardSum-in : ((j : ℕ) → j < n → natAbs (x j) ≤ M) → (i : ℕ) → i < n → natAbs (forwardSum kind n x i) ≤ 64 * n * M
     unfolding forwardSum
-    forwardSum-in small i h = le-trans (abs-dot n (λ j. weight kind n i j) x M small) (mul-le-mul-right M (rowSizes i h))
+    forwardSum-in small i h = forward-part kind n x (64 * n) M i (rowSizes i h) small n (le-refl n)
 
     pub inverseSum-in : (count : ℕ) → count ≤ n → ((i : ℕ) → i < count → natAbs (x i) ≤ M) → (j : ℕ) → j < n → natAbs (inverseSum kind n count x j) ≤ 64 * n * M
-    unfolding inverseSum
-    inverseSum-in count c small j h = le-trans (abs-dot count (λ i. weight kind n i j) x M small) (mul-le-mul-right M (columnSizesKept count j c h))
+    inverseSum-in count c small j h = inverse-part kind n x (64 * n) M count j (columnSizesKept count j c h) small count (le-refl count)
 
   -- 16-bit inputs
   short : {z : ℕ} → z ≤ 64 * n * 32768 → z ≤ 67108864
   short h = omega (arith, size-in n s)
 
   module _ (x : ℕ → ℤ) where
-    pub forwardSum-short : ((j : ℕ) → j < n → natAbs (x j) ≤ 32768) → (i : ℕ) → i < n → natAbs (forwardSum kind n x i) ≤ 67108864
-    forwardSum-short small i h = short (forwardSum-in x 32768 small i h)
+    module _ (small : (j : ℕ) → j < n → natAbs (x j) ≤ 32768) (i : ℕ) (h : i < n) where
+      pub forward-part-short : (k : ℕ) → k ≤ n → natAbs (sum k (λ j. weight kind n i j *ℤ x j)) ≤ 67108864
+      forward-part-short k l = short (forward-part kind n x (64 * n) 32768 i (rowSizes i h) small k l)
+
+      pub forward-part-fits : (k : ℕ) → k ≤ n → SFits w32 (sum k (λ j. weight kind n i j *ℤ x j))
+      forward-part-fits k l = fits-in tt (within (sum k (λ j. weight kind n i j *ℤ x j)) (forward-part-short k l))
+
+      pub forwardSum-short : natAbs (forwardSum kind n x i) ≤ 67108864
+      unfolding forwardSum
+      forwardSum-short = forward-part-short n (le-refl n)
+
+      pub forwardSum-fits : SFits w32 (forwardSum kind n x i)
+      unfolding forwardSum
+      forwardSum-fits = forward-part-fits n (le-refl n)
 
     pub inverseSum-short : (count : ℕ) → count ≤ n → ((i : ℕ) → i < count → natAbs (x i) ≤ 32768) → (j : ℕ) → j < n → natAbs (inverseSum kind n count x j) ≤ 67108864
     inverseSum-short count c small j h = short (inverseSum-in x 32768 count c small j h)
-
-    pub forwardSum-fits : ((j : ℕ) → j < n → natAbs (x j) ≤ 32768) → (i : ℕ) → i < n → SFits w32 (forwardSum kind n x i)
-    forwardSum-fits small i h = fits-in tt (within (forwardSum kind n x i) (forwardSum-short small i h))
 
     pub inverseSum-fits : (count : ℕ) → count ≤ n → ((i : ℕ) → i < count → natAbs (x i) ≤ 32768) → (j : ℕ) → j < n → SFits w32 (inverseSum kind n count x j)
     inverseSum-fits count c small j h = fits-in tt (within (inverseSum kind n count x j) (inverseSum-short count c small j h))

@@ -11,13 +11,10 @@ use lib.ListN.{length}
 use Rattle.algebra.specs.Lists.{at}
 use Rattle.algebra.proofs.First.{first-before}
 use Rattle.meaning.specs.declared.Shape.{Shape}
+use Rattle.meaning.specs.Taken.{NoneAbove}
 use Rattle.meaning.specs.Forward.{tooLarge, firstTooLarge}
 
--- no number of a list is above M in size
-abbrev pub NoneAbove : ℕ → List ℤ → Type 0
-NoneAbove M l = (k : ℕ) → natAbs (at l k) ≤ M
-
--- it is enough to look at its places, since past the end `at` gives 0
+-- it is enough to look at the places of a list, since past the end `at` gives 0
 pub within-places : (M : ℕ) (l : List ℤ) → ((k : ℕ) → k < length l → natAbs (at l k) ≤ M) → NoneAbove M l
 within-places M [] h k = zero-le
 within-places M (z ∷ l) h zero = h zero (omega arith)

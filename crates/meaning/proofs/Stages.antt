@@ -1,32 +1,37 @@
 -- Sizes in both stages of a block, over every shape that is taken: no sum leaves 32 bits, no value between the stages and no
--- coefficient leaves 16. Inverse: `columnSum-fits`, `middle-fits`, `rowSum-fits`, `residual-fits`, of 16-bit coefficients.
--- Forward: `rowStage-fits`, `rowValue-fits`, `columnStage-fits`, `coefficient-fits`, of residuals of size at most 2^d-1:
--- "Nothing is clipped, as nothing leaves 16 bits".
+-- coefficient leaves 16. "No sum" is every partial sum, the first k terms for every k, and what each rounding is put to.
+-- Inverse, of 16-bit coefficients (PlanSizes at the plan of the shape): `column-part-fits`, `column-rounding-fits` (e + 64),
+-- `middle-fits`, `row-part-fits`, `row-rounding-fits` (r + 2^(19-d)), `residual-fits`. Forward, of residuals of size at most
+-- 2^d-1: `rowStage-part-fits`, `rowStage-rounding-fits` (y + 2^(p-1)), `rowValue-fits`, `columnStage-part-fits`,
+-- `columnStage-rounding-fits` (y + 2^(q-1)), `coefficient-fits`: "Nothing is clipped, as nothing leaves 16 bits".
 use mathlib.Core.Path.{_≡_, refl, sym, ap, _∙_, subst}
 use mathlib.Core.Bool.{true, _&&_}
 use mathlib.Core.List.{List}
 use Prim.Native.Nat.{ℕ, _+_, _*_, _-_, _^_, _≤_, _<_, zero-le}
 use native.Mathlib.Nat.{le-trans, mul-assoc, mul-sub}
 use native.Mathlib.Omega.{arith}
-use lib.Dec.{ltb}
+use lib.Dec.{eqb, ltb}
 use lib.Pow.{pow-pos, pow-mono, pow-add}
-use lib.IntN.{ℤ, natAbs}
+use lib.IntN.{ℤ, pos, natAbs, _+ℤ_, _*ℤ_}
+use lib.Signed.{leZ-yes}
 use mir.Syntax.{w16, w32}
 use mir.Val.{SFits}
+use Rattle.algebra.specs.Sum.{sum}
 use Rattle.algebra.specs.Lists.{at}
-use Rattle.algebra.proofs.Order.{within, fits-in, in-fits, parts-fit, le-parts}
+use Rattle.algebra.proofs.Order.{within, fits-in, parts-fit, le-parts, abs-add}
 use Rattle.algebra.proofs.Shift.{shift-in, nearest-in}
-use Rattle.algebra.proofs.Clip.{clip-cases}
 use Rattle.meaning.specs.declared.Shape.{Shape}
-use Rattle.meaning.specs.Shape.{isSize, keptColumns, keptRows, range, lastShift}
-use Rattle.meaning.specs.Line.{forwardSum}
+use Rattle.meaning.specs.Weights.{weight}
+use Rattle.meaning.specs.Line.{forwardSum, inverseSum}
+use Rattle.meaning.specs.Shape.{isSize, keptColumns, keptRows}
+use Rattle.meaning.specs.Plan.{shortRange, planOf}
+use Rattle.meaning.specs.Taken.{Taken, Sized, NoneAbove}
 use Rattle.meaning.specs.Inverse.{columnSum, rounded, middleAt, rowSum, residual}
 use Rattle.meaning.specs.Forward.{log2, rowShift, columnShift, rowValue, columnValue, coefficient}
-use Rattle.meaning.proofs.Cases.{size-cases, depth-cases, pick}
-use Rattle.meaning.proofs.Taken.{Taken}
-use Rattle.meaning.proofs.Small.{NoneAbove}
+use Rattle.meaning.proofs.Cases.{size-cases, size-in, depth-cases, pick}
 use Rattle.meaning.proofs.KeptPart.{kept-in}
-use Rattle.meaning.proofs.Sizes.{forwardSum-in, forwardSum-short, inverseSum-short}
+use Rattle.meaning.proofs.Sizes.{forwardSum-in, forwardSum-short, forward-part-fits}
+use Rattle.meaning.proofs.PlanSizes.{Around, down-sizes, along-sizes, column-part, columnSum-size, middle-within, middle-size, row-part, rowSum-size}
 
 -- ---- the inverse
 module _ (sh : Shape) where
@@ -38,54 +43,89 @@ module _ (sh : Shape) where
   unfolding keptRows
   rows-in = kept-in (sh .vertical) (sh .height)
 
-  -- by the clip, whatever the coefficients are
-  pub middle-fits : (c : List ℤ) (x y : ℕ) → SFits w16 (middleAt sh c x y)
-  unfolding middleAt range
-  middle-fits c x y =
-      pick (SFits w16) (ltb x (keptColumns sh))
-      (clip-cases (range sh) (rounded (columnSum sh c x y)) (SFits w16)
-      (λ _. record { sfits = omega arith })
-      (λ _. record { sfits = omega arith })
-      (λ low high. parts-fit w16 (rounded (columnSum sh c x y)) (omega (arith, le-parts low, le-parts high)) (omega (arith, le-parts low, le-parts high))))
-      (record { sfits = omega arith })
+  pub taken-sized : Taken sh → Sized (planOf sh)
+  taken-sized t = record { width = t .width; height = t .height; horizontal = t .horizontal; vertical = t .vertical; columns = columns-in; rows = rows-in }
 
-  pub middle-in : (c : List ℤ) (x y : ℕ) → natAbs (middleAt sh c x y) ≤ 32768
-  middle-in c x y = in-fits (middle-fits c x y) .within
+-- 16 bits
+pub short-around : Around 32768 shortRange
+unfolding shortRange
+short-around = record { low = leZ-yes tt; high = leZ-yes tt; down = omega arith; up = omega arith }
+
+module _ (sh : Shape) (c : List ℤ) (x y : ℕ) where
+  pub middle-fits : SFits w16 (middleAt (planOf sh) c x y)
+  unfolding shortRange
+  middle-fits =
+      let w = middle-within (planOf sh) c short-around x y in
+      parts-fit w16 (middleAt (planOf sh) c x y) (omega (arith, le-parts (w .0), le-parts (w .1))) (omega (arith, le-parts (w .0), le-parts (w .1)))
+
+  pub middle-in : natAbs (middleAt (planOf sh) c x y) ≤ 32768
+  middle-in = middle-size (planOf sh) c short-around x y
+
+-- 64 n is at most 2048, so no sum of a taken shape is above 2^26
+few : (n : ℕ) {z : ℕ} → isSize n ≡ true → z ≤ 64 * n * 32768 → z ≤ 67108864
+few n s h = omega (arith, size-in n s)
+
+-- .. and a rounding adds at most 2^11
+rounding-fits : (z : ℤ) (s : ℕ) → natAbs z ≤ 67108864 → s ≤ 12 → SFits w32 (z +ℤ pos (2 ^ (s - 1)))
+rounding-fits z s h l =
+    let p : 2 ^ (s - 1) ≤ 2048 = pow-mono {i = s - 1} {j = 11} (omega arith) in
+    fits-in {B = 67110912} tt (within (z +ℤ pos (2 ^ (s - 1))) (omega (arith, abs-add z (pos (2 ^ (s - 1))))))
 
 module _ (sh : Shape) (t : Taken sh) (c : List ℤ) where
-  pub columnSum-in : NoneAbove 32768 c → (x y : ℕ) → y < sh .height → natAbs (columnSum sh c x y) ≤ 67108864
-  unfolding columnSum
-  columnSum-in small x y h =
-      inverseSum-short (sh .vertical) (sh .height) (t .vertical) (t .height) (λ i. at c (x + i * sh .width)) (keptRows sh) (rows-in sh) (λ i _. small (x + i * sh .width)) y h
+  -- ---- columns, of 16-bit coefficients
+  module _ (small : NoneAbove 32768 c) (x y : ℕ) (h : y < sh .height) where
+    pub columnSum-in : natAbs (columnSum (planOf sh) c x y) ≤ 67108864
+    columnSum-in = few (sh .height) (t .height) (columnSum-size (planOf sh) c small x y (down-sizes (taken-sized sh t) y h))
 
-  pub columnSum-fits : NoneAbove 32768 c → (x y : ℕ) → y < sh .height → SFits w32 (columnSum sh c x y)
-  columnSum-fits small x y h = fits-in tt (within (columnSum sh c x y) (columnSum-in small x y h))
+    -- its first k terms
+    pub column-part-fits : (k : ℕ) → k ≤ keptRows sh → SFits w32 (inverseSum (sh .vertical) (sh .height) k (λ i. at c (x + i * sh .width)) y)
+    column-part-fits k l =
+        fits-in tt (within (inverseSum (sh .vertical) (sh .height) k (λ i. at c (x + i * sh .width)) y)
+        (few (sh .height) (t .height) (column-part (planOf sh) c small x y (down-sizes (taken-sized sh t) y h) k l)))
 
-  -- before the clip
-  pub rounded-in : NoneAbove 32768 c → (x y : ℕ) → y < sh .height → natAbs (rounded (columnSum sh c x y)) ≤ 524288
-  rounded-in small x y h = shift-in (columnSum sh c x y) 6 524288 (columnSum-in small x y h)
+    pub columnSum-fits : SFits w32 (columnSum (planOf sh) c x y)
+    columnSum-fits = fits-in tt (within (columnSum (planOf sh) c x y) columnSum-in)
 
-  pub rowSum-in : (x y : ℕ) → x < sh .width → natAbs (rowSum sh c x y) ≤ 67108864
-  unfolding rowSum
-  rowSum-in x y h =
-      inverseSum-short (sh .horizontal) (sh .width) (t .horizontal) (t .width) (λ i. middleAt sh c i y) (keptColumns sh) (columns-in sh) (λ i _. middle-in sh c i y) x h
+    -- "e+64"
+    pub column-rounding-fits : SFits w32 (columnSum (planOf sh) c x y +ℤ pos 64)
+    column-rounding-fits = rounding-fits (columnSum (planOf sh) c x y) 7 columnSum-in (omega arith)
 
-  pub rowSum-fits : (x y : ℕ) → x < sh .width → SFits w32 (rowSum sh c x y)
-  rowSum-fits x y h = fits-in tt (within (rowSum sh c x y) (rowSum-in x y h))
+    -- before the clip
+    pub rounded-in : natAbs (rounded (columnSum (planOf sh) c x y)) ≤ 524288
+    rounded-in = shift-in (columnSum (planOf sh) c x y) 6 524288 columnSum-in
 
-  some-last : 8 ≤ lastShift sh
-  unfolding lastShift
-  some-last = let d = depth-cases (sh .depth) (t .depth) in omega arith
+  -- ---- rows, whatever the coefficients are
+  last-in : (8 ≤ 20 - sh .depth) × (20 - sh .depth ≤ 12)
+  last-in = let d = depth-cases (sh .depth) (t .depth) in (omega arith, omega arith)
 
-  -- 2^26 over 2^8
-  pub residual-in : (x y : ℕ) → x < sh .width → natAbs (residual sh c x y) ≤ 262144
-  unfolding residual
-  residual-in x y h =
-      let p : 256 ≤ 2 ^ lastShift sh = pow-mono {i = 8} some-last in
-      nearest-in (lastShift sh) (rowSum sh c x y) 262144 (omega (arith, some-last)) (omega (arith, rowSum-in x y h))
+  module _ (x y : ℕ) (h : x < sh .width) where
+    pub rowSum-in : natAbs (rowSum (planOf sh) c x y) ≤ 67108864
+    rowSum-in = few (sh .width) (t .width) (rowSum-size (planOf sh) c short-around x y (along-sizes (taken-sized sh t) x h))
 
-  pub residual-fits : (x y : ℕ) → x < sh .width → SFits w32 (residual sh c x y)
-  residual-fits x y h = fits-in tt (within (residual sh c x y) (residual-in x y h))
+    -- its first k terms
+    pub row-part-fits : (k : ℕ) → k ≤ keptColumns sh → SFits w32 (inverseSum (sh .horizontal) (sh .width) k (λ i. middleAt (planOf sh) c i y) x)
+    row-part-fits k l =
+        fits-in tt (within (inverseSum (sh .horizontal) (sh .width) k (λ i. middleAt (planOf sh) c i y) x)
+        (few (sh .width) (t .width) (row-part (planOf sh) c short-around x y (along-sizes (taken-sized sh t) x h) k l)))
+
+    pub rowSum-fits : SFits w32 (rowSum (planOf sh) c x y)
+    rowSum-fits = fits-in tt (within (rowSum (planOf sh) c x y) rowSum-in)
+
+    -- "r + 2^(19-d)"
+    pub row-rounding-fits : SFits w32 (rowSum (planOf sh) c x y +ℤ pos (2 ^ (19 - sh .depth)))
+    row-rounding-fits =
+        let e : 20 - sh .depth - 1 ≡ 19 - sh .depth = omega arith in
+        rw e at (rounding-fits (rowSum (planOf sh) c x y) (20 - sh .depth) rowSum-in (last-in .1))
+
+    -- 2^26 over 2^8
+    pub residual-in : natAbs (residual (planOf sh) c x y) ≤ 262144
+    unfolding residual
+    residual-in =
+        let p : 256 ≤ 2 ^ (20 - sh .depth) = pow-mono {i = 8} (last-in .0) in
+        nearest-in (20 - sh .depth) (rowSum (planOf sh) c x y) 262144 (omega (arith, last-in .0)) (omega (arith, rowSum-in))
+
+    pub residual-fits : SFits w32 (residual (planOf sh) c x y)
+    residual-fits = fits-in tt (within (residual (planOf sh) c x y) residual-in)
 
 -- ---- the forward
 -- 64 n is a power of two, and the shifts take it off again
@@ -94,6 +134,11 @@ size-power = size-cases (λ n. 64 * n ≡ 2 ^ (log2 n + 6)) refl refl refl refl
 
 some-log : (n : ℕ) → isSize n ≡ true → 2 ≤ log2 n
 some-log = size-cases (λ n. 2 ≤ log2 n) (omega arith) (omega arith) (omega arith) (omega arith)
+
+log-few : (n : ℕ) → log2 n ≤ 5
+log-few n =
+    let Few : ℕ → Type 0 = λ k. k ≤ 5 in
+    pick Few (eqb n 4) (omega arith) (pick Few (eqb n 8) (omega arith) (pick Few (eqb n 16) (omega arith) (omega arith)))
 
 -- the largest residual, 2^d-1, and what the row stage makes of it: the largest value after either stage
 abbrev pub mostResidual : Shape → ℕ
@@ -135,8 +180,20 @@ module _ (sh : Shape) (t : Taken sh) where
         forwardSum-short (sh .horizontal) (sh .width) (t .horizontal) (t .width) (λ j. at r (j + y * sh .width))
         (λ j _. le-trans (small (j + y * sh .width)) residual-short) x h
 
+    -- its first k terms
+    pub rowStage-part-fits : (x y : ℕ) → x < sh .width → (k : ℕ) → k ≤ sh .width → SFits w32 (sum k (λ j. weight (sh .horizontal) (sh .width) x j *ℤ at r (j + y * sh .width)))
+    rowStage-part-fits x y h =
+        forward-part-fits (sh .horizontal) (sh .width) (t .horizontal) (t .width) (λ j. at r (j + y * sh .width))
+        (λ j _. le-trans (small (j + y * sh .width)) residual-short) x h
+
     pub rowStage-fits : (x y : ℕ) → x < sh .width → SFits w32 (rowStage sh r x y)
     rowStage-fits x y h = fits-in tt (within (rowStage sh r x y) (rowStage-in x y h))
+
+    -- "y + 2^(p-1)"
+    pub rowStage-rounding-fits : (x y : ℕ) → x < sh .width → SFits w32 (rowStage sh r x y +ℤ pos (2 ^ (rowShift sh - 1)))
+    rowStage-rounding-fits x y h =
+        let d = depth-cases (sh .depth) (t .depth) in
+        rounding-fits (rowStage sh r x y) (rowShift sh) (rowStage-in x y h) (omega (arith, log-few (sh .width)))
 
     pub rowValue-in : (x y : ℕ) → x < sh .width → natAbs (rowValue sh r x y) ≤ mostValue sh
     unfolding rowValue
@@ -157,8 +214,18 @@ module _ (sh : Shape) (t : Taken sh) where
         forwardSum-short (sh .vertical) (sh .height) (t .vertical) (t .height) (λ j. rowValue sh r x j)
         (λ j _. omega (arith, rowValue-in x j h, value-short)) y v
 
+    -- its first k terms
+    pub columnStage-part-fits : (x y : ℕ) → x < sh .width → y < sh .height → (k : ℕ) → k ≤ sh .height → SFits w32 (sum k (λ j. weight (sh .vertical) (sh .height) y j *ℤ rowValue sh r x j))
+    columnStage-part-fits x y h v =
+        forward-part-fits (sh .vertical) (sh .height) (t .vertical) (t .height) (λ j. rowValue sh r x j)
+        (λ j _. omega (arith, rowValue-in x j h, value-short)) y v
+
     pub columnStage-fits : (x y : ℕ) → x < sh .width → y < sh .height → SFits w32 (columnStage sh r x y)
     columnStage-fits x y h v = fits-in tt (within (columnStage sh r x y) (columnStage-in x y h v))
+
+    -- "y + 2^(q-1)"
+    pub columnStage-rounding-fits : (x y : ℕ) → x < sh .width → y < sh .height → SFits w32 (columnStage sh r x y +ℤ pos (2 ^ (columnShift sh - 1)))
+    columnStage-rounding-fits x y h v = rounding-fits (columnStage sh r x y) (columnShift sh) (columnStage-in x y h v) (omega (arith, log-few (sh .height)))
 
     pub columnValue-in : (x y : ℕ) → x < sh .width → y < sh .height → natAbs (columnValue sh r x y) ≤ mostValue sh
     unfolding columnValue

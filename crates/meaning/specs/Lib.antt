@@ -1,6 +1,8 @@
 pub mod Weights
 pub mod Line
 pub mod Shape
+pub mod Plan
+pub mod Taken
 pub mod Answer
 pub mod Inverse
 pub mod Forward

@@ -1,15 +1,10 @@
 -- Document 01, "Lines": exact sums, with no shift, over any numbers.
-use mathlib.Core.Bool.{Bool, cond}
 use mathlib.Core.List.{List}
 use Prim.Native.Nat.{ℕ}
 use lib.IntN.{ℤ, _*ℤ_}
 use Rattle.algebra.specs.Sum.{sum}
 use Rattle.algebra.specs.Lists.{tabulate}
 use Rattle.meaning.specs.Weights.{weight}
-
--- the weight of input i in output k: T[k][i] forward, T[i][k] inverse
-abbrev pub term : Bool → ℕ → ℕ → ℕ → ℕ → ℤ
-term forward kind n k i = cond forward (weight kind n k i) (weight kind n i k)
 
 -- "Forward: y[i] = sum over j of T[i][j]*x[j]"
 unfoldable pub forwardSum : ℕ → ℕ → (ℕ → ℤ) → ℕ → ℤ

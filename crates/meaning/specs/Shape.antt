@@ -1,10 +1,7 @@
--- Document 01, "What the library holds" and "Blocks": what a block's shape decides: its kept part, the range between the stages,
--- the last shift.
+-- Document 01, "What the library holds" and "Blocks": which numbers a shape may hold, and its kept part.
 use mathlib.Core.Bool.{Bool, cond, _&&_, _||_}
-use Prim.Native.Nat.{ℕ, _-_, min}
+use Prim.Native.Nat.{ℕ, min}
 use lib.Dec.{eqb, leb}
-use lib.IntN.{pos, negsuc}
-use Rattle.algebra.specs.Clip.{Range}
 use Rattle.meaning.specs.declared.Shape.{Shape}
 
 -- "lines of 4, 8, 16 and 32 points"
@@ -29,11 +26,3 @@ keptColumns sh = kept (sh .horizontal) (sh .width)
 
 unfoldable pub keptRows : Shape → ℕ
 keptRows sh = kept (sh .vertical) (sh .height)
-
--- "clipped to -32768..32767"
-unfoldable pub range : Shape → Range
-range sh = record { low = negsuc 32767; high = pos 32767 }
-
--- ">> (20-d)"
-unfoldable pub lastShift : Shape → ℕ
-lastShift sh = 20 - sh .depth

@@ -1,0 +1,46 @@
+-- Document 01, "Numbers handed back when a call is turned down": what a call that its tests let pass was handed, and what is
+-- known of a plan then.
+use mathlib.Core.Path.{_≡_}
+use mathlib.Core.Bool.{true}
+use mathlib.Core.List.{List}
+use Prim.Native.Nat.{ℕ, _*_, _≤_}
+use lib.IntN.{ℤ, natAbs}
+use lib.ListN.{length}
+use Rattle.algebra.specs.Lists.{at}
+use Rattle.meaning.specs.declared.Shape.{Shape}
+use Rattle.meaning.specs.Shape.{isSize, isKind, isDepth}
+use Rattle.meaning.specs.Plan.{Plan}
+
+-- past 1 to 5: a shape
+pub record Taken (sh : Shape) : Type 0 where
+  pub width : isSize (sh .width) ≡ true
+  pub height : isSize (sh .height) ≡ true
+  pub horizontal : isKind (sh .horizontal) ≡ true
+  pub vertical : isKind (sh .vertical) ≡ true
+  pub depth : isDepth (sh .depth) ≡ true
+
+-- past 1 to 7: a block, its input and its output
+pub record TakenBlock (sh : Shape) (input output : List ℤ) : Type 0 where
+  pub taken : Taken sh
+  pub long : length input ≡ sh .width * sh .height
+  pub room : length output ≡ sh .width * sh .height
+
+-- past 1, 3, 6 and 7: a line, by the lengths of its input and its output
+pub record TakenLine (n kind input output : ℕ) : Type 0 where
+  pub size : isSize n ≡ true
+  pub known : isKind kind ≡ true
+  pub long : input ≡ n
+  pub room : output ≡ n
+
+-- a plan of known sizes and kinds, of which no more is kept than there is
+pub record Sized (p : Plan) : Type 0 where
+  pub width : isSize (p .width) ≡ true
+  pub height : isSize (p .height) ≡ true
+  pub horizontal : isKind (p .horizontal) ≡ true
+  pub vertical : isKind (p .vertical) ≡ true
+  pub columns : p .columns ≤ p .width
+  pub rows : p .rows ≤ p .height
+
+-- "of size at most": no number of a list is above M in size
+abbrev pub NoneAbove : ℕ → List ℤ → Type 0
+NoneAbove M l = (k : ℕ) → natAbs (at l k) ≤ M
