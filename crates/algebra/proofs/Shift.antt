@@ -9,7 +9,7 @@ use lib.IntN.{ℤ, pos, negsuc, natAbs, _+ℤ_, _-ℤ_, _*ℤ_}
 use lib.Signed.{shrZ}
 use Rattle.algebra.specs.Shift.{_>>_, nearest}
 use Rattle.algebra.proofs.Normal.{ν, _⊕_, _⊖_}
-use Rattle.algebra.proofs.Order.{up-neg, dn-neg, parts-add, parts-zero, parts-eq, abs-parts, abs-mul, linAbs, fact≡, factAbs}
+use Rattle.algebra.proofs.Order.{up-neg, dn-neg, parts-add, parts-zero, parts-eq, abs-parts, abs-add, abs-mul, linAbs, fact≡, factAbs}
 
 -- what the shift drops
 abbrev pub shrRem : ℤ → ℕ → ℕ
@@ -68,6 +68,10 @@ pub shift-in : (z : ℤ) (k B : ℕ) → natAbs z ≤ 2 ^ suc k * B → natAbs (
 shift-in z k B h =
     let h′ = rw (pow-succ' 2 k) at h in
     rw (pow-succ' 2 k) (near-in (shrZ (z +ℤ pos (2 ^ k)) (2 * 2 ^ k)) z (2 ^ k) B (pow-pos k) (round-near z (2 ^ k) (pow-pos k)) h′)
+
+-- what rounding shifts is larger than z by at most what it adds
+pub rounding-in : (n : ℕ) (z : ℤ) (B : ℕ) → natAbs z ≤ B → natAbs (z +ℤ pos (2 ^ (n - 1))) ≤ B + 2 ^ (n - 1)
+rounding-in n z B h = omega (arith, abs-add z (pos (2 ^ (n - 1))))
 
 pub nearest-in : (n : ℕ) (z : ℤ) (B : ℕ) → 0 < n → natAbs z ≤ 2 ^ n * B → natAbs (nearest n z) ≤ B
 nearest-in zero z B p h = absurd (omega arith)

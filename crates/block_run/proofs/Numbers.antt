@@ -1,4 +1,4 @@
--- "Numbers on both sides", every item marked P: one table, `numbers`, and one theorem, `numbers-hold`. It is the table of
+-- "Numbers on both sides", every item marked P: one table, `items`, and one theorem, `items-hold`. It is the table of
 -- lines and blocks (meaning/proofs/Numbers), and item 8 as what its file prints. Assumes nothing.
 use mathlib.Core.Path.{_≡_}
 use mathlib.Core.List.{List, [], _∷_, map}
@@ -18,8 +18,8 @@ abbrev pub Says : Item → Type 0
 Says (call i) = calls.Says i
 Says (prints file text) = printed file ≡ text
 
-abbrev pub numbers : List Item
-numbers = prints wholeCase wholeText ∷ map call calls.numbers
+abbrev pub items : List Item
+items = prints wholeCase wholeText ∷ map call calls.items
 
 -- what a list of items says, all of it
 infixr 5 _also_
@@ -31,5 +31,5 @@ calls-hold : (is : List calls.Item) → calls.Hold is → Hold (map call is)
 calls-hold [] calls.none = none
 calls-hold (i ∷ is) (p and h) = p also calls-hold is h
 
-pub numbers-hold : Hold numbers
-numbers-hold = whole-case also calls-hold calls.numbers calls.numbers-hold
+pub items-hold : Hold items
+items-hold = whole-case also calls-hold calls.items calls.items-hold

@@ -19,7 +19,7 @@ use Rattle.meaning.specs.Weights.{S, signed}
 use Rattle.meaning.specs.Shape.{isSize, isKind}
 use Rattle.meaning.proofs.Cases.{size-in}
 use Rattle.engine.specs.Lines.{line}
-use Rattle.meaning.specs.Line.{term}
+use Rattle.tables.specs.Term.{term}
 use Rattle.engine.specs.Product.{lineSum}
 use Rattle.engine.specs.Dst.{Small, dstSum, dstLine}
 use Rattle.engine.specs.Prepared.{turned, alternated, alternates, mirrors, prepared, finished, Loaded}

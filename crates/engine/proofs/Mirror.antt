@@ -10,7 +10,7 @@ use Rattle.algebra.proofs.Table.{allTo, allTo-at, eqZ→eq}
 use Rattle.meaning.specs.Weights.{weight, S, C, fold, first, signed}
 use Rattle.meaning.specs.Shape.{isSize, isKind}
 use Rattle.meaning.proofs.Cases.{size-cases, kind-cases}
-use Rattle.meaning.specs.Line.{term}
+use Rattle.tables.specs.Term.{term}
 use Rattle.engine.specs.Prepared.{turned, alternated, alternates, mirrors}
 
 abbrev Transpose : ℕ → Type 0

@@ -14,7 +14,8 @@ use Rattle.algebra.proofs.Order.{abs-add, abs-mul}
 use Rattle.algebra.proofs.Sum.{sum-next}
 use Rattle.algebra.proofs.Word.{small}
 use Rattle.meaning.specs.Weights.{weight}
-use Rattle.meaning.specs.Line.{term, forwardSum, inverseSum, forwardLine, inverseLine}
+use Rattle.meaning.specs.Line.{forwardSum, inverseSum, forwardLine, inverseLine}
+use Rattle.tables.specs.Term.{term}
 use Rattle.engine.specs.Lines.{line}
 use Rattle.engine.specs.Product.{lineSum}
 use Rattle.meaning.proofs.Sizes.{weightSize}

@@ -3,7 +3,7 @@ use mathlib.Core.Bool.{Bool}
 use Prim.Native.Nat.{ℕ}
 use lib.IntN.{ℤ, _*ℤ_}
 use Rattle.algebra.specs.Sum.{sum}
-use Rattle.meaning.specs.Line.{term}
+use Rattle.tables.specs.Term.{term}
 
 unfoldable pub lineSum : Bool → ℕ → ℕ → ℕ → (ℕ → ℤ) → ℕ → ℤ
 lineSum forward kind n count x k = sum count (λ i. term forward kind n k i *ℤ x i)

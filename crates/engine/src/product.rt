@@ -9,7 +9,7 @@ ghost use Rattle.meaning.specs.Weights.{S, weight};
 ghost use Rattle.meaning.specs.Shape.{isKind};
 ghost use Rattle.engine.specs.Lines.{Spot, Inside, Given, input, line};
 ghost use Rattle.tables.specs.Table.{Table};
-ghost use Rattle.meaning.specs.Line.{term};
+ghost use Rattle.tables.specs.Term.{term};
 ghost use Rattle.engine.specs.Product.{lineSum};
 
 pub fn stored(t: &[i16], n: usize, i: usize, j: usize) -> i32

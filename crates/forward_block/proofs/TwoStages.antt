@@ -2,11 +2,11 @@
 use mathlib.Core.Path.{_≡_, refl, sym, ap, _∙_, subst}
 use mathlib.Core.Bool.{Bool, true, false, cond, _&&_}
 use mathlib.Core.List.{List}
-use Prim.Native.Nat.{ℕ, _+_, _*_, _-_, _^_, _≤_, _<_}
+use Prim.Native.Nat.{ℕ, _+_, _*_, _^_, _≤_, _<_}
 use native.Mathlib.Nat.{add-comm, mul-comm, mul-one, le-trans, mul-le-mul, mul-le-mul-right}
 use native.Mathlib.Omega.{arith}
 use borrow.Author.Tests.{ltb-true, ltb-false}
-use lib.Dec.{eqb, ltb}
+use lib.Dec.{ltb}
 use lib.Pow.{pow-mono}
 use lib.ListN.{length}
 use lib.IntN.{ℤ, pos, natAbs, _*ℤ_}
@@ -19,22 +19,16 @@ use Rattle.meaning.specs.declared.Shape.{Shape}
 use Rattle.meaning.specs.Weights.{weight}
 use Rattle.meaning.specs.Line.{forwardSum}
 use Rattle.meaning.specs.Shape.{isSize, keptColumns, keptRows}
-use Rattle.meaning.specs.Forward.{log2, rowShift, columnShift, rowValue, columnValue, coefficient, forwardBlock}
-use Rattle.meaning.proofs.Cases.{size-cases, size-in, depth-cases, pick}
+use Rattle.meaning.specs.Forward.{rowShift, columnShift, rowValue, columnValue, coefficient, forwardBlock}
+use Rattle.meaning.proofs.Cases.{size-cases, size-in, depth-cases}
 use Rattle.meaning.proofs.KeptPart.{columns-size}
 use Rattle.meaning.proofs.Sizes.{forwardSum-short}
-use Rattle.meaning.proofs.Taken.{Taken}
-use Rattle.meaning.proofs.Stages.{columns-in, rows-in, value-short, rowStage, rowStage-in, rowValue-in, columnValue-in}
+use Rattle.meaning.specs.Taken.{Taken}
+use Rattle.meaning.proofs.Stages.{columns-in, rows-in, log-in, value-short, rowStage, rowStage-in, rowValue-in, columnValue-in}
 use Rattle.row_sums.specs.Factors.{laid}
 use Rattle.row_sums.specs.Sums.{rowSum}
 use Rattle.row_sums.proofs.Lines.{along-given, along-sum, down-given, down-sum}
 use Rattle.forward_block.specs.Forward.{Lines, Stage, Residuals, Between, Middle, Room, lineValue, columnOf, keptValue}
-
--- log2 is between 2 and 5
-pub log-in : (n : ℕ) → (2 ≤ log2 n) × (log2 n ≤ 5)
-log-in n =
-    let In : ℕ → Type 0 = λ k. (2 ≤ k) × (k ≤ 5) in
-    pick In (eqb n 4) (omega arith, omega arith) (pick In (eqb n 8) (omega arith, omega arith) (pick In (eqb n 16) (omega arith, omega arith) (omega arith, omega arith)))
 
 -- a size is not 0
 size-some : (n : ℕ) → isSize n ≡ true → 0 < n

@@ -13,8 +13,8 @@ use Rattle.meaning.specs.declared.Shape.{Shape}
 use Rattle.meaning.specs.Line.{forwardSum}
 use Rattle.meaning.specs.Shape.{isSize, keptColumns, keptRows}
 use Rattle.meaning.specs.Forward.{columnShift, rowValue}
-use Rattle.meaning.proofs.Taken.{Taken}
-use Rattle.meaning.proofs.Small.{NoneAbove}
+use Rattle.meaning.specs.Taken.{Taken}
+use Rattle.meaning.specs.Taken.{NoneAbove}
 use Rattle.row_sums.specs.Sums.{rowSum, Rows}
 
 -- sums to be rounded: none leaves 32 bits before the shift, none 16 after it

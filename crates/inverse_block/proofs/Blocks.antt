@@ -10,7 +10,8 @@ use Rattle.algebra.specs.Sum.{sumℕ}
 use Rattle.algebra.specs.Lists.{at, tabulate, block}
 use Rattle.algebra.proofs.Sum.{sumℕ-cong}
 use Rattle.algebra.proofs.Lists.{place-in, tab-at, tab-length, block-at, block-length, block-ext, every-place}
-use Rattle.meaning.proofs.Small.{NoneAbove, within-places}
+use Rattle.meaning.specs.Taken.{NoneAbove}
+use Rattle.meaning.proofs.Small.{within-places}
 
 -- ---- counts
 sum-parts : (m n : ℕ) (f : ℕ → ℕ) → sumℕ (m + n) f ≡ sumℕ m f + sumℕ n (λ i. f (i + m))

@@ -14,17 +14,17 @@ use Rattle.algebra.specs.Lists.{at, tabulate, block}
 use Rattle.algebra.proofs.Lists.{place-in, block-at, block-length, block-cong}
 use Rattle.algebra.proofs.Sum.{sumℕ-swap, sumℕ-next, sumℕ-mono, sumℕ-const, sumℕ-cong}
 use Rattle.meaning.specs.declared.Shape.{Shape}
-use Rattle.meaning.specs.Shape.{keptColumns, keptRows, range}
+use Rattle.meaning.specs.Shape.{keptColumns, keptRows}
+use Rattle.meaning.specs.Plan.{shortRange, planOf}
 use Rattle.meaning.specs.Line.{inverseSum}
 use Rattle.meaning.specs.Inverse.{columnSum, rounded, middle, middleAt, railed, count, rails}
 use Rattle.meaning.proofs.Cases.{size-in}
-use Rattle.meaning.proofs.Taken.{Taken}
-use Rattle.meaning.proofs.Small.{NoneAbove}
+use Rattle.meaning.specs.Taken.{Taken, NoneAbove}
 use Rattle.meaning.proofs.KeptPart.{columns-some, rows-some}
 use Rattle.meaning.proofs.Stages.{columns-in, rows-in, middle-in, columnSum-in}
 use Rattle.row_sums.specs.Sums.{rowSum, Rows}
 use Rattle.row_sums.proofs.Lines.{down-given, down-sum}
-use Rattle.inverse_block.specs.Stages.{short, railsOf, Vertical, keptMiddles}
+use Rattle.inverse_block.specs.Stages.{railsOf, Vertical, keptMiddles}
 use Rattle.inverse_block.proofs.Blocks.{block-count, block-map, block-in}
 
 module _ (sh : Shape) (t : Taken sh) where
@@ -43,9 +43,9 @@ pub rails-none : (e : ℕ → ℤ) → railsOf 0 e ≡ 0
 unfolding railsOf sumℕ
 rails-none e = refl
 
-pub rails-next : (y : ℕ) (e : ℕ → ℤ) → railsOf (y + 1) e ≡ railsOf y e + count (railed short (rounded (e y)) (middle short (e y)))
+pub rails-next : (y : ℕ) (e : ℕ → ℤ) → railsOf (y + 1) e ≡ railsOf y e + count (railed shortRange (rounded (e y)) (middle shortRange (e y)))
 unfolding railsOf
-rails-next y e = sumℕ-next y (λ y. count (railed short (rounded (e y)) (middle short (e y))))
+rails-next y e = sumℕ-next y (λ y. count (railed shortRange (rounded (e y)) (middle shortRange (e y))))
 
 pub count-in : (b : Bool) → count b ≤ 1
 count-in true = omega arith
@@ -54,8 +54,8 @@ count-in false = omega arith
 pub rails-in : (h : ℕ) (e : ℕ → ℤ) → railsOf h e ≤ h
 unfolding railsOf
 rails-in h e =
-    let f : ℕ → ℕ = λ y. count (railed short (rounded (e y)) (middle short (e y))) in
-    omega (arith, sumℕ-mono h f (λ y. 1) (λ y _. count-in (railed short (rounded (e y)) (middle short (e y)))), sumℕ-const h 1)
+    let f : ℕ → ℕ = λ y. count (railed shortRange (rounded (e y)) (middle shortRange (e y))) in
+    omega (arith, sumℕ-mono h f (λ y. 1) (λ y _. count-in (railed shortRange (rounded (e y)) (middle shortRange (e y)))), sumℕ-const h 1)
 
 module _ (sh : Shape) (c : List ℤ) where
   -- ---- output y of every kept column
@@ -77,7 +77,7 @@ module _ (sh : Shape) (c : List ℤ) where
         down-given false (sh .vertical) (sh .height) (keptRows sh) (p .weights) c (sh .width) (keptColumns sh) y h (k .0) (omega arith) inside (λ i j _ _. p .block .small (i * sh .width + j))
 
   abbrev pub sums : List ℤ
-  sums = block (keptColumns sh) (sh .height) (columnSum sh c)
+  sums = block (keptColumns sh) (sh .height) (columnSum (planOf sh) c)
 
   pub column-sums : {u : List ℤ} → Vertical sh u c → block (keptColumns sh) (sh .height) (λ x y. rowSum c 0 (sh .width) u y (sh .height) (keptRows sh) x) ≡ sums
   unfolding columnSum inverseSum
@@ -85,38 +85,38 @@ module _ (sh : Shape) (c : List ℤ) where
       block-cong (keptColumns sh) (sh .height) _ _ (λ x y _ h. down-sum false (sh .vertical) (sh .height) (keptRows sh) (p .weights) c (sh .width) (keptColumns sh) y h x)
 
   pub sums-few : Taken sh → length sums ≤ 512
-  sums-few t = omega (arith, block-length (keptColumns sh) (sh .height) (columnSum sh c), room-between sh t)
+  sums-few t = omega (arith, block-length (keptColumns sh) (sh .height) (columnSum (planOf sh) c), room-between sh t)
 
   pub sums-small : Taken sh → NoneAbove 32768 c → NoneAbove 67108864 sums
-  sums-small t s = block-in (keptColumns sh) (sh .height) (columnSum sh c) 67108864 (λ x y _ h. columnSum-in sh t c s x y h)
+  sums-small t s = block-in (keptColumns sh) (sh .height) (columnSum (planOf sh) c) 67108864 (λ x y _ h. columnSum-in sh t c s x y h)
 
-  middle-kept : (x y : ℕ) → x < keptColumns sh → middle short (columnSum sh c x y) ≡ middleAt sh c x y
-  unfolding middleAt range
+  middle-kept : (x y : ℕ) → x < keptColumns sh → middle shortRange (columnSum (planOf sh) c x y) ≡ middleAt (planOf sh) c x y
+  unfolding middleAt
   middle-kept x y h = rw (lt-ltb x (keptColumns sh) h)
 
-  pub rails-all : railsOf (length sums) (at sums) ≡ rails sh c
-  unfolding rails railsOf range
+  pub rails-all : railsOf (length sums) (at sums) ≡ rails (planOf sh) c
+  unfolding rails railsOf
   rails-all =
-      block-count (keptColumns sh) (sh .height) (columnSum sh c) (λ z. count (railed short (rounded z) (middle short z)))
-      ∙ sumℕ-swap (sh .height) (keptColumns sh) (λ y x. count (railed short (rounded (columnSum sh c x y)) (middle short (columnSum sh c x y))))
+      block-count (keptColumns sh) (sh .height) (columnSum (planOf sh) c) (λ z. count (railed shortRange (rounded z) (middle shortRange z)))
+      ∙ sumℕ-swap (sh .height) (keptColumns sh) (λ y x. count (railed shortRange (rounded (columnSum (planOf sh) c x y)) (middle shortRange (columnSum (planOf sh) c x y))))
       ∙ sumℕ-cong (keptColumns sh) _ _
-      (λ x h. sumℕ-cong (sh .height) _ _ (λ y _. ap (λ (z : ℤ). count (railed short (rounded (columnSum sh c x y)) z)) (middle-kept x y h)))
+      (λ x h. sumℕ-cong (sh .height) _ _ (λ y _. ap (λ (z : ℤ). count (railed shortRange (rounded (columnSum (planOf sh) c x y)) z)) (middle-kept x y h)))
 
   -- ---- what stands between the stages
-  pub middles-made : tabulate (length sums) (λ k. middle short (at sums k)) ≡ keptMiddles sh c
+  pub middles-made : tabulate (length sums) (λ k. middle shortRange (at sums k)) ≡ keptMiddles sh c
   unfolding keptMiddles
   middles-made =
-      block-map (keptColumns sh) (sh .height) (columnSum sh c) (middle short)
+      block-map (keptColumns sh) (sh .height) (columnSum (planOf sh) c) (middle shortRange)
       ∙ block-cong (keptColumns sh) (sh .height) _ _ (λ x y l _. middle-kept x y l)
 
   pub middles-long : length (keptMiddles sh c) ≡ sh .height * keptColumns sh
   unfolding keptMiddles
-  middles-long = block-length (keptColumns sh) (sh .height) (middleAt sh c)
+  middles-long = block-length (keptColumns sh) (sh .height) (middleAt (planOf sh) c)
 
-  pub middles-at : (x y : ℕ) → x < keptColumns sh → y < sh .height → at (keptMiddles sh c) (x + y * keptColumns sh) ≡ middleAt sh c x y
+  pub middles-at : (x y : ℕ) → x < keptColumns sh → y < sh .height → at (keptMiddles sh c) (x + y * keptColumns sh) ≡ middleAt (planOf sh) c x y
   unfolding keptMiddles
-  middles-at x y h v = block-at (keptColumns sh) (sh .height) (middleAt sh c) x y h v
+  middles-at x y h v = block-at (keptColumns sh) (sh .height) (middleAt (planOf sh) c) x y h v
 
   pub middles-in : NoneAbove 32768 (keptMiddles sh c)
   unfolding keptMiddles
-  middles-in = block-in (keptColumns sh) (sh .height) (middleAt sh c) 32768 (λ x y _ _. middle-in sh c x y)
+  middles-in = block-in (keptColumns sh) (sh .height) (middleAt (planOf sh) c) 32768 (λ x y _ _. middle-in sh c x y)

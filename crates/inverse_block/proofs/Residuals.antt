@@ -12,11 +12,11 @@ use Rattle.algebra.proofs.Sum.{sum-cong}
 use Rattle.algebra.proofs.Lists.{place-in, block-cong}
 use Rattle.meaning.specs.declared.Shape.{Shape}
 use Rattle.meaning.specs.Weights.{weight}
-use Rattle.meaning.specs.Shape.{keptColumns, lastShift}
+use Rattle.meaning.specs.Shape.{keptColumns}
+use Rattle.meaning.specs.Plan.{planOf}
 use Rattle.meaning.specs.Line.{inverseSum}
 use Rattle.meaning.specs.Inverse.{middleAt, rowSum, residual, inverseBlock}
-use Rattle.meaning.proofs.Taken.{Taken}
-use Rattle.meaning.proofs.Small.{NoneAbove}
+use Rattle.meaning.specs.Taken.{Taken, NoneAbove}
 use Rattle.meaning.proofs.Sizes.{inverseSum-short}
 use Rattle.meaning.proofs.Stages.{columns-in}
 use Rattle.row_sums.specs.Sums as sums
@@ -61,14 +61,14 @@ module _ (sh : Shape) (m : List ℤ) where
 
   pub residuals-made : let r = block (sh .width) (sh .height) (lineSum sh m) in
       tabulate (length r) (λ k. nearest (20 - sh .depth) (at r k)) ≡ block (sh .width) (sh .height) (residualOf sh m)
-  unfolding residualOf lastShift
+  unfolding residualOf
   residuals-made = block-map (sh .width) (sh .height) (lineSum sh m) (nearest (20 - sh .depth))
 
 -- the residuals of the middle values are the block's
-pub residuals : (sh : Shape) (c : List ℤ) → block (sh .width) (sh .height) (residualOf sh (keptMiddles sh c)) ≡ inverseBlock sh c
+pub residuals : (sh : Shape) (c : List ℤ) → block (sh .width) (sh .height) (residualOf sh (keptMiddles sh c)) ≡ inverseBlock (planOf sh) c
 unfolding inverseBlock residualOf lineSum residual rowSum
 residuals sh c =
-    block-cong (sh .width) (sh .height) (residualOf sh (keptMiddles sh c)) (residual sh c)
-    (λ x y h v. ap (nearest (lastShift sh))
-    (inverse-cong (sh .horizontal) (sh .width) (keptColumns sh) (λ i. at (keptMiddles sh c) (i + y * keptColumns sh)) (λ i. middleAt sh c i y) x
+    block-cong (sh .width) (sh .height) (residualOf sh (keptMiddles sh c)) (residual (planOf sh) c)
+    (λ x y h v. ap (nearest (planOf sh .last))
+    (inverse-cong (sh .horizontal) (sh .width) (keptColumns sh) (λ i. at (keptMiddles sh c) (i + y * keptColumns sh)) (λ i. middleAt (planOf sh) c i y) x
     (λ i l. middles-at sh c i y l v)))

@@ -5,30 +5,25 @@ use mathlib.Core.List.{List}
 use Prim.Native.Nat.{ℕ, _+_, _*_, _≤_, _<_}
 use lib.Dec.{eqb, ltb}
 use lib.ListN.{length}
-use lib.IntN.{ℤ, pos, negsuc, natAbs}
-use Rattle.algebra.specs.Clip.{Range}
+use lib.IntN.{ℤ, natAbs}
 use Rattle.algebra.specs.Shift.{nearest}
 use Rattle.algebra.specs.Sum.{sumℕ}
 use Rattle.algebra.specs.Lists.{at, block}
 use Rattle.meaning.specs.declared.Shape.{Shape}
-use Rattle.meaning.specs.Shape.{keptColumns, keptRows, lastShift}
+use Rattle.meaning.specs.Shape.{keptColumns, keptRows}
+use Rattle.meaning.specs.Plan.{shortRange, planOf}
 use Rattle.meaning.specs.Line.{inverseSum}
 use Rattle.meaning.specs.Inverse.{rounded, middle, middleAt, railed, count}
-use Rattle.meaning.proofs.Taken.{Taken}
-use Rattle.meaning.proofs.Small.{NoneAbove}
+use Rattle.meaning.specs.Taken.{Taken, NoneAbove}
 use Rattle.row_sums.specs.Factors.{laid}
 
 -- "a non-zero coefficient outside the kept part", in column x of row y
 abbrev pub outsideAt : ℕ → ℕ → ℕ → ℕ → ℤ → Bool
 outsideAt columns rows x y z = not (eqb (natAbs z) 0) && not (ltb x columns && ltb y rows)
 
--- "clipped to -32768..32767"
-abbrev pub short : Range
-short = record { low = negsuc 32767; high = pos 32767 }
-
 -- how many of h middle values stand at an end of the range, by the sums that they are made of
 unfoldable pub railsOf : ℕ → (ℕ → ℤ) → ℕ
-railsOf h e = sumℕ h (λ y. count (railed short (rounded (e y)) (middle short (e y))))
+railsOf h e = sumℕ h (λ y. count (railed shortRange (rounded (e y)) (middle shortRange (e y))))
 
 -- sums, and room for their middle values
 pub record Sums (e m : List ℤ) : Type 0 where
@@ -49,7 +44,7 @@ pub record Vertical (sh : Shape) (u c : List ℤ) : Type 0 where
 
 -- what stands between the stages: the middle values of the kept columns, row by row
 unfoldable pub keptMiddles : Shape → List ℤ → List ℤ
-keptMiddles sh c = block (keptColumns sh) (sh .height) (middleAt sh c)
+keptMiddles sh c = block (keptColumns sh) (sh .height) (middleAt (planOf sh) c)
 
 pub record Middles (sh : Shape) (m : List ℤ) : Type 0 where
   pub taken : Taken sh
@@ -66,7 +61,7 @@ unfoldable pub lineSum : Shape → List ℤ → ℕ → ℕ → ℤ
 lineSum sh m x y = inverseSum (sh .horizontal) (sh .width) (keptColumns sh) (λ i. at m (i + y * keptColumns sh)) x
 
 unfoldable pub residualOf : Shape → List ℤ → ℕ → ℕ → ℤ
-residualOf sh m x y = nearest (lastShift sh) (lineSum sh m x y)
+residualOf sh m x y = nearest (planOf sh .last) (lineSum sh m x y)
 
 -- room for the weights of either stage, and for what stands between them
 pub record Room (sh : Shape) (u m : List ℤ) : Type 0 where

@@ -15,10 +15,10 @@ ghost use Rattle.algebra.specs.Clip.{clip};
 ghost use Rattle.algebra.specs.Shift.{nearest};
 ghost use Rattle.algebra.specs.Lists.{at, tabulate, block};
 ghost use Rattle.meaning.specs.Shape.{keptColumns, keptRows};
+ghost use Rattle.meaning.specs.Plan.{shortRange, planOf};
 ghost use Rattle.meaning.specs.Inverse.{rounded, middle, railed, count, columnSum, rails, inverseBlock, firstOutside};
-ghost use Rattle.meaning.proofs.Accepted.{Whole};
-ghost use Rattle.meaning.proofs.Small.{NoneAbove};
-ghost use Rattle.inverse_block.specs.Stages.{outsideAt, short, railsOf, Sums, Coefficients, Vertical, keptMiddles, Middles, Horizontal, lineSum, residualOf, Room};
+ghost use Rattle.meaning.specs.Taken.{TakenBlock, NoneAbove};
+ghost use Rattle.inverse_block.specs.Stages.{outsideAt, railsOf, Sums, Coefficients, Vertical, keptMiddles, Middles, Horizontal, lineSum, residualOf, Room};
 
 fn outside(n: i16, x: usize, y: usize, columns: usize, rows: usize) -> bool
     ensures { λ r. ⌜ r ≡ outsideAt columns rows x y n ⌝ }
@@ -53,7 +53,7 @@ fn first_column(y: usize, columns: usize, rows: usize) -> usize
 // The place of the first coefficient outside the kept part, row by row, or how many there are.
 pub fn hunt(shape: Shape, c: &[i16]) -> usize
     requires { ⌜ length (now c) ≡ shape .width * shape .height ⌝ }
-    ensures { λ r. ⌜ (r ≡ firstOutside shape (now (c .entry))) × NoneAbove 32768 (now (c .entry)) ⌝ }
+    ensures { λ r. ⌜ (r ≡ firstOutside (planOf shape) (now (c .entry))) × NoneAbove 32768 (now (c .entry)) ⌝ }
 {
     let w = shape.width as usize;
     let h = shape.height as usize;
@@ -87,7 +87,7 @@ fn round7(e: i32) -> i32
 
 // "clipped to -32768..32767".
 fn clip16(v: i32) -> i16
-    ensures { λ r. ⌜ r ≡ clip short v ⌝ }
+    ensures { λ r. ⌜ r ≡ clip shortRange v ⌝ }
 {
     if v < -32768 {
         return -32768;
@@ -98,14 +98,14 @@ fn clip16(v: i32) -> i16
     v as i16
 }
 
-// 1 for a middle value at an end of the range.
-fn rail(v: i16) -> u32
-    ensures { λ r. ⌜ r ≡ count (railed short v v) ⌝ }
+// 1 for a middle value that counts, by what it was before the clip and after it.
+fn rail(before: i32, after: i16) -> u32
+    ensures { λ r. ⌜ r ≡ count (railed shortRange before after) ⌝ }
 {
-    if v == -32768 {
+    if after == -32768 {
         return 1;
     }
-    if v == 32767 {
+    if after == 32767 {
         return 1;
     }
     0
@@ -114,14 +114,15 @@ fn rail(v: i16) -> u32
 // Middle values, from their sums; hands back how many stand at an end.
 fn settle(e: &[i32], m: &mut [i16]) -> u32
     requires { ⌜ Sums (now e) (now m) ⌝ }
-    ensures { λ r. ⌜ (now (m .exit) ≡ tabulate (length (now (e .entry))) (λ x. middle short (at (now (e .entry)) x))) × (r ≡ railsOf (length (now (e .entry))) (at (now (e .entry)))) ⌝ }
+    ensures { λ r. ⌜ (now (m .exit) ≡ tabulate (length (now (e .entry))) (λ x. middle shortRange (at (now (e .entry)) x))) × (r ≡ railsOf (length (now (e .entry))) (at (now (e .entry)))) ⌝ }
 {
     let mut rails: u32 = 0;
     let mut x = 0;
     while x < e.len() {
-        let v = clip16(round7(e[x]));
-        rails += rail(v);
-        m[x] = v;
+        let before = round7(e[x]);
+        let after = clip16(before);
+        rails += rail(before, after);
+        m[x] = after;
         x += 1;
     }
     rails
@@ -131,7 +132,7 @@ fn settle(e: &[i32], m: &mut [i16]) -> u32
 // row of sums.
 fn column_sums(u: &[i16], shape: Shape, c: &[i16], e: &mut [i32])
     requires { ⌜ Vertical shape (now u) (now c) × (length (now e) ≡ shape .height * keptColumns shape) ⌝ }
-    ensures { λ _. ⌜ now (e .exit) ≡ block (keptColumns shape) (shape .height) (columnSum shape (now (c .entry))) ⌝ }
+    ensures { λ _. ⌜ now (e .exit) ≡ block (keptColumns shape) (shape .height) (columnSum (planOf shape) (now (c .entry))) ⌝ }
 {
     let w = shape.width as usize;
     let h = shape.height as usize;
@@ -149,7 +150,7 @@ fn column_sums(u: &[i16], shape: Shape, c: &[i16], e: &mut [i32])
 // The vertical stage. A row of 4 sums is too short for the compiler's vectors, so all sums are settled at once.
 fn vertical(shape: Shape, c: &[i16], u: &mut [i16], e: &mut [i32], m: &mut [i16]) -> u32
     requires { ⌜ Coefficients shape (now c) × ((length (now u) ≡ keptRows shape * shape .height) × ((length (now e) ≡ shape .height * keptColumns shape) × (length (now m) ≡ shape .height * keptColumns shape))) ⌝ }
-    ensures { λ r. ⌜ (now (m .exit) ≡ keptMiddles shape (now (c .entry))) × (r ≡ rails shape (now (c .entry))) ⌝ }
+    ensures { λ r. ⌜ (now (m .exit) ≡ keptMiddles shape (now (c .entry))) × (r ≡ rails (planOf shape) (now (c .entry))) ⌝ }
 {
     let h = shape.height as usize;
     factors(h, shape.vertical, false, kept_rows(shape), u);
@@ -210,7 +211,7 @@ fn horizontal(shape: Shape, m: &[i16], u: &mut [i16], residuals: &mut [i32])
 // horizontal one writes over.
 fn worked(shape: Shape, c: &[i16], u: &mut [i16], m: &mut [i16], residuals: &mut [i32]) -> u32
     requires { ⌜ Coefficients shape (now c) × (Room shape (now u) (now m) × (length (now residuals) ≡ shape .width * shape .height)) ⌝ }
-    ensures { λ r. ⌜ (r ≡ rails shape (now (c .entry))) × (now (residuals .exit) ≡ inverseBlock shape (now (c .entry))) ⌝ }
+    ensures { λ r. ⌜ (r ≡ rails (planOf shape) (now (c .entry))) × (now (residuals .exit) ≡ inverseBlock (planOf shape) (now (c .entry))) ⌝ }
 {
     let w = shape.width as usize;
     let h = shape.height as usize;
@@ -231,8 +232,8 @@ fn worked(shape: Shape, c: &[i16], u: &mut [i16], m: &mut [i16], residuals: &mut
 
 // Up to 8x8, buffers of 64 have room enough: the zeros of those in `large` would be a seventh of the time of a 4x4 block.
 fn small(shape: Shape, c: &[i16], residuals: &mut [i32]) -> u32
-    requires { ⌜ (Whole shape (now c) (now residuals) × NoneAbove 32768 (now c)) × ((shape .width ≤ 8) × (shape .height ≤ 8)) ⌝ }
-    ensures { λ r. ⌜ (r ≡ rails shape (now (c .entry))) × (now (residuals .exit) ≡ inverseBlock shape (now (c .entry))) ⌝ }
+    requires { ⌜ (TakenBlock shape (now c) (now residuals) × NoneAbove 32768 (now c)) × ((shape .width ≤ 8) × (shape .height ≤ 8)) ⌝ }
+    ensures { λ r. ⌜ (r ≡ rails (planOf shape) (now (c .entry))) × (now (residuals .exit) ≡ inverseBlock (planOf shape) (now (c .entry))) ⌝ }
 {
     let mut u = [0i16; 64];
     let mut m = [0i16; 64];
@@ -241,8 +242,8 @@ fn small(shape: Shape, c: &[i16], residuals: &mut [i32]) -> u32
 
 // No more than 16 columns and 16 rows are kept, of 32.
 fn large(shape: Shape, c: &[i16], residuals: &mut [i32]) -> u32
-    requires { ⌜ Whole shape (now c) (now residuals) × NoneAbove 32768 (now c) ⌝ }
-    ensures { λ r. ⌜ (r ≡ rails shape (now (c .entry))) × (now (residuals .exit) ≡ inverseBlock shape (now (c .entry))) ⌝ }
+    requires { ⌜ TakenBlock shape (now c) (now residuals) × NoneAbove 32768 (now c) ⌝ }
+    ensures { λ r. ⌜ (r ≡ rails (planOf shape) (now (c .entry))) × (now (residuals .exit) ≡ inverseBlock (planOf shape) (now (c .entry))) ⌝ }
 {
     let mut u = [0i16; 512];
     let mut m = [0i16; 512];
@@ -251,8 +252,8 @@ fn large(shape: Shape, c: &[i16], residuals: &mut [i32]) -> u32
 
 // Both stages of a block that no test refuses; hands back the rail count.
 pub fn stages(shape: Shape, c: &[i16], residuals: &mut [i32]) -> u32
-    requires { ⌜ Whole shape (now c) (now residuals) × NoneAbove 32768 (now c) ⌝ }
-    ensures { λ r. ⌜ (r ≡ rails shape (now (c .entry))) × (now (residuals .exit) ≡ inverseBlock shape (now (c .entry))) ⌝ }
+    requires { ⌜ TakenBlock shape (now c) (now residuals) × NoneAbove 32768 (now c) ⌝ }
+    ensures { λ r. ⌜ (r ≡ rails (planOf shape) (now (c .entry))) × (now (residuals .exit) ≡ inverseBlock (planOf shape) (now (c .entry))) ⌝ }
 {
     if 8 < shape.width {
         return large(shape, c, residuals);

@@ -1,7 +1,7 @@
 -- What a call that hands back number 0 has passed: every test of its list (`line-taken` of a line, `inverse-accepted` and
 -- `forward-accepted` of a block); and what an inverse call that has passed them hands back (`inverse-done`).
 use mathlib.Core.Path.{_≡_, refl}
-use mathlib.Core.Bool.{Bool, false}
+use mathlib.Core.Bool.{false}
 use mathlib.Core.List.{List, [], _∷_, _++_}
 use Prim.Native.Nat.{ℕ, _*_, _-_, _^_}
 use borrow.Author.Tests.{eqb-true, not-false, eq-eqb}

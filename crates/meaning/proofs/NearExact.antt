@@ -2,7 +2,8 @@
 -- s ≥ 1:
 --   near-exact:          |2^(7+s) · residual − exact| ≤ 64 · (A + 2^s), where the clip altered nothing in the kept columns of
 --                        the row
---   near-block:          the same of every residual of the block, where its rail count is 0
+--   near-unaltered:      the same, where the clip altered nothing in the block
+--   near-block:          the same of every number of the block, where its rail count is 0
 -- and over an accepted call, in the words of the scope, s being 20 − d:
 --   demand3:             of an accepted call with rail count 0, for every residual of the block that it hands back:
 --                        |2^(27−d) · residual − exact| ≤ 64 · (A + 2^(20−d))
@@ -38,6 +39,10 @@ module _ (p : Plan) (c : List ℤ) (s : 1 ≤ p .last) (x y : ℕ) where
       let l = lastRounding p c x y in
       rw (two-parts p c x y same) (omega (arith, abs-add m l, middles-near p c x y, last-near p c x y s))
 
+  pub near-unaltered : Unaltered p c → y < p .height
+      → natAbs (pos (2 ^ (7 + p .last)) *ℤ residual p c x y -ℤ exact p c x y) ≤ 64 * (weightSizes p x + 2 ^ p .last)
+  near-unaltered same hy = near-exact (λ i hi. same i y hi hy)
+
   -- the residual in the block
   pub element : x < p .width → y < p .height → at (inverseBlock p c) (x + y * p .width) ≡ residual p c x y
   unfolding inverseBlock
@@ -45,7 +50,7 @@ module _ (p : Plan) (c : List ℤ) (s : 1 ≤ p .last) (x y : ℕ) where
 
   pub near-block : rails p c ≡ 0 → x < p .width → y < p .height
       → natAbs (pos (2 ^ (7 + p .last)) *ℤ at (inverseBlock p c) (x + y * p .width) -ℤ exact p c x y) ≤ 64 * (weightSizes p x + 2 ^ p .last)
-  near-block none hx hy = rw (element hx hy) (near-exact (λ i hi. inner-unaltered p c (no-rails p c none) i y hi hy))
+  near-block none hx hy = rw (element hx hy) (near-unaltered (inner-unaltered p c (no-rails p c none)) hy)
 
 -- of an accepted call: column x of row y
 module _ (sh : Shape) (c out : List ℤ) (number : inverseOutcome sh c out .0 .number ≡ 0) (x y : ℕ) (hx : x < sh .width) (hy : y < sh .height) where
@@ -57,7 +62,7 @@ module _ (sh : Shape) (c out : List ℤ) (number : inverseOutcome sh c out .0 .n
 
   pub demand3-inner : Inner (planOf sh) c
       → natAbs (pos (2 ^ (27 - sh .depth)) *ℤ residual (planOf sh) c x y -ℤ exact (planOf sh) c x y) ≤ 64 * (weightSizes (planOf sh) x + 2 ^ (20 - sh .depth))
-  demand3-inner inner = rw (shifts .1) at (near-exact (planOf sh) c (shifts .0) x y (λ i hi. inner-unaltered (planOf sh) c inner i y hi hy))
+  demand3-inner inner = rw (shifts .1) at (near-unaltered (planOf sh) c (shifts .0) x y (inner-unaltered (planOf sh) c inner) hy)
 
   pub demand3 : rails (planOf sh) c ≡ 0
       → natAbs (pos (2 ^ (27 - sh .depth)) *ℤ at (inverseBlock (planOf sh) c) (x + y * sh .width) -ℤ exact (planOf sh) c x y) ≤ 64 * (weightSizes (planOf sh) x + 2 ^ (20 - sh .depth))

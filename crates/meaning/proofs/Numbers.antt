@@ -1,4 +1,4 @@
--- "Numbers on both sides", those of lines and blocks: one table, `numbers`, and one theorem, `numbers-hold`. What each entry
+-- "Numbers on both sides", those of lines and blocks: one table, `items`, and one theorem, `items-hold`. What each entry
 -- says is `Says`. Items 5, 9 and 10, which are not marked P, stand in it too, with calls that tell the low end and the order of the
 -- lengths, and the numbers of kind 0.
 use mathlib.Core.Path.{_≡_, refl}
@@ -22,7 +22,7 @@ use Rattle.meaning.proofs.Sharing.{published4, cosines4}
 
 pub data Item : Type 0 where
   -- a line of x gives y
-  line : ℕ → List ℤ → List ℤ → Item
+  lineGives : ℕ → List ℤ → List ℤ → Item
   -- the weights of a kind at n points, row by row
   weights : ℕ → ℕ → List ℤ → Item
   -- the first weights of the odd rows of kind 0 at n points
@@ -52,7 +52,7 @@ abbrev front : Outcome → Answer × ℤ
 front o = (o .0, at (o .1) 0)
 
 abbrev pub Says : Item → Type 0
-Says (line kind x y) = forwardLineOutcome (length x) kind x (held (length x)) ≡ (accepted 0, y)
+Says (lineGives kind x y) = forwardLineOutcome (length x) kind x (held (length x)) ≡ (accepted 0, y)
 Says (weights kind n t) = block n n (λ j i. weight kind n i j) ≡ t
 Says (odds n t) = tabulate (n / 2) (λ i. weight 0 n (2 * i + 1) 0) ≡ t
 Says (rounding e m) = rounded e ≡ m
@@ -83,11 +83,11 @@ alone n k z = set (all n (pos 0)) k z
 abbrev pub column : ℤ → ℤ → ℤ → ℤ → List ℤ
 column a b c d = set (set (set (alone 16 0 a) 4 b) 8 c) 12 d
 
-abbrev pub numbers : List Item
-numbers =
+abbrev pub items : List Item
+items =
     -- 1, 2
-    line 1 (all 4 (pos 1)) (pos 242 ∷ pos 74 ∷ pos 36 ∷ pos 16 ∷ [])
-    ∷ line 2 (all 4 (pos 1)) (pos 242 ∷ negsuc 73 ∷ pos 36 ∷ negsuc 15 ∷ [])
+    lineGives 1 (all 4 (pos 1)) (pos 242 ∷ pos 74 ∷ pos 36 ∷ pos 16 ∷ [])
+    ∷ lineGives 2 (all 4 (pos 1)) (pos 242 ∷ negsuc 73 ∷ pos 36 ∷ negsuc 15 ∷ [])
     -- 3
     ∷ weights 2 4 published4
     -- 4
@@ -119,7 +119,7 @@ numbers =
     -- both lengths wrong: the input's is told
     ∷ inverseRefused (sized 4 4 10) (all 15 (pos 0)) 15 6 0
     -- kind 0: lines, H.266's weights, blocks, and what is kept of either direction
-    ∷ line 0 (all 4 (pos 1)) (pos 256 ∷ pos 0 ∷ pos 0 ∷ pos 0 ∷ [])
+    ∷ lineGives 0 (all 4 (pos 1)) (pos 256 ∷ pos 0 ∷ pos 0 ∷ pos 0 ∷ [])
     ∷ weights 0 4 cosines4
     ∷ odds 4 (pos 83 ∷ pos 36 ∷ [])
     ∷ odds 8 (pos 89 ∷ pos 75 ∷ pos 50 ∷ pos 18 ∷ [])
@@ -140,9 +140,9 @@ pub data Hold : List Item → Type 0 where
   none : Hold []
   _and_ : {i : Item} {is : List Item} → Says i → Hold is → Hold (i ∷ is)
 
-pub numbers-hold : Hold numbers
+pub items-hold : Hold items
 unfolding sum sumℕ tabulate block firstAt first fold S C cosines turn D weight forwardSum inverseSum forwardLine isSize isKind isDepth kept keptColumns keptRows shortRange columnSum middleAt rails rowSum residual inverseBlock rowValue columnValue coefficient forwardBlock
-numbers-hold =
+items-hold =
     refl and refl and refl and refl and refl and refl and refl and refl and refl and refl and refl and refl and refl
     and refl and refl and refl and refl and refl and refl and refl and refl and refl and refl and refl and refl and refl
     and refl and refl and refl and refl and refl and refl and refl and refl and none

@@ -1,10 +1,9 @@
 -- How large the numbers of an inverse block can be, over any plan: of coefficients of size at most B, where the sizes of the
 -- weights of a sum add up to at most W and no number of the range is above M. Assumes nothing.
---   column-part, row-part:        every partial sum of either stage: its first k terms
+--   column-part, row-part:         every partial sum of either stage: its first k terms, for every k
 --   column-rounding, row-rounding: what the two roundings are put to: e + 64, and r + 2^(s-1) for the last shift s
---   columnSum-size, rounded-size, middle-size, rowSum-size, residual-size: the sums and the values
-use mathlib.Core.Path.{_≡_}
-use mathlib.Core.Bool.{Bool}
+--   columnSum-size, rounded-size, middle-size, rowSum-size, residual-size: the sums and the values that come of them
+-- `Sized` gives W (`down-sizes`, `along-sizes`), `Around` is what is asked of the range.
 use mathlib.Core.List.{List}
 use Prim.Native.Nat.{ℕ, _+_, _*_, _-_, _^_, _≤_, _<_}
 use native.Mathlib.Nat.{le-refl, le-trans}
@@ -12,11 +11,11 @@ use native.Mathlib.Omega.{arith}
 use lib.Dec.{ltb}
 use lib.IntN.{ℤ, pos, natAbs, _+ℤ_}
 use lib.Signed.{_≤ℤ_}
-use Rattle.algebra.specs.Clip.{Range, clip}
+use Rattle.algebra.specs.Clip.{Range}
 use Rattle.algebra.specs.Lists.{at}
-use Rattle.algebra.proofs.Order.{abs-add, abs-parts, parts-zero, parts-le, parts-abs, le-parts}
+use Rattle.algebra.proofs.Order.{abs-parts, parts-le, parts-abs, le-parts}
 use Rattle.algebra.proofs.Clip.{clip-low, clip-high}
-use Rattle.algebra.proofs.Shift.{shift-in, nearest-in}
+use Rattle.algebra.proofs.Shift.{shift-in, rounding-in, nearest-in}
 use Rattle.meaning.specs.Line.{inverseSum}
 use Rattle.meaning.specs.Plan.{Plan}
 use Rattle.meaning.specs.Taken.{Sized, NoneAbove}
@@ -44,7 +43,7 @@ module _ (p : Plan) (c : List ℤ) {B W : ℕ} (small : NoneAbove B c) (x y : �
   columnSum-size = column-part (p .rows) (le-refl (p .rows))
 
   pub column-rounding : natAbs (columnSum p c x y +ℤ pos 64) ≤ W * B + 64
-  column-rounding = omega (arith, abs-add (columnSum p c x y) (pos 64), columnSum-size)
+  column-rounding = rounding-in 7 (columnSum p c x y) (W * B) columnSum-size
 
   -- before the clip
   pub rounded-size : (R : ℕ) → W * B ≤ 128 * R → natAbs (rounded (columnSum p c x y)) ≤ R
@@ -88,7 +87,7 @@ module _ (p : Plan) (c : List ℤ) {M : ℕ} (around : Around M (p .range)) wher
     rowSum-size = row-part (p .columns) (le-refl (p .columns))
 
     pub row-rounding : natAbs (rowSum p c x y +ℤ pos (2 ^ (p .last - 1))) ≤ W * M + 2 ^ (p .last - 1)
-    row-rounding = omega (arith, abs-add (rowSum p c x y) (pos (2 ^ (p .last - 1))), rowSum-size)
+    row-rounding = rounding-in (p .last) (rowSum p c x y) (W * M) rowSum-size
 
     pub residual-size : (R : ℕ) → 1 ≤ p .last → W * M ≤ 2 ^ p .last * R → natAbs (residual p c x y) ≤ R
     unfolding residual

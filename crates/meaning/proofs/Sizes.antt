@@ -50,6 +50,10 @@ module _ (kind n : ℕ) (x : ℕ → ℤ) (W M : ℕ) where
   unfolding inverseSum
   inverse-part count j = abs-part count (λ i. weight kind n i j) x W M
 
+-- of 16-bit inputs, by weights of size at most 64 n in all: 2^26 is 64 * 32 * 2^15
+pub short : (n : ℕ) {z : ℕ} → isSize n ≡ true → z ≤ 64 * n * 32768 → z ≤ 67108864
+short n s h = omega (arith, size-in n s)
+
 -- ---- one test of a kind and a size, carried to each row and column
 abbrev sizesTo : ℕ → ℕ → ℕ → ℕ → Bool
 sizesTo rows columns kind n = allTo n (λ i. leb (rowSize kind n i) rows && leb (columnSize kind n n i) columns)
@@ -118,13 +122,10 @@ module _ (kind n : ℕ) (k : isKind kind ≡ true) (s : isSize n ≡ true) where
     inverseSum-in count c small j h = inverse-part kind n x (64 * n) M count j (columnSizesKept count j c h) small count (le-refl count)
 
   -- 16-bit inputs
-  short : {z : ℕ} → z ≤ 64 * n * 32768 → z ≤ 67108864
-  short h = omega (arith, size-in n s)
-
   module _ (x : ℕ → ℤ) where
     module _ (small : (j : ℕ) → j < n → natAbs (x j) ≤ 32768) (i : ℕ) (h : i < n) where
       pub forward-part-short : (k : ℕ) → k ≤ n → natAbs (sum k (λ j. weight kind n i j *ℤ x j)) ≤ 67108864
-      forward-part-short k l = short (forward-part kind n x (64 * n) 32768 i (rowSizes i h) small k l)
+      forward-part-short k l = short n s (forward-part kind n x (64 * n) 32768 i (rowSizes i h) small k l)
 
       pub forward-part-fits : (k : ℕ) → k ≤ n → SFits w32 (sum k (λ j. weight kind n i j *ℤ x j))
       forward-part-fits k l = fits-in tt (within (sum k (λ j. weight kind n i j *ℤ x j)) (forward-part-short k l))
@@ -138,36 +139,36 @@ module _ (kind n : ℕ) (k : isKind kind ≡ true) (s : isSize n ≡ true) where
       forwardSum-fits = forward-part-fits n (le-refl n)
 
     pub inverseSum-short : (count : ℕ) → count ≤ n → ((i : ℕ) → i < count → natAbs (x i) ≤ 32768) → (j : ℕ) → j < n → natAbs (inverseSum kind n count x j) ≤ 67108864
-    inverseSum-short count c small j h = short (inverseSum-in x 32768 count c small j h)
+    inverseSum-short count c small j h = short n s (inverseSum-in x 32768 count c small j h)
 
     pub inverseSum-fits : (count : ℕ) → count ≤ n → ((i : ℕ) → i < count → natAbs (x i) ≤ 32768) → (j : ℕ) → j < n → SFits w32 (inverseSum kind n count x j)
     inverseSum-fits count c small j h = fits-in tt (within (inverseSum kind n count x j) (inverseSum-short count c small j h))
 
 -- ---- no weight is above 90, of any kind and any size
-abbrev noneAbove : ℕ → List ℕ → Bool
-noneAbove b [] = true
-noneAbove b (s ∷ ss) = leb s b && noneAbove b ss
+abbrev allLow : ℕ → List ℕ → Bool
+allLow b [] = true
+allLow b (s ∷ ss) = leb s b && allLow b ss
 
-none-above : (b : ℕ) (ss : List ℕ) → T (noneAbove b ss) → (k : ℕ) → getD ss k 0 ≤ b
-none-above b [] t k = zero-le
-none-above b (s ∷ ss) t zero = leb→le s b (and-left (leb s b) (noneAbove b ss) t)
-none-above b (s ∷ ss) t (suc k) = none-above b ss (and-right (leb s b) (noneAbove b ss) t) k
+all-low : (b : ℕ) (ss : List ℕ) → T (allLow b ss) → (k : ℕ) → getD ss k 0 ≤ b
+all-low b [] t k = zero-le
+all-low b (s ∷ ss) t zero = leb→le s b (and-left (leb s b) (allLow b ss) t)
+all-low b (s ∷ ss) t (suc k) = all-low b ss (and-right (leb s b) (allLow b ss) t) k
 
-first-tested : (n : ℕ) → T (noneAbove 90 (first n))
+first-tested : (n : ℕ) → T (allLow 90 (first n))
 unfolding first
 first-tested n =
-    let Passed : List ℕ → Type 0 = λ ss. T (noneAbove 90 ss) in
+    let Passed : List ℕ → Type 0 = λ ss. T (allLow 90 ss) in
     pick Passed (eqb n 4) tt (pick Passed (eqb n 8) tt (pick Passed (eqb n 16) tt (pick Passed (eqb n 32) tt tt)))
 
 pub abs-signed : (b : Bool) (z : ℤ) → natAbs (signed b z) ≡ natAbs z
 abs-signed true z = abs-neg z
 abs-signed false z = refl
 
-fold-size : (l : ℕ) (ss : List ℕ) (m : ℕ) → T (noneAbove 90 ss) → natAbs (fold l ss m) ≤ 90
+fold-size : (l : ℕ) (ss : List ℕ) (m : ℕ) → T (allLow 90 ss) → natAbs (fold l ss m) ≤ 90
 unfolding fold
 fold-size l ss m t =
     let k = min (m % l) (l - m % l) in
-    rw abs-signed (none-above 90 ss t k)
+    rw abs-signed (all-low 90 ss t k)
 
 pub S-size : (n i j : ℕ) → natAbs (S n i j) ≤ 90
 unfolding S
@@ -183,7 +184,7 @@ turn-size : (m : ℕ) → natAbs (turn m) ≤ 90
 unfolding turn cosines
 turn-size m =
     let k = min m (128 - m) in
-    rw abs-signed (none-above 90 cosines tt (min k (64 - k)))
+    rw abs-signed (all-low 90 cosines tt (min k (64 - k)))
 
 pub D-size : (n i j : ℕ) → natAbs (D n i j) ≤ 90
 unfolding D

@@ -18,8 +18,8 @@ use mir.Syntax.{w16, w32}
 use mir.Val.{SFits}
 use Rattle.algebra.specs.Sum.{sum}
 use Rattle.algebra.specs.Lists.{at}
-use Rattle.algebra.proofs.Order.{within, fits-in, parts-fit, le-parts, abs-add}
-use Rattle.algebra.proofs.Shift.{shift-in, nearest-in}
+use Rattle.algebra.proofs.Order.{within, fits-in, parts-fit, le-parts}
+use Rattle.algebra.proofs.Shift.{rounding-in, nearest-in}
 use Rattle.meaning.specs.declared.Shape.{Shape}
 use Rattle.meaning.specs.Weights.{weight}
 use Rattle.meaning.specs.Line.{forwardSum, inverseSum}
@@ -30,8 +30,8 @@ use Rattle.meaning.specs.Inverse.{columnSum, rounded, middleAt, rowSum, 
 use Rattle.meaning.specs.Forward.{log2, rowShift, columnShift, rowValue, columnValue, coefficient}
 use Rattle.meaning.proofs.Cases.{size-cases, size-in, depth-cases, pick}
 use Rattle.meaning.proofs.KeptPart.{kept-in}
-use Rattle.meaning.proofs.Sizes.{forwardSum-in, forwardSum-short, forward-part-fits}
-use Rattle.meaning.proofs.PlanSizes.{Around, down-sizes, along-sizes, column-part, columnSum-size, middle-within, middle-size, row-part, rowSum-size}
+use Rattle.meaning.proofs.Sizes.{short, forwardSum-in, forwardSum-short, forward-part-fits}
+use Rattle.meaning.proofs.PlanSizes.{Around, down-sizes, along-sizes, column-part, columnSum-size, rounded-size, middle-within, middle-size, row-part, rowSum-size, residual-size}
 
 -- ---- the inverse
 module _ (sh : Shape) where
@@ -61,27 +61,23 @@ module _ (sh : Shape) (c : List ℤ) (x y : ℕ) where
   pub middle-in : natAbs (middleAt (planOf sh) c x y) ≤ 32768
   middle-in = middle-size (planOf sh) c short-around x y
 
--- 64 n is at most 2048, so no sum of a taken shape is above 2^26
-few : (n : ℕ) {z : ℕ} → isSize n ≡ true → z ≤ 64 * n * 32768 → z ≤ 67108864
-few n s h = omega (arith, size-in n s)
-
--- .. and a rounding adds at most 2^11
+-- a rounding adds at most 2^11 to a sum of at most 2^26
 rounding-fits : (z : ℤ) (s : ℕ) → natAbs z ≤ 67108864 → s ≤ 12 → SFits w32 (z +ℤ pos (2 ^ (s - 1)))
 rounding-fits z s h l =
     let p : 2 ^ (s - 1) ≤ 2048 = pow-mono {i = s - 1} {j = 11} (omega arith) in
-    fits-in {B = 67110912} tt (within (z +ℤ pos (2 ^ (s - 1))) (omega (arith, abs-add z (pos (2 ^ (s - 1))))))
+    fits-in {B = 67110912} tt (within (z +ℤ pos (2 ^ (s - 1))) (omega (arith, rounding-in s z 67108864 h)))
 
 module _ (sh : Shape) (t : Taken sh) (c : List ℤ) where
   -- ---- columns, of 16-bit coefficients
   module _ (small : NoneAbove 32768 c) (x y : ℕ) (h : y < sh .height) where
     pub columnSum-in : natAbs (columnSum (planOf sh) c x y) ≤ 67108864
-    columnSum-in = few (sh .height) (t .height) (columnSum-size (planOf sh) c small x y (down-sizes (taken-sized sh t) y h))
+    columnSum-in = short (sh .height) (t .height) (columnSum-size (planOf sh) c small x y (down-sizes (taken-sized sh t) y h))
 
     -- its first k terms
     pub column-part-fits : (k : ℕ) → k ≤ keptRows sh → SFits w32 (inverseSum (sh .vertical) (sh .height) k (λ i. at c (x + i * sh .width)) y)
     column-part-fits k l =
         fits-in tt (within (inverseSum (sh .vertical) (sh .height) k (λ i. at c (x + i * sh .width)) y)
-        (few (sh .height) (t .height) (column-part (planOf sh) c small x y (down-sizes (taken-sized sh t) y h) k l)))
+        (short (sh .height) (t .height) (column-part (planOf sh) c small x y (down-sizes (taken-sized sh t) y h) k l)))
 
     pub columnSum-fits : SFits w32 (columnSum (planOf sh) c x y)
     columnSum-fits = fits-in tt (within (columnSum (planOf sh) c x y) columnSum-in)
@@ -92,7 +88,7 @@ module _ (sh : Shape) (t : Taken sh) (c : List ℤ) where
 
     -- before the clip
     pub rounded-in : natAbs (rounded (columnSum (planOf sh) c x y)) ≤ 524288
-    rounded-in = shift-in (columnSum (planOf sh) c x y) 6 524288 columnSum-in
+    rounded-in = rounded-size (planOf sh) c small x y (down-sizes (taken-sized sh t) y h) 524288 (omega (arith, size-in (sh .height) (t .height)))
 
   -- ---- rows, whatever the coefficients are
   last-in : (8 ≤ 20 - sh .depth) × (20 - sh .depth ≤ 12)
@@ -100,13 +96,13 @@ module _ (sh : Shape) (t : Taken sh) (c : List ℤ) where
 
   module _ (x y : ℕ) (h : x < sh .width) where
     pub rowSum-in : natAbs (rowSum (planOf sh) c x y) ≤ 67108864
-    rowSum-in = few (sh .width) (t .width) (rowSum-size (planOf sh) c short-around x y (along-sizes (taken-sized sh t) x h))
+    rowSum-in = short (sh .width) (t .width) (rowSum-size (planOf sh) c short-around x y (along-sizes (taken-sized sh t) x h))
 
     -- its first k terms
     pub row-part-fits : (k : ℕ) → k ≤ keptColumns sh → SFits w32 (inverseSum (sh .horizontal) (sh .width) k (λ i. middleAt (planOf sh) c i y) x)
     row-part-fits k l =
         fits-in tt (within (inverseSum (sh .horizontal) (sh .width) k (λ i. middleAt (planOf sh) c i y) x)
-        (few (sh .width) (t .width) (row-part (planOf sh) c short-around x y (along-sizes (taken-sized sh t) x h) k l)))
+        (short (sh .width) (t .width) (row-part (planOf sh) c short-around x y (along-sizes (taken-sized sh t) x h) k l)))
 
     pub rowSum-fits : SFits w32 (rowSum (planOf sh) c x y)
     rowSum-fits = fits-in tt (within (rowSum (planOf sh) c x y) rowSum-in)
@@ -119,10 +115,9 @@ module _ (sh : Shape) (t : Taken sh) (c : List ℤ) where
 
     -- 2^26 over 2^8
     pub residual-in : natAbs (residual (planOf sh) c x y) ≤ 262144
-    unfolding residual
     residual-in =
         let p : 256 ≤ 2 ^ (20 - sh .depth) = pow-mono {i = 8} (last-in .0) in
-        nearest-in (20 - sh .depth) (rowSum (planOf sh) c x y) 262144 (omega (arith, last-in .0)) (omega (arith, rowSum-in))
+        residual-size (planOf sh) c short-around x y (along-sizes (taken-sized sh t) x h) 262144 (omega (arith, last-in .0)) (omega (arith, size-in (sh .width) (t .width)))
 
     pub residual-fits : SFits w32 (residual (planOf sh) c x y)
     residual-fits = fits-in tt (within (residual (planOf sh) c x y) residual-in)
@@ -132,13 +127,10 @@ module _ (sh : Shape) (t : Taken sh) (c : List ℤ) where
 size-power : (n : ℕ) → isSize n ≡ true → 64 * n ≡ 2 ^ (log2 n + 6)
 size-power = size-cases (λ n. 64 * n ≡ 2 ^ (log2 n + 6)) refl refl refl refl
 
-some-log : (n : ℕ) → isSize n ≡ true → 2 ≤ log2 n
-some-log = size-cases (λ n. 2 ≤ log2 n) (omega arith) (omega arith) (omega arith) (omega arith)
-
-log-few : (n : ℕ) → log2 n ≤ 5
-log-few n =
-    let Few : ℕ → Type 0 = λ k. k ≤ 5 in
-    pick Few (eqb n 4) (omega arith) (pick Few (eqb n 8) (omega arith) (pick Few (eqb n 16) (omega arith) (omega arith)))
+pub log-in : (n : ℕ) → (2 ≤ log2 n) × (log2 n ≤ 5)
+log-in n =
+    let In : ℕ → Type 0 = λ k. (2 ≤ k) × (k ≤ 5) in
+    pick In (eqb n 4) (omega arith, omega arith) (pick In (eqb n 8) (omega arith, omega arith) (pick In (eqb n 16) (omega arith, omega arith) (omega arith, omega arith)))
 
 -- the largest residual, 2^d-1, and what the row stage makes of it: the largest value after either stage
 abbrev pub mostResidual : Shape → ℕ
@@ -158,7 +150,7 @@ module _ (sh : Shape) (t : Taken sh) where
   row-power : 64 * sh .width ≡ 2 ^ rowShift sh * 2 ^ (15 - sh .depth)
   row-power =
       let d = depth-cases (sh .depth) (t .depth) in
-      let e : log2 (sh .width) + 6 ≡ rowShift sh + (15 - sh .depth) = omega (arith, some-log (sh .width) (t .width)) in
+      let e : log2 (sh .width) + 6 ≡ rowShift sh + (15 - sh .depth) = omega (arith, log-in (sh .width)) in
       size-power (sh .width) (t .width) ∙ ap (λ n. 2 ^ n) e ∙ pow-add 2 (rowShift sh) (15 - sh .depth)
 
   residual-short : mostResidual sh ≤ 32768
@@ -193,13 +185,13 @@ module _ (sh : Shape) (t : Taken sh) where
     pub rowStage-rounding-fits : (x y : ℕ) → x < sh .width → SFits w32 (rowStage sh r x y +ℤ pos (2 ^ (rowShift sh - 1)))
     rowStage-rounding-fits x y h =
         let d = depth-cases (sh .depth) (t .depth) in
-        rounding-fits (rowStage sh r x y) (rowShift sh) (rowStage-in x y h) (omega (arith, log-few (sh .width)))
+        rounding-fits (rowStage sh r x y) (rowShift sh) (rowStage-in x y h) (omega (arith, log-in (sh .width)))
 
     pub rowValue-in : (x y : ℕ) → x < sh .width → natAbs (rowValue sh r x y) ≤ mostValue sh
     unfolding rowValue
     rowValue-in x y h =
         let d = depth-cases (sh .depth) (t .depth) in
-        let p : 0 < rowShift sh = omega (arith, some-log (sh .width) (t .width)) in
+        let p : 0 < rowShift sh = omega (arith, log-in (sh .width)) in
         let e : 64 * sh .width * mostResidual sh ≡ 2 ^ rowShift sh * mostValue sh
         = ap (λ n. n * mostResidual sh) row-power ∙ mul-assoc (2 ^ rowShift sh) (2 ^ (15 - sh .depth)) (mostResidual sh) in
         nearest-in (rowShift sh) (rowStage sh r x y) (mostValue sh) p
@@ -225,7 +217,7 @@ module _ (sh : Shape) (t : Taken sh) where
 
     -- "y + 2^(q-1)"
     pub columnStage-rounding-fits : (x y : ℕ) → x < sh .width → y < sh .height → SFits w32 (columnStage sh r x y +ℤ pos (2 ^ (columnShift sh - 1)))
-    columnStage-rounding-fits x y h v = rounding-fits (columnStage sh r x y) (columnShift sh) (columnStage-in x y h v) (omega (arith, log-few (sh .height)))
+    columnStage-rounding-fits x y h v = rounding-fits (columnStage sh r x y) (columnShift sh) (columnStage-in x y h v) (omega (arith, log-in (sh .height)))
 
     pub columnValue-in : (x y : ℕ) → x < sh .width → y < sh .height → natAbs (columnValue sh r x y) ≤ mostValue sh
     unfolding columnValue

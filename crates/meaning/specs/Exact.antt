@@ -1,7 +1,7 @@
 -- Document 01, "How much a contract has to settle": "Demand 3 is stated of demand 2's values". The words of demand 3: the exact
 -- double sum, A, and the four parts of a residual, over any plan.
 use mathlib.Core.List.{List}
-use Prim.Native.Nat.{ℕ, _*_, _^_}
+use Prim.Native.Nat.{ℕ, _^_}
 use lib.IntN.{ℤ, pos, natAbs, _-ℤ_, _*ℤ_}
 use Rattle.algebra.specs.Sum.{sum, sumℕ}
 use Rattle.meaning.specs.Weights.{weight}

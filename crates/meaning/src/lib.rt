@@ -1,7 +1,7 @@
 // What every call means: the structs that calls share, the definitions that their contracts cite (specs/, in the order of
-// the scope: Weights, Line, Shape, Answer, Inverse, Forward, Exact), and the theorems that follow from these alone (proofs/).
-// Read specs/ in that order, then of proofs/ Numbers, Sharing, Sizes, Stages, Parts, NoRails and NearExact; the others serve
-// these or the crates above.
+// the scope: Weights, Line, Shape, Plan, Taken, Answer, Inverse, Forward, Exact), and the theorems that follow from these alone
+// (proofs/). Read specs/ in that order, then of proofs/ Numbers, Sharing, Sizes, PlanSizes, Stages, Parts, NoRails and
+// NearExact; the others serve these or the crates above.
 ghost use mathlib.Core.Path.{_≡_};
 ghost use Prim.Native.Nat.{min};
 ghost use Rattle.algebra.specs.Refusals.{numberOf};

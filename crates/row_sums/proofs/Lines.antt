@@ -14,7 +14,7 @@ use Rattle.algebra.specs.Lists.{at}
 use Rattle.algebra.proofs.Order.{abs-mul}
 use Rattle.algebra.proofs.Sum.{sum-cong}
 use Rattle.algebra.proofs.Lists.{block-at, block-length, place-in}
-use Rattle.meaning.specs.Line.{term}
+use Rattle.tables.specs.Term.{term}
 use Rattle.meaning.proofs.Sizes.{weightSize}
 use Rattle.row_sums.specs.Factors.{laid}
 use Rattle.row_sums.specs.Sums.{rowSum, Rows}

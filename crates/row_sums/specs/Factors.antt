@@ -4,7 +4,7 @@ use mathlib.Core.List.{List}
 use Prim.Native.Nat.{ℕ}
 use lib.IntN.{ℤ}
 use Rattle.algebra.specs.Lists.{block}
-use Rattle.meaning.specs.Line.{term}
+use Rattle.tables.specs.Term.{term}
 
 -- the weights of the first `count` inputs: input i's in output k stands at k + i * n
 abbrev pub laid : Bool → ℕ → ℕ → ℕ → List ℤ

@@ -9,7 +9,7 @@ ghost use Prim.Native.Nat.{_*_, _<_, _≤_};
 ghost use lib.ListN.{length};
 ghost use Rattle.algebra.specs.Lists.{tabulate};
 ghost use Rattle.meaning.specs.Weights.{weight};
-ghost use Rattle.meaning.specs.Line.{term};
+ghost use Rattle.tables.specs.Term.{term};
 ghost use Rattle.meaning.specs.Shape.{isSize, isKind};
 ghost use Rattle.row_sums.specs.Factors.{laid};
 ghost use Rattle.tables.specs.Table.{Table};

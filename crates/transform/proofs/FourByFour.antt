@@ -17,6 +17,7 @@ use Rattle.algebra.specs.Refusals.{Refusal}
 use Rattle.algebra.proofs.First.{first-past}
 use Rattle.algebra.proofs.Lists.{flat-at}
 use Rattle.meaning.specs.Shape.{isSize, isKind, isDepth, keptColumns, keptRows}
+use Rattle.meaning.specs.Plan.{planOf}
 use Rattle.meaning.specs.Answer.{outcome, test, accepted}
 use Rattle.meaning.specs.Inverse.{outside, firstOutside, rails, inverseBlock}
 use Rattle.meaning.specs.Forward.{firstTooLarge, forwardBlock}
@@ -27,7 +28,7 @@ abbrev pub smallTests : ℕ → ℕ → ℕ → List Refusal
 smallTests horizontal vertical depth = test (not (isKind horizontal)) 3 ∷ test (not (isKind vertical)) 4 ∷ test (not (isDepth depth)) 5 ∷ []
 
 -- every place of a 4 by 4 block is kept
-kept : (h v d k : ℕ) (z : ℤ) → k < 16 → outside (smallShape h v d) k z ≡ false
+kept : (h v d k : ℕ) (z : ℤ) → k < 16 → outside (planOf (smallShape h v d)) k z ≡ false
 unfolding keptColumns keptRows
 kept h v d k z l =
     let some : 0 < 4 = omega arith in
@@ -47,12 +48,12 @@ module _ (b : List (List ℤ)) (h v d : ℕ) (long : length (flat b) ≡ 16) whe
   unfolding isSize tabulate
   forward-tests = rw long
 
-  none-outside : ltb (firstOutside (smallShape h v d) (flat b)) 16 ≡ false
+  none-outside : ltb (firstOutside (planOf (smallShape h v d)) (flat b)) 16 ≡ false
   none-outside =
-      let e = first-past (outside (smallShape h v d)) (flat b) 0 (λ i l. kept h v d (0 + i) (at (flat b) i) (omega arith)) in
-      le-ltb (firstOutside (smallShape h v d) (flat b)) 16 (omega (arith, e))
+      let e = first-past (outside (planOf (smallShape h v d))) (flat b) 0 (λ i l. kept h v d (0 + i) (at (flat b) i) (omega arith)) in
+      le-ltb (firstOutside (planOf (smallShape h v d)) (flat b)) 16 (omega (arith, e))
 
-  pub inverse-tests : smallInverse b h v d ≡ outcome (smallTests h v d) zeros (accepted (rails (smallShape h v d) (flat b)), inverseBlock (smallShape h v d) (flat b))
+  pub inverse-tests : smallInverse b h v d ≡ outcome (smallTests h v d) zeros (accepted (rails (planOf (smallShape h v d)) (flat b)), inverseBlock (planOf (smallShape h v d)) (flat b))
   unfolding isSize tabulate
   inverse-tests = rw (long, none-outside)
 

@@ -11,7 +11,7 @@ use lib.IntN.{ℤ}
 use lib.ListN.{length}
 use Rattle.algebra.specs.Lists.{at}
 use Rattle.meaning.specs.Shape.{isSize, isKind}
-use Rattle.meaning.proofs.Accepted.{TakenLine}
+use Rattle.meaning.specs.Taken.{TakenLine}
 use Rattle.engine.specs.Lines.{Spot, Given, input, line}
 use Rattle.tables.specs.Table.{Table}
 use Rattle.transform.specs.Line.{isPlace}

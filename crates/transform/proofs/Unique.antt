@@ -1,7 +1,7 @@
 -- Two outcomes that the contract of a public function allows are equal: what it hands back and what it leaves in each lent
 -- buffer follow from its arguments. The fast and the full function of a direction have one contract, so the two
 -- outcomes may come from either. Assumes nothing.
-use mathlib.Core.Path.{_≡_, ap}
+use mathlib.Core.Path.{_≡_, sym, ap, _∙_}
 use mathlib.Core.List.{List}
 use Prim.Native.Nat.{ℕ}
 use lib.IntN.{ℤ}
@@ -13,6 +13,8 @@ use Rattle.meaning.specs.Inverse.{inverseOutcome}
 use Rattle.meaning.specs.Forward.{forwardOutcome}
 use Rattle.transform.specs.declared.small.SmallCoefficients.{SmallCoefficients}
 use Rattle.transform.specs.declared.small.SmallResiduals.{SmallResiduals}
+use Rattle.transform.specs.declared.small.BothCoefficients.{BothCoefficients}
+use Rattle.transform.specs.declared.small.BothResiduals.{BothResiduals}
 use Rattle.transform.specs.Line.{weightOrZero}
 use Rattle.transform.specs.Small.{smallForward, smallInverse}
 use Rattle.transform.proofs.FourByFour.{Four, lines-one}
@@ -66,10 +68,24 @@ module _ (b : List (List ℤ)) (h v d : ℕ) where
 pub lines-of-one : (b : List (List ℤ)) {r s : List (List ℤ)} → r ≡ b → s ≡ b → r ≡ s
 lines-of-one b = one
 
--- `small::forward_both` and `small::inverse_both`: each form's outcome
-module _ (b : List (List ℤ)) (h v d : ℕ) {o p : Outcome} where
-  pub forward-4x4-both-one : o ≡ smallForward b h v d → p ≡ smallForward b h v d → o ≡ p
-  forward-4x4-both-one = one
+-- `small::forward_both` and `small::inverse_both`: all of their fields, both forms' answers and both forms' numbers. By value
+-- the outcome is the definition's, and the lent one is the same.
+both-one : {e o l p m : Outcome} → o ≡ e → o ≡ l → p ≡ e → p ≡ m → (o ≡ p) × (l ≡ m)
+both-one a b c d = (one a c, one (sym b ∙ a) (sym d ∙ c))
 
-  pub inverse-4x4-both-one : o ≡ smallInverse b h v d → p ≡ smallInverse b h v d → o ≡ p
-  inverse-4x4-both-one = one
+module _ (b : List (List ℤ)) (h v d : ℕ) where
+  pub forward-4x4-both-one : (r s : BothCoefficients)
+      → _≡_ {A = Outcome} (r .«by_value», r .«by_value_block») (smallForward b h v d) → _≡_ {A = Outcome} (r .«by_value», r .«by_value_block») (r .lent, r .«lent_block»)
+      → _≡_ {A = Outcome} (s .«by_value», s .«by_value_block») (smallForward b h v d) → _≡_ {A = Outcome} (s .«by_value», s .«by_value_block») (s .lent, s .«lent_block»)
+      → r ≡ s
+  forward-4x4-both-one r s p a q c =
+      let e = both-one p a q c in
+      λ i. record { «by_value» = e .0 i .0; lent = e .1 i .0; «by_value_block» = e .0 i .1; «lent_block» = e .1 i .1 }
+
+  pub inverse-4x4-both-one : (r s : BothResiduals)
+      → _≡_ {A = Outcome} (r .«by_value», r .«by_value_block») (smallInverse b h v d) → _≡_ {A = Outcome} (r .«by_value», r .«by_value_block») (r .lent, r .«lent_block»)
+      → _≡_ {A = Outcome} (s .«by_value», s .«by_value_block») (smallInverse b h v d) → _≡_ {A = Outcome} (s .«by_value», s .«by_value_block») (s .lent, s .«lent_block»)
+      → r ≡ s
+  inverse-4x4-both-one r s p a q c =
+      let e = both-one p a q c in
+      λ i. record { «by_value» = e .0 i .0; lent = e .1 i .0; «by_value_block» = e .0 i .1; «lent_block» = e .1 i .1 }

@@ -9,7 +9,7 @@ use mir.Syntax.{w16, w32}
 use mir.Val.{toZ, ofZ}
 use mir.ValLaws.{toZ-ofZ}
 use Rattle.engine.specs.Lines.{input}
-use Rattle.meaning.specs.Line.{term}
+use Rattle.tables.specs.Term.{term}
 use Rattle.engine.specs.Product.{lineSum}
 use Rattle.engine.proofs.Sums.{grown, none-yet, one-more, reads, abs-term}
 use Rattle.engine.proofs.product.dot.Statement.{statement}

@@ -1,7 +1,7 @@
 -- `forward::column_shift` meets its contract. Assumes nothing.
 use borrow.Author.Needs.{needs}
 use native.Mathlib.Omega.{arith}
-use Rattle.forward_block.proofs.TwoStages.{log-in}
+use Rattle.meaning.proofs.Stages.{log-in}
 use Rattle.forward_block.proofs.forward.column_shift.Statement.{statement}
 use Rattle.forward_block.proofs.forward.column_shift.Tie as tie
 

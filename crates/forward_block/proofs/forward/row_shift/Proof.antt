@@ -3,7 +3,7 @@ use borrow.Author.Needs.{needs}
 use native.Mathlib.Omega.{arith}
 use Prim.Native.Nat.{_-_}
 use Rattle.meaning.proofs.Cases.{depth-cases}
-use Rattle.forward_block.proofs.TwoStages.{log-in}
+use Rattle.meaning.proofs.Stages.{log-in}
 use Rattle.forward_block.proofs.forward.row_shift.Statement.{statement}
 use Rattle.forward_block.proofs.forward.row_shift.Tie as tie
 

@@ -9,16 +9,18 @@ use mir.ValLaws.{toZ-ofZ}
 use Rattle.algebra.proofs.Order.{le-parts, parts-fit}
 use Rattle.algebra.proofs.Clip.{clip-same}
 use Rattle.algebra.proofs.Word.{arg, lit, lt-no, castV!, cast-fits! }
-use Rattle.inverse_block.specs.Stages.{short}
+use Rattle.meaning.specs.Plan.{shortRange}
 use Rattle.inverse_block.proofs.inverse.clip16.Statement.{statement}
 use Rattle.inverse_block.proofs.inverse.clip16.Tie as tie
 
 returns : tie.Need-returns
+unfolding shortRange
 returns c =
     let s = c .before in
     rw (rw (toZ-ofZ w32 (s .args .v) (s .fits .v)) at (c .if1 .taken))
 
 returns-2 : tie.Need-returns-2
+unfolding shortRange
 returns-2 c =
     let s = c .before .before in
     rw (rw (toZ-ofZ w32 (s .args .v) (s .fits .v)) at (c .before .if1 .left), rw (toZ-ofZ w32 (s .args .v) (s .fits .v)) at (c .if2 .taken))
@@ -36,7 +38,8 @@ cast-result : tie.Need-cast-result
 cast-result c = cast-fits! (arg (c .before .before .fits .v)) (inside c)
 
 returns-3 : tie.Need-returns-3
-returns-3 c = castV! (arg (c .before .before .fits .v)) (inside c) .val ∙ sym (clip-same short (c .before .before .args .v) (low c) (high c))
+unfolding shortRange
+returns-3 c = castV! (arg (c .before .before .fits .v)) (inside c) .val ∙ sym (clip-same shortRange (c .before .before .args .v) (low c) (high c))
 
 pub clip16-spec : {M : Type 1} → statement M
 clip16-spec = tie.close (tie.spec returns returns-2 cast-result returns-3)

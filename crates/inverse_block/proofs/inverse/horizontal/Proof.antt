@@ -11,7 +11,7 @@ use Rattle.algebra.specs.Shift.{nearest}
 use Rattle.algebra.specs.Lists.{at, tabulate}
 use Rattle.meaning.specs.Shape.{keptColumns}
 use Rattle.meaning.proofs.Cases.{depth-cases}
-use Rattle.meaning.proofs.Small.{NoneAbove}
+use Rattle.meaning.specs.Taken.{NoneAbove}
 use Rattle.meaning.proofs.Stages.{columns-in}
 use Rattle.row_sums.specs.Factors.{laid}
 use Rattle.inverse_block.proofs.Residuals.{lines-small, residuals-made}

@@ -16,6 +16,7 @@ use Rattle.algebra.specs.Lists.{at}
 use Rattle.algebra.specs.First.{firstAt}
 use Rattle.algebra.proofs.Lists.{place-in, row-in, row-of, column-of}
 use Rattle.algebra.proofs.First.{first-on, first-here, first-none}
+use Rattle.meaning.specs.Plan.{planOf}
 use Rattle.meaning.specs.Inverse.{outside}
 use Rattle.meaning.proofs.Stages.{columns-in}
 use Rattle.inverse_block.specs.Stages.{outsideAt}
@@ -174,7 +175,7 @@ hunt-again c =
 
 -- the contract's own test is this one
 asked : (c : tie.At-hunt Inv-loop μ-loop Inv-hunt μ-hunt) → let s = c .before .before .before .before .before .before in
-    firstAt (test (width s) (c .before .before .before .kept-columns .result) (c .before .before .kept-rows .result)) 0 (s .args .c .now) ≡ firstAt (outside (s .args .shape)) 0 (s .args .c .now)
+    firstAt (test (width s) (c .before .before .before .kept-columns .result) (c .before .before .kept-rows .result)) 0 (s .args .c .now) ≡ firstAt (outside (planOf (s .args .shape))) 0 (s .args .c .now)
 asked c = rw (c .before .before .before .kept-columns .ensures, c .before .before .kept-rows .ensures)
 
 returns : tie.Need-returns Inv-loop μ-loop Inv-hunt μ-hunt

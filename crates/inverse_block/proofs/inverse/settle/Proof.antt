@@ -11,14 +11,15 @@ use mir.ValLaws.{toZ-ofZ}
 use Rattle.algebra.specs.Clip.{clip}
 use Rattle.algebra.specs.Lists.{at}
 use Rattle.algebra.proofs.Lists.{Filled, fill-none, fill-first, filled}
+use Rattle.meaning.specs.Plan.{shortRange}
 use Rattle.meaning.specs.Inverse.{rounded, middle, railed, count}
-use Rattle.inverse_block.specs.Stages.{short, railsOf}
+use Rattle.inverse_block.specs.Stages.{railsOf}
 use Rattle.inverse_block.proofs.Middles.{rails-none, rails-next, rails-in, count-in}
 use Rattle.inverse_block.proofs.inverse.settle.Statement.{statement}
 use Rattle.inverse_block.proofs.inverse.settle.Tie as tie
 
 abbrev Inv-loop : tie.InvT-loop
-Inv-loop e m₀ rails₀ x₀ m rails x = (x ≤ length e) × (Filled 0 x m m₀ (λ x. middle short (at e x)) × (rails ≡ railsOf x (at e)))
+Inv-loop e m₀ rails₀ x₀ m rails x = (x ≤ length e) × (Filled 0 x m m₀ (λ x. middle shortRange (at e x)) × (rails ≡ railsOf x (at e)))
 
 abbrev μ-loop : tie.MeasureT-loop
 μ-loop e m₀ rails₀ x₀ m rails x = length e - x
@@ -32,17 +33,17 @@ sum-read : (c : tie.After-round7-arg Inv-loop μ-loop) → let L = c .before .be
 sum-read c = let L = c .before .before in toZ-ofZ w32 (at (L .before .args .e .now) (L .loop .x)) (record { sfits = c .round7-arg .given })
 
 made : (c : tie.After-clip16 Inv-loop μ-loop) → let L = c .before .before .before .before in
-    toZ w16 (ofZ w16 (c .clip16 .result)) ≡ middle short (at (L .before .args .e .now) (L .loop .x))
+    toZ w16 (ofZ w16 (c .clip16 .result)) ≡ middle shortRange (at (L .before .args .e .now) (L .loop .x))
 made c =
     toZ-ofZ w16 (c .clip16 .result) (search needs) ∙ c .clip16 .ensures
-    ∙ ap (clip short) (toZ-ofZ w32 (c .before .round7 .result) (search needs) ∙ c .before .round7 .ensures ∙ ap rounded (sum-read (c .before .before)))
+    ∙ ap (clip shortRange) (toZ-ofZ w32 (c .before .round7 .result) (search needs) ∙ c .before .round7 .ensures ∙ ap rounded (sum-read (c .before .before)))
 
 counted : (c : tie.After-rail Inv-loop μ-loop) → let L = c .before .before .before .before .before in let e = at (L .before .args .e .now) (L .loop .x) in
-    c .rail .result ≡ count (railed short (rounded e) (middle short e))
+    c .rail .result ≡ count (railed shortRange (rounded e) (middle shortRange e))
 counted c =
     let L = c .before .before .before .before .before in
     let e = at (L .before .args .e .now) (L .loop .x) in
-    c .rail .ensures ∙ ap (λ (z : ℤ). count (railed short (rounded e) z)) (made (c .before))
+    c .rail .ensures ∙ ap (λ (z : ℤ). count (railed shortRange (rounded e) z)) (made (c .before))
 
 loop-holds : tie.Need-loop-holds Inv-loop μ-loop
 loop-holds c = (omega arith, (fill-none 0 _ _, sym (rails-none (at (c .args .e .now)))))
@@ -68,13 +69,13 @@ add-rails : tie.Need-add-rails Inv-loop μ-loop
 add-rails c =
     let L = c .before .before .before .before .before in
     let e = at (L .before .args .e .now) (L .loop .x) in
-    omega (arith, L .loop .inv .1 .1, rails-in (L .loop .x) (at (L .before .args .e .now)), counted c, count-in (railed short (rounded e) (middle short e)), L .before .pre .few)
+    omega (arith, L .loop .inv .1 .1, rails-in (L .loop .x) (at (L .before .args .e .now)), counted c, count-in (railed shortRange (rounded e) (middle shortRange e)), L .before .pre .few)
 
-mul-v : tie.Need-mul-v Inv-loop μ-loop
-mul-v c = omega (arith, place (c .before .before .before .before))
+mul-after : tie.Need-mul-after Inv-loop μ-loop
+mul-after c = omega (arith, place (c .before .before .before .before))
 
-slice-set-from-v : tie.Need-slice-set-from-v Inv-loop μ-loop
-slice-set-from-v c = omega (arith, place (c .before .before .before .before), c .before .before .before .before .before .loop .inv .1 .0 .long)
+slice-set-from-after : tie.Need-slice-set-from-after Inv-loop μ-loop
+slice-set-from-after c = omega (arith, place (c .before .before .before .before), c .before .before .before .before .before .loop .inv .1 .0 .long)
 
 add-x : tie.Need-add-x Inv-loop μ-loop
 add-x c = search needs
@@ -102,7 +103,7 @@ returns c =
     let s = L .before .args in
     let n = length (s .e .now) in
     let e : L .loop .x ≡ n = omega (arith, L .loop .inv .0, c .loop-test .left) in (
-      filled (L .before .pre .same) (subst (λ (k : ℕ). Filled 0 k (L .loop .m) (s .m .now) (λ x. middle short (at (s .e .now) x))) e (L .loop .inv .1 .0)),
+      filled (L .before .pre .same) (subst (λ (k : ℕ). Filled 0 k (L .loop .m) (s .m .now) (λ x. middle shortRange (at (s .e .now) x))) e (L .loop .inv .1 .0)),
       L .loop .inv .1 .1 ∙ ap (λ (k : ℕ). railsOf k (at (s .e .now))) e,
     )
 
@@ -119,8 +120,8 @@ settle-spec =
     clip16-requires
     rail-requires
     add-rails
-    mul-v
-    slice-set-from-v
+    mul-after
+    slice-set-from-after
     add-x
     loop-less
     loop-again

@@ -11,10 +11,11 @@ use lib.IntN.{ℤ}
 use Rattle.algebra.specs.Lists.{at, tabulate}
 use Rattle.algebra.proofs.Lists.{block-length}
 use Rattle.meaning.specs.Shape.{keptColumns, keptRows}
+use Rattle.meaning.specs.Plan.{shortRange, planOf}
 use Rattle.meaning.specs.Inverse.{columnSum, middle}
 use Rattle.meaning.proofs.Stages.{rows-in}
 use Rattle.row_sums.specs.Factors.{laid}
-use Rattle.inverse_block.specs.Stages.{short, railsOf, Sums}
+use Rattle.inverse_block.specs.Stages.{railsOf, Sums}
 use Rattle.inverse_block.proofs.Middles.{sums-few, sums-small, middles-made, rails-all}
 use Rattle.inverse_block.proofs.inverse.vertical.Statement.{statement}
 use Rattle.inverse_block.proofs.inverse.vertical.Tie as tie
@@ -54,7 +55,7 @@ settle-requires c κs =
     subst (λ (l : List ℤ). Sums l (a .m .now)) (sym (k .column-sums .ensures)) (
     record {
       few = sums-few (a .shape) (a .c .now) t;
-      same = s .pre .1 .1 .1 ∙ sym (block-length (keptColumns (a .shape)) (a .shape .height) (columnSum (a .shape) (a .c .now)));
+      same = s .pre .1 .1 .1 ∙ sym (block-length (keptColumns (a .shape)) (a .shape .height) (columnSum (planOf (a .shape)) (a .c .now)));
       small = λ x _. sums-small (a .shape) (a .c .now) t (s .pre .0 .small) x;
     }
     )
@@ -73,7 +74,7 @@ returns c =
     let k = c .before .before .before .before .before in
     let a = k .before .before .before .before .before .before .before .before .args in
     let e = c .before .settle .ensures in (
-      e .0 ∙ ap (λ (l : List ℤ). tabulate (length l) (λ x. middle short (at l x))) (k .column-sums .ensures) ∙ middles-made (a .shape) (a .c .now),
+      e .0 ∙ ap (λ (l : List ℤ). tabulate (length l) (λ x. middle shortRange (at l x))) (k .column-sums .ensures) ∙ middles-made (a .shape) (a .c .now),
       e .1 ∙ ap (λ (l : List ℤ). railsOf (length l) (at l)) (k .column-sums .ensures) ∙ rails-all (a .shape) (a .c .now),
     )
 

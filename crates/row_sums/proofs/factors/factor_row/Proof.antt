@@ -3,7 +3,7 @@ use borrow.Author.Needs.{needs}
 use mathlib.Core.Path.{_∙_, sym, ap}
 use mathlib.Core.Bool.{Bool}
 use Rattle.algebra.specs.Lists.{tabulate}
-use Rattle.meaning.specs.Line.{term}
+use Rattle.tables.specs.Term.{term}
 use Rattle.row_sums.proofs.factors.factor_row.Statement.{statement}
 use Rattle.row_sums.proofs.factors.factor_row.Tie as tie
 

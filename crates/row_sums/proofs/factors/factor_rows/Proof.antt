@@ -6,7 +6,7 @@ use mathlib.Core.Path.{_≡_}
 use Prim.Native.Nat.{_+_, _*_, _-_, _≤_}
 use lib.ListN.{length, length-take, length-drop}
 use Rattle.algebra.proofs.Lists.{row-in, Rows, rows-none, rows-long, rows-next, rows-all}
-use Rattle.meaning.specs.Line.{term}
+use Rattle.tables.specs.Term.{term}
 use Rattle.row_sums.proofs.factors.factor_rows.Statement.{statement}
 use Rattle.row_sums.proofs.factors.factor_rows.Tie as tie
 

@@ -7,7 +7,7 @@ use mir.Syntax.{w16}
 use mir.ValLaws.{toZ-ofZ}
 use Rattle.algebra.proofs.Lists.{Filled, fill-none, fill-first, filled}
 use mathlib.Core.Bool.{true}
-use Rattle.meaning.specs.Line.{term}
+use Rattle.tables.specs.Term.{term}
 use Rattle.row_sums.proofs.factors.forward_row.Statement.{statement}
 use Rattle.row_sums.proofs.factors.forward_row.Tie as tie
 

@@ -7,7 +7,7 @@ use mir.Syntax.{w16}
 use mir.ValLaws.{toZ-ofZ}
 use Rattle.algebra.proofs.Lists.{Filled, fill-none, fill-first, filled}
 use mathlib.Core.Bool.{false}
-use Rattle.meaning.specs.Line.{term}
+use Rattle.tables.specs.Term.{term}
 use Rattle.row_sums.proofs.factors.inverse_row.Statement.{statement}
 use Rattle.row_sums.proofs.factors.inverse_row.Tie as tie
 

@@ -10,7 +10,7 @@ use mir.Syntax.{w16}
 use mir.ValLaws.{toZ-ofZ}
 use Rattle.algebra.specs.Lists.{at}
 use Rattle.algebra.proofs.Lists.{Filled, fill-none, fill-first, block-ext, place-in}
-use Rattle.meaning.specs.Line.{term}
+use Rattle.tables.specs.Term.{term}
 use Rattle.meaning.proofs.TwoKinds.{dst}
 use Rattle.row_sums.proofs.factors.stored.Statement.{statement}
 use Rattle.row_sums.proofs.factors.stored.Tie as tie

@@ -15,7 +15,8 @@ use Rattle.algebra.proofs.Refusals.{refused-first, passed-first}
 use Rattle.meaning.specs.Answer.{Outcome, refused, accepted, shapeTests, lengthTests}
 use Rattle.meaning.specs.Forward.{firstTooLarge, forwardBlock, forwardOutcome}
 use Rattle.meaning.proofs.Cases.{size-in}
-use Rattle.meaning.proofs.Accepted.{Whole, whole-of}
+use Rattle.meaning.specs.Taken.{TakenBlock}
+use Rattle.meaning.proofs.Accepted.{block-taken}
 use Rattle.meaning.proofs.Small.{none-too-large}
 use Rattle.transform.proofs.block.forward.Statement.{statement}
 use Rattle.transform.proofs.block.forward.Tie as tie
@@ -47,10 +48,10 @@ past c =
     let s = c .before .before in
     passed-first (second s) (refusal s) (done s) (first s) tt (sym (c .before .block-refusal .ensures) ∙ c .if1 .left)
 
-whole : (c : tie.Else1) → let s = c .before .before in Whole (s .args .shape) (s .args .residuals .now) (s .args .coefficients .now)
-whole c =
+taken : (c : tie.Else1) → let s = c .before .before in TakenBlock (s .args .shape) (s .args .residuals .now) (s .args .coefficients .now)
+taken c =
     let s = c .before .before in
-    whole-of (s .args .shape) (s .args .residuals .now) (s .args .coefficients .now) (sym (c .before .block-refusal .ensures) ∙ c .if1 .left)
+    block-taken (s .args .shape) (s .args .residuals .now) (s .args .coefficients .now) (sym (c .before .block-refusal .ensures) ∙ c .if1 .left)
 
 found : (c : tie.Then2) → let s = c .before .before .before .before in ltb (place s) (length (s .args .residuals .now)) ≡ true
 found c = let s = c .before .before .before .before in lt-ltb (place s) (length (s .args .residuals .now)) (omega (arith, c .if2 .taken, c .before .first-too-large .ensures))
@@ -71,12 +72,12 @@ returns c =
     ∙ sym (refused-first (second s) (refusal s) (done s) (first s) tt (λ e. c .before .if1 .taken (c .before .before .block-refusal .ensures ∙ e)))
 
 first-too-large-requires : tie.Need-first-too-large-requires
-first-too-large-requires c κs = (whole c .taken .depth, whole c .long)
+first-too-large-requires c κs = (taken c .taken .depth, taken c .long)
 
 cast-refusal : tie.Need-cast-refusal
 cast-refusal c =
     let h = c .before .before .before .before .args .shape in
-    let w = whole (c .before .before) in
+    let w = taken (c .before .before) in
     let m : h .width * h .height ≤ 32 * 32 = mul-le-mul (size-in (h .width) (w .taken .width)) (size-in (h .height) (w .taken .height)) in
     record { fits = omega (arith, c .if2 .taken, w .long) }
 
@@ -92,7 +93,7 @@ returns-2 c =
 stages-requires : tie.Need-stages-requires
 stages-requires c κs =
     let s = c .before .before .before .before .before in
-    let w = whole (c .before .before .before) in
+    let w = taken (c .before .before .before) in
     (record { taken = w .taken; long = w .long; small = none-too-large (s .args .shape) (s .args .residuals .now) (none (c .before)) }, w .room)
 
 acceptance-requires : tie.Need-acceptance-requires

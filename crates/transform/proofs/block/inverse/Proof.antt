@@ -13,9 +13,11 @@ use Rattle.algebra.specs.Refusals.{Refusal, firstOf, numberOf}
 use Rattle.algebra.proofs.Refusals.{refused-first, passed-first}
 use Rattle.meaning.specs.declared.Answer.{Answer}
 use Rattle.meaning.specs.Answer.{Outcome, refused, accepted, shapeTests, lengthTests}
+use Rattle.meaning.specs.Plan.{planOf}
 use Rattle.meaning.specs.Inverse.{rails, inverseBlock, firstOutside, inverseOutcome}
 use Rattle.meaning.proofs.Cases.{size-in}
-use Rattle.meaning.proofs.Accepted.{Whole, whole-of}
+use Rattle.meaning.specs.Taken.{TakenBlock}
+use Rattle.meaning.proofs.Accepted.{block-taken}
 use Rattle.transform.proofs.block.inverse.Statement.{statement}
 use Rattle.transform.proofs.block.inverse.Tie as tie
 
@@ -24,7 +26,7 @@ abbrev seven : tie.Start → List Refusal
 seven s = shapeTests (s .args .shape) ++ lengthTests (s .args .shape .width * s .args .shape .height) (length (s .args .coefficients .now)) (length (s .args .residuals .now))
 
 abbrev place : tie.Start → ℕ
-place s = firstOutside (s .args .shape) (s .args .coefficients .now)
+place s = firstOutside (planOf (s .args .shape)) (s .args .coefficients .now)
 
 abbrev eight : tie.Start → List Refusal
 eight s = record { applies = ltb (place s) (length (s .args .coefficients .now)); number = 8; place = place s } ∷ []
@@ -33,7 +35,7 @@ abbrev refuse : tie.Start → ℕ → ℕ → Outcome
 refuse s number place = (refused number place, s .args .residuals .now)
 
 abbrev done : tie.Start → Outcome
-done s = (accepted (rails (s .args .shape) (s .args .coefficients .now)), inverseBlock (s .args .shape) (s .args .coefficients .now))
+done s = (accepted (rails (planOf (s .args .shape)) (s .args .coefficients .now)), inverseBlock (planOf (s .args .shape)) (s .args .coefficients .now))
 
 passed : (c : tie.Else1) → numberOf (seven (c .before .before)) ≡ 0
 passed c = sym (c .before .block-refusal .ensures) ∙ c .if1 .left
@@ -41,8 +43,8 @@ passed c = sym (c .before .block-refusal .ensures) ∙ c .if1 .left
 past : (c : tie.Else1) → let s = c .before .before in inverseOutcome (s .args .shape) (s .args .coefficients .now) (s .args .residuals .now) ≡ firstOf (eight s) (refuse s) (done s)
 past c = let s = c .before .before in passed-first (eight s) (refuse s) (done s) (seven s) tt (passed c)
 
-taken : (c : tie.Else1) → let s = c .before .before in Whole (s .args .shape) (s .args .coefficients .now) (s .args .residuals .now)
-taken c = let s = c .before .before in whole-of (s .args .shape) (s .args .coefficients .now) (s .args .residuals .now) (passed c)
+taken : (c : tie.Else1) → let s = c .before .before in TakenBlock (s .args .shape) (s .args .coefficients .now) (s .args .residuals .now)
+taken c = let s = c .before .before in block-taken (s .args .shape) (s .args .coefficients .now) (s .args .residuals .now) (passed c)
 
 block-refusal-requires : tie.Need-block-refusal-requires
 block-refusal-requires c κs = search needs
@@ -93,7 +95,7 @@ returns-3 c =
     let h = c .before .before .before .before .before .hunt .ensures .0 in
     let l : ltb (place s) (length (s .args .coefficients .now)) ≡ false = le-ltb (place s) (length (s .args .coefficients .now)) (omega (arith, h, c .before .before .before .before .if2 .left)) in
     let e = c .before .before .stages .ensures in
-    (λ i. (c .acceptance .ensures i, e .1 i)) ∙ ap (λ (n : ℕ). (accepted n, inverseBlock (s .args .shape) (s .args .coefficients .now))) (e .0)
+    (λ i. (c .acceptance .ensures i, e .1 i)) ∙ ap (λ (n : ℕ). (accepted n, inverseBlock (planOf (s .args .shape)) (s .args .coefficients .now))) (e .0)
     ∙ sym (past (c .before .before .before .before .before .before) ∙ rw l)
 
 pub inverse-spec : {M : Type 1} → statement M

@@ -4,7 +4,8 @@ use mathlib.Core.Path.{_≡_, sym, ap, _∙_}
 use Prim.Native.Nat.{ℕ}
 use lib.ListN.{length}
 use Rattle.algebra.specs.Lists.{at}
-use Rattle.meaning.proofs.Accepted.{TakenLine, line-taken}
+use Rattle.meaning.specs.Taken.{TakenLine}
+use Rattle.meaning.proofs.Accepted.{line-taken}
 use Rattle.engine.specs.Lines.{line}
 use Rattle.transform.proofs.Lent.{given}
 use Rattle.meaning.proofs.Cases.{thirty-two}
