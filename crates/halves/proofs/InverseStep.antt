@@ -1,5 +1,5 @@
--- One step of the inverse line, once over the size: what the products by pairs, the deal and the butterfly are given, and the line
--- that they leave. Assumes nothing.
+-- One step of the inverse line, once over the size: what the deal and the butterfly are given, and the line that they leave.
+-- Assumes nothing.
 use mathlib.Core.Path.{_≡_, sym, ap, _∙_, subst}
 use mathlib.Core.List.{List}
 use Prim.Native.Nat.{ℕ, _+_, _*_, _-_, _/_, _%_, _≤_, _<_}
@@ -11,38 +11,15 @@ use Rattle.algebra.specs.Sum.{sum}
 use Rattle.algebra.specs.Lists.{at, tabulate}
 use Rattle.algebra.proofs.Order.{abs-mul}
 use Rattle.algebra.proofs.Sum.{sum-cong, sum-in}
-use Rattle.algebra.proofs.Lists.{tab-at, tab-length, tab-cong, tabulated}
+use Rattle.algebra.proofs.Lists.{tab-cong, tabulated}
 use Rattle.meaning.specs.Weights.{weight}
 use Rattle.meaning.specs.Line.{inverseSum, inverseLine}
 use Rattle.meaning.specs.Taken.{NoneAbove}
 use Rattle.meaning.proofs.Sizes.{weightSize}
-use Rattle.pairs.specs.Pairs.{lineSum, rounded, Line}
-use Rattle.pairs.proofs.Tables.{line-given, line-is, exact}
 use Rattle.halves.specs.Halves.{Halves, odd, oddSum, evens}
-use Rattle.halves.specs.Lines.{Half, Whole, strided, Inputs, Sums, Joined}
-use Rattle.halves.proofs.Tables.{zipped-half}
+use Rattle.halves.specs.Lines.{Whole, strided, Inputs, Sums, Joined}
+use Rattle.halves.proofs.Tables.{tab-holds, tab-long}
 use Rattle.halves.proofs.Joining.{joined}
-
--- what a tabulated list holds
-pub tab-holds : (n : ℕ) (l : List ℤ) (f : ℕ → ℤ) → l ≡ tabulate n f → (j : ℕ) → j < n → at l j ≡ f j
-tab-holds n l f e j h = ap (λ (a : List ℤ). at a j) e ∙ tab-at n f j h
-
-pub tab-long : (n : ℕ) (l : List ℤ) (f : ℕ → ℤ) → l ≡ tabulate n f → length l ≡ n
-tab-long n l f e = ap length e ∙ tab-length n f
-
--- ---- a product by pairs over h inputs f that were dealt to a
-module _ {W : ℕ → ℕ → ℤ} {h : ℕ} {t : List ℤ} (p : Half W h t) (light : (i j : ℕ) → natAbs (W i j) ≤ 90) (pairs : ℕ) (two : 2 * pairs ≡ h)
-    (a : List ℤ) (f : ℕ → ℤ) (dealt : a ≡ tabulate h f) (low : (i : ℕ) → natAbs (f i) ≤ 32768) (m : ℕ) (few : m ≤ h) where
-  pub pairs-given : Line m pairs a 0 t (2 * h)
-  pairs-given =
-      line-given (zipped-half pairs two p) a 0 few (omega (arith, p .few)) (omega (arith, tab-long h a f dealt)) light
-      (λ i l. subst (λ (z : ℤ). natAbs z ≤ 32768) (sym (ap (at a) (zero-add i) ∙ tab-holds h a f dealt i (omega arith))) (low i))
-
-  pub pairs-hold : (o : List ℤ) → o ≡ tabulate m (λ j. rounded (pos 0) 0 (lineSum a 0 t (2 * h) pairs j)) → (j : ℕ) → j < m → at o j ≡ sum h (λ i. W i j *ℤ f i)
-  pairs-hold o e j l =
-      tab-holds m o _ e j l ∙ exact (lineSum a 0 t (2 * h) pairs j) ∙ line-is (zipped-half pairs two p) a 0 j (omega arith)
-      ∙ ap (λ (k : ℕ). sum k (λ i. W i j *ℤ at a (0 + i))) two
-      ∙ sum-cong h (λ i. W i j *ℤ at a (0 + i)) (λ i. W i j *ℤ f i) (λ i k. ap (λ (z : ℤ). W i j *ℤ z) (ap (at a) (zero-add i) ∙ tab-holds h a f dealt i k))
 
 -- ---- sizes: no sum of 16 products is near the end of 32 bits
 small-sum : (h : ℕ) (w f : ℕ → ℤ) → h ≤ 16 → ((i : ℕ) → natAbs (w i) ≤ 90) → ((i : ℕ) → natAbs (f i) ≤ 32768) → natAbs (sum h (λ i. w i *ℤ f i)) ≤ 1000000000

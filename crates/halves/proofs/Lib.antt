@@ -4,3 +4,4 @@ pub mod Tables
 pub mod Stored
 pub mod Joining
 pub mod InverseStep
+pub mod ForwardStep

@@ -7,15 +7,6 @@ use Rattle.halves.specs.Halves.{odd}
 use Rattle.halves.specs.Lines.{Half}
 use Rattle.halves.proofs.Tables.{half-by}
 
-abbrev even4 : List ℤ
-even4 =
-    pos 64 ∷ pos 83 ∷ pos 64 ∷ pos 36 ∷ pos 64 ∷ negsuc 35 ∷ pos 64 ∷ negsuc 82 ∷
-    pos 64 ∷ pos 36 ∷ negsuc 63 ∷ negsuc 82 ∷ negsuc 63 ∷ pos 83 ∷ pos 64 ∷ negsuc 35 ∷ []
-
-pub table-even4 : Half (weight 0 4) 4 even4
-unfolding cosines turn D weight
-table-even4 = half-by (weight 0 4) 4 2 even4 tt tt tt refl
-
 abbrev odd8 : List ℤ
 odd8 =
     pos 89 ∷ pos 75 ∷ pos 75 ∷ negsuc 17 ∷ pos 50 ∷ negsuc 88 ∷ pos 18 ∷ negsuc 49 ∷
@@ -23,7 +14,7 @@ odd8 =
 
 pub table-odd8 : Half (odd 8) 4 odd8
 unfolding cosines turn D weight
-table-odd8 = half-by (odd 8) 4 2 odd8 tt tt tt refl
+table-odd8 = half-by (odd 8) 4 2 odd8 refl tt tt refl
 
 abbrev odd16 : List ℤ
 odd16 =
@@ -34,7 +25,7 @@ odd16 =
 
 pub table-odd16 : Half (odd 16) 8 odd16
 unfolding cosines turn D weight
-table-odd16 = half-by (odd 16) 8 4 odd16 tt tt tt refl
+table-odd16 = half-by (odd 16) 8 4 odd16 refl tt tt refl
 
 abbrev odd32 : List ℤ
 odd32 =
@@ -49,4 +40,4 @@ odd32 =
 
 pub table-odd32 : Half (odd 32) 16 odd32
 unfolding cosines turn D weight
-table-odd32 = half-by (odd 32) 16 8 odd32 tt tt tt refl
+table-odd32 = half-by (odd 32) 16 8 odd32 refl tt tt refl

@@ -2,25 +2,24 @@
 use mathlib.Core.Path.{_≡_}
 use mathlib.Core.Bool.{true}
 use mathlib.Core.List.{List}
-use Prim.Native.Nat.{ℕ, _+_, _*_, _-_, _/_, _%_, _≤_, _<_}
+use Prim.Native.Nat.{ℕ, _+_, _*_, _-_, _≤_, _<_}
 use lib.ListN.{length}
 use lib.IntN.{ℤ, natAbs, _+ℤ_, _-ℤ_}
 use Rattle.algebra.specs.Lists.{at}
 use Rattle.meaning.specs.Shape.{isSize}
 use Rattle.meaning.specs.Taken.{NoneAbove}
-use Rattle.pairs.specs.Pairs.{zipped}
+use Rattle.product.specs.Product.{spot}
 
 -- t has h rows of h weights W, two rows zipped
 pub record Half (W : ℕ → ℕ → ℤ) (h : ℕ) (t : List ℤ) : Type 0 where
   pub few : h ≤ 16
-  pub held : (i j : ℕ) → i < h → j < h → i / 2 * (2 * h) + 2 * j + i % 2 < length t
-  pub right : (i j : ℕ) → i < h → j < h → zipped t (2 * h) i j ≡ W i j
+  pub held : (i j : ℕ) → i < h → j < h → 2 * j + spot (2 * h) i < length t
+  pub right : (i j : ℕ) → i < h → j < h → at t (2 * j + spot (2 * h) i) ≡ W i j
 
--- .. none of them above 90
-pub record Light (h : ℕ) (t : List ℤ) : Type 0 where
-  pub few : h ≤ 16
-  pub held : (i j : ℕ) → i < h → j < h → i / 2 * (2 * h) + 2 * j + i % 2 < length t
-  pub light : (i j : ℕ) → i < h → j < h → natAbs (zipped t (2 * h) i j) ≤ 90
+-- a row of h weights from o on, none above 90
+pub record Row (h o : ℕ) (t : List ℤ) : Type 0 where
+  pub held : (j : ℕ) → j < h → 2 * j + o < length t
+  pub light : (j : ℕ) → j < h → natAbs (at t (2 * j + o)) ≤ 90
 
 -- a line of n points, 16 bits in and 32 bits out
 pub record Whole (n : ℕ) (x y : List ℤ) : Type 0 where

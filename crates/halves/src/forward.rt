@@ -3,10 +3,10 @@
 use crate::arith::minus;
 use crate::arith::plus;
 use crate::arith::times;
-use crate::table::even_4;
 use crate::table::odd_8;
 use crate::table::odd_16;
 use crate::table::odd_32;
+use tables::zipped::zipped_4;
 ghost use mathlib.Core.Path.{_≡_};
 ghost use Prim.Native.Nat.{ℕ, _+_, _*_, _≤_, _<_};
 ghost use lib.IntN.{_*ℤ_};
@@ -15,9 +15,8 @@ ghost use Rattle.algebra.specs.Sum.{sum};
 ghost use Rattle.algebra.specs.Lists.{at, tabulate};
 ghost use Rattle.meaning.specs.Line.{forwardSum, forwardLine};
 ghost use Rattle.meaning.specs.Taken.{NoneAbove};
-ghost use Rattle.pairs.specs.Pairs.{zipped};
 ghost use Rattle.halves.specs.Halves.{Halves, odd, sums, differences};
-ghost use Rattle.halves.specs.Lines.{Whole, Half, Light, Small};
+ghost use Rattle.halves.specs.Lines.{Whole, Half, Row, Small};
 
 // The inputs in 32 bits; each was one of 16.
 fn widen(x: &[i16], a: &mut [i32])
@@ -31,16 +30,15 @@ fn widen(x: &[i16], a: &mut [i32])
     }
 }
 
-// Row i of h weights over v.
-fn row(t: &[i16], h: usize, v: &[i32], i: usize) -> i32
-    requires { ⌜ (i < h) × (Light h (now t) × Small h (now v)) ⌝ }
-    ensures { λ r. ⌜ r ≡ sum h (λ j. zipped (now (t .entry)) (2 * h) i j *ℤ at (now (v .entry)) j) ⌝ }
+// The row of h weights from o on, over v.
+fn row(t: &[i16], o: usize, h: usize, v: &[i32]) -> i32
+    requires { ⌜ Row h o (now t) × Small h (now v) ⌝ }
+    ensures { λ r. ⌜ r ≡ sum h (λ j. at (now (t .entry)) (2 * j + o) *ℤ at (now (v .entry)) j) ⌝ }
 {
-    let o = i / 2 * (2 * h) + i % 2;
     let mut total: i32 = 0;
     let mut j = 0;
     while j < h {
-        total = times(total, t[o + 2 * j], v[j]);
+        total = times(total, t[2 * j + o], v[j]);
         j += 1;
     }
     total
@@ -67,7 +65,7 @@ fn weave(t: &[i16], h: usize, x: &[i32], e: &[i32], d: &[i32], out: &mut [i32])
     let mut i = 0;
     while i < h {
         out[2 * i] = e[i];
-        out[2 * i + 1] = row(t, h, d, i);
+        out[2 * i + 1] = row(t, i / 2 * (2 * h) + i % 2, h, d);
         i += 1;
     }
 }
@@ -76,10 +74,10 @@ fn forward_4(x: &[i32], out: &mut [i32])
     requires { ⌜ Small 4 (now x) × (length (now out) ≡ 4) ⌝ }
     ensures { λ _. ⌜ now (out .exit) ≡ tabulate 4 (forwardSum 0 4 (at (now (x .entry)))) ⌝ }
 {
-    let t = even_4();
+    let t = zipped_4(0, false);
     let mut i = 0;
     while i < 4 {
-        out[i] = row(&t, 4, x, i);
+        out[i] = row(&t, i / 2 * 8 + i % 2, 4, x);
         i += 1;
     }
 }

@@ -3,11 +3,11 @@
 // numbers of x `apart` places apart, dealt out side by side for each product.
 use crate::arith::minus;
 use crate::arith::plus;
-use crate::table::even_4;
 use crate::table::odd_8;
 use crate::table::odd_16;
 use crate::table::odd_32;
-use pairs::line;
+use product::line;
+use tables::zipped::zipped_4;
 ghost use mathlib.Core.Path.{_≡_};
 ghost use Prim.Native.Nat.{ℕ, _+_, _*_, _≤_, _<_};
 ghost use lib.ListN.{length};
@@ -58,8 +58,8 @@ fn inverse_4(x: &[i16], apart: usize, out: &mut [i32])
 {
     let mut a = [0i16; 4];
     deal(x, 0, apart, &mut a);
-    let t = even_4();
-    line(2, 8, &a, 0, &t, 0, 0, out);
+    let t = zipped_4(0, false);
+    line(2, 8, &a, 0, 2, &t, 0, 0, out);
 }
 
 fn inverse_8(x: &[i16], apart: usize, out: &mut [i32])
@@ -72,7 +72,7 @@ fn inverse_8(x: &[i16], apart: usize, out: &mut [i32])
     deal(x, apart, 2 * apart, &mut a);
     let t = odd_8();
     let mut o = [0i32; 4];
-    line(2, 8, &a, 0, &t, 0, 0, &mut o);
+    line(2, 8, &a, 0, 2, &t, 0, 0, &mut o);
     butterfly(&e, &o, 4, out);
 }
 
@@ -86,7 +86,7 @@ fn inverse_16(x: &[i16], apart: usize, out: &mut [i32])
     deal(x, apart, 2 * apart, &mut a);
     let t = odd_16();
     let mut o = [0i32; 8];
-    line(4, 16, &a, 0, &t, 0, 0, &mut o);
+    line(4, 16, &a, 0, 2, &t, 0, 0, &mut o);
     butterfly(&e, &o, 8, out);
 }
 
@@ -100,7 +100,7 @@ fn inverse_32(x: &[i16], apart: usize, o: &mut [i32], out: &mut [i32])
     let mut a = [0i16; 16];
     deal(x, apart, 2 * apart, &mut a);
     let t = odd_32();
-    line(8, 32, &a, 0, &t, 0, 0, o);
+    line(8, 32, &a, 0, 2, &t, 0, 0, o);
     butterfly(&e, o, 16, out);
 }
 

@@ -1,34 +1,7 @@
-// Weights of kind 0 as the halves use them: the rows of 4 points, and the first half of the odd rows of 8, 16 and 32; two rows
-// zipped, as the product by pairs reads them. Their rule is one computed test each (proofs/Stored).
-ghost use Rattle.meaning.specs.Weights.{weight};
+// The odd halves of kind 0: the first half of the odd rows of 8, 16 and 32 points, two rows zipped, as the product by pairs reads
+// them. Their rule is one computed test each (proofs/Stored).
 ghost use Rattle.halves.specs.Halves.{odd};
 ghost use Rattle.halves.specs.Lines.{Half};
-
-// The rows of 4 points.
-const EVEN_4: [i16; 16] = [
-    64,
-    83,
-    64,
-    36,
-    64,
-    -36,
-    64,
-    -83,
-    64,
-    36,
-    -64,
-    -83,
-    -64,
-    83,
-    64,
-    -36,
-];
-
-pub fn even_4() -> [i16; 16]
-    ensures { λ r. ⌜ Half (weight 0 4) 4 r ⌝ }
-{
-    EVEN_4
-}
 
 // The odd rows of 8 points, their first half.
 const ODD_8: [i16; 16] = [

@@ -1,4 +1,4 @@
--- The weights of each kind: those of kind 1 and 2 by their DST-VII weight, those of kind 0 by their rule. Assumes nothing.
+-- The weights of each kind, and those of kind 2 by their DST-VII weight. Assumes nothing.
 use mathlib.Core.Path.{_≡_, refl, _∙_}
 use mathlib.Core.Bool.{true}
 use Prim.Native.Nat.{ℕ, _-_, _%_, _≤_}
@@ -20,6 +20,14 @@ module _ (kind : ℕ) where
   unfolding weight
   dst e n i j = rw e
 
+  pub dct8 : kind ≡ 2 → (n i j : ℕ) → weight kind n i j ≡ C n i j
+  unfolding weight
+  dct8 e n i j = rw e
+
+  pub dct2 : kind ≡ 0 → (n i j : ℕ) → weight kind n i j ≡ D n i j
+  unfolding weight
+  dct2 e n i j = rw e
+
   pub dct : kind ≡ 2 → (n i j : ℕ) → weight kind n i j ≡ signed (eqb (i % 2) 1) (S n i (n - 1 - j))
   unfolding weight C
   dct e n i j = rw e
@@ -29,10 +37,6 @@ module _ (kind : ℕ) where
 
   pub dct-even : kind ≡ 2 → (n i j : ℕ) → (i % 2 ≡ 1 → ⊥) → weight kind n i j ≡ S n i (n - 1 - j)
   dct-even e n i j o = dct e n i j ∙ rw (ne-eqb (i % 2) 1 o)
-
-  pub cosine : kind ≡ 0 → (n i j : ℕ) → weight kind n i j ≡ D n i j
-  unfolding weight
-  cosine e n i j = rw e
 
 pub abs-S : (n i j : ℕ) → natAbs (S n i j) ≤ 1000000000
 abs-S n i j = omega (arith, S-size n i j)

@@ -1,59 +1,88 @@
+-- `forward::widen` meets its contract: the inputs before i are written, and each was one of 16 bits. Assumes nothing.
 use borrow.Author.Needs.{needs}
 use native.Mathlib.Omega.{arith}
+use mathlib.Core.Path.{_≡_, refl, sym, _∙_, subst}
+use Prim.Native.Nat.{ℕ, _-_, _≤_, _<_}
+use lib.ListN.{length}
+use lib.IntN.{ℤ, natAbs}
+use borrow.Author.Count.{below-more}
+use mir.Syntax.{w16, w32}
+use mir.Val.{toZ, ofZ}
+use mir.ValLaws.{toZ-ofZ}
+use Rattle.algebra.specs.Lists.{at}
+use Rattle.algebra.proofs.Order.{in-fits}
+use Rattle.algebra.proofs.Word.{small}
+use Rattle.algebra.proofs.Lists.{Filled, fill-none, fill-first, filled}
+use Rattle.meaning.proofs.Small.{within-places}
 use Rattle.halves.proofs.forward.widen.Statement.{statement}
 use Rattle.halves.proofs.forward.widen.Tie as tie
-use Rattle.halves.proofs.forward.widen.Reads as reads
-use Rattle.halves.proofs.forward.widen.Lts as lts
 
 abbrev Inv-loop : tie.InvT-loop
-Inv-loop x a₀ i₀ a i = ?
+Inv-loop x a₀ i₀ a i = (i ≤ length a₀) × (Filled 0 i a a₀ (at x) × ((k : ℕ) → k < i → natAbs (at x k) ≤ 32768))
 
 abbrev μ-loop : tie.MeasureT-loop
-μ-loop x a₀ i₀ a i = ?
+μ-loop x a₀ i₀ a i = length a₀ - i
 
--- src/forward.rt:28:5
 loop-holds : tie.Need-loop-holds Inv-loop μ-loop
-loop-holds c = search needs
+loop-holds c = (omega arith, (fill-none 0 _ _, λ k h. absurd (omega arith)))
 
--- src/forward.rt:29:16
+module _ (c : tie.In-loop Inv-loop μ-loop) where
+  room : c .before .loop .i < length (c .before .before .args .a .now)
+  room = omega (arith, c .loop-test .taken, c .before .loop .inv .1 .0 .long)
+
+  here : c .before .loop .i < length (c .before .before .args .x .now)
+  here = omega (arith, room, c .before .before .pre)
+
 mul-a : tie.Need-mul-a Inv-loop μ-loop
-mul-a c = search needs
+mul-a c = omega (arith, here c)
 
--- src/forward.rt:29:16
 shared-slice-copy-out-a : tie.Need-shared-slice-copy-out-a Inv-loop μ-loop
-shared-slice-copy-out-a c = search needs
+shared-slice-copy-out-a c = here c
 
--- src/forward.rt:29:16
+-- the input as it is read
+module _ (c : tie.After-a Inv-loop μ-loop) where
+  abbrev I : tie.In-loop Inv-loop μ-loop
+  I = c .before
+
+  abbrev z : ℤ
+  z = at (I .before .before .args .x .now) (I .before .loop .i)
+
+  low : natAbs z ≤ 32768
+  low = in-fits {w = w16} {z = z} (record { sfits = c .a .given }) .within
+
+  reads : toZ w16 (ofZ w16 z) ≡ z
+  reads = toZ-ofZ w16 z (record { sfits = c .a .given })
+
 cast-a : tie.Need-cast-a Inv-loop μ-loop
 cast-a c = search needs
 
--- src/forward.rt:29:9
 mul-t9 : tie.Need-mul-t9 Inv-loop μ-loop
 mul-t9 c = search needs
 
--- src/forward.rt:29:9
 slice-set-from-a : tie.Need-slice-set-from-a Inv-loop μ-loop
 slice-set-from-a c = search needs
 
--- src/forward.rt:30:9
 add-i : tie.Need-add-i Inv-loop μ-loop
 add-i c = search needs
 
--- src/forward.rt:28:5
 loop-less : tie.Need-loop-less Inv-loop μ-loop
 loop-less c = search needs
 
--- src/forward.rt:28:5
 loop-again : tie.Need-loop-again Inv-loop μ-loop
 loop-again c = search needs
 
--- src/forward.rt:23:1
 same-length : tie.Need-same-length Inv-loop μ-loop
-same-length c = search needs
+same-length c = c .before .loop .inv .1 .0 .long
 
--- src/forward.rt:23:1
 returns : tie.Need-returns Inv-loop μ-loop
-returns c = search needs
+returns c =
+    let L = c .before in
+    let s = L .before .args in
+    let q : L .loop .i ≡ length (s .a .now) = omega (arith, c .loop-test .left, L .loop .inv .0, L .loop .inv .1 .0 .long) in
+    (
+      filled refl (subst (λ (m : ℕ). Filled 0 m (L .loop .a) (s .a .now) (at (s .x .now))) q (L .loop .inv .1 .0)),
+      within-places 32768 (s .x .now) (λ k h. L .loop .inv .1 .1 k (omega (arith, L .before .pre))),
+    )
 
 pub widen-spec : {M : Type 1} → statement M
 widen-spec =

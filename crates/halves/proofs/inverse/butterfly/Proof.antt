@@ -63,11 +63,10 @@ module _ (c : tie.In-loop Inv-loop μ-loop) where
   reads-odd = toZ-ofZ w32 o (small {B = 1000000000} (omega arith) odd-size)
 
   added : (natAbs (toZ w32 (ofZ w32 e)) ≤ 1000000000) × (natAbs (toZ w32 (ofZ w32 o)) ≤ 1000000000)
-  added =
-      (
-        subst (λ (z : ℤ). natAbs z ≤ 1000000000) (sym reads-even) even-size,
-        subst (λ (z : ℤ). natAbs z ≤ 1000000000) (sym reads-odd) odd-size,
-      )
+  added = (
+    subst (λ (z : ℤ). natAbs z ≤ 1000000000) (sym reads-even) even-size,
+    subst (λ (z : ℤ). natAbs z ≤ 1000000000) (sym reads-odd) odd-size,
+  )
 
 loop-holds : tie.Need-loop-holds Inv-loop μ-loop
 loop-holds c = (omega arith, join-none (c .pre .1))
