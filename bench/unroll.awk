@@ -1,4 +1,5 @@
-# Writes the lines of the partial butterfly as C, every product written out: functions {inverse,forward}_N_KIND.
+# Writes the lines of the partial butterfly as C, every product written out: functions {inverse,forward}_N_KIND, of the rows in
+# bench/first_rows.
 #
 # L = 2N+1 is p * q, and the rows of weights come in three classes (source documents 000 and 004, features 1 to 3): those
 # where p divides 2i+1, those where q does, and the others. A place n of a row in class c is a signed sum of the row's
@@ -127,21 +128,15 @@ function product(i, c, g,    w, r) {
     }
 }
 
-function take(n, numbers,    s, k) {
-    split(numbers, s, " ")
-    for (k = 1; k <= n; k++) first[n, k] = s[k]
-}
-
 function both(n, a, b) {
     N = n; p = a; q = b; L = 2 * n + 1
     for (kind = 1; kind <= 2; kind++) { inverse(); forward() }
 }
 
-BEGIN {
-    take(4, "29 55 74 84")
-    take(8, "17 32 46 60 71 78 85 86")
-    take(16, "8 17 25 33 40 48 55 62 68 73 77 81 85 87 88 88")
-    take(32, "4 9 13 17 21 26 30 34 38 42 45 50 53 56 60 63 66 68 72 74 77 78 80 82 84 85 86 88 88 89 90 90")
+# a line of bench/first_rows: N and s1 to sN
+{ for (k = 1; k <= $1; k++) first[$1, k] = $(k + 1) }
+
+END {
     both(4, 3, 3)
     both(8, 1, 17)
     both(16, 3, 11)

@@ -3,11 +3,8 @@
 
 #include <stdlib.h>
 
-static const int first_4[] = {29, 55, 74, 84};
-static const int first_8[] = {17, 32, 46, 60, 71, 78, 85, 86};
-static const int first_16[] = {8, 17, 25, 33, 40, 48, 55, 62, 68, 73, 77, 81, 85, 87, 88, 88};
-static const int first_32[] = {4,  9,  13, 17, 21, 26, 30, 34, 38, 42, 45, 50, 53, 56, 60, 63,
-                               66, 68, 72, 74, 77, 78, 80, 82, 84, 85, 86, 88, 88, 89, 90, 90};
+/* first_4, first_8, first_16 and first_32, made of bench/first_rows */
+#include "first_rows.h"
 
 static const int *first_row(int n) { return n == 4 ? first_4 : n == 8 ? first_8 : n == 16 ? first_16 : first_32; }
 

@@ -37,7 +37,7 @@ typedef struct {
 typedef struct {
     uint32_t number; /* 0, or the number of the refusal */
     uint32_t place;  /* of the number that 8 or 9 refuses: column + row * width */
-    uint32_t rails;  /* inverse block: values between the stages that stand at an end of their 16-bit range */
+    uint32_t rails;  /* inverse block: values between the stages that the clip to 16 bits altered */
 } hoengtila_answer;
 
 /* The weight of row i in column j at n points; 0 outside. */

@@ -1,6 +1,7 @@
 //! An independent model of document 01 (the scope), and what compares other things with it.
 //!
-//! `model` is written from the text of document 01 alone, on 64-bit integers, with no eye to speed.
+//! `model` is written from the text of document 01 alone, but for two weights that are H.266's, on 64-bit integers, with no
+//! eye to speed.
 //! `random` makes the cases, the same ones for the same seed; `patterns`, `folding` and `wrong` know which are hard.
 //! `library` is the library for Rust callers, `peer` the library behind a pipe; `call` and `subject` let a test run the
 //! same calls on either, and `compare` holds what comes back to the model.

@@ -10,7 +10,7 @@ pub mod line;
 pub mod small;
 pub mod weights;
 
-pub use block::{forward, inverse};
+pub use block::{fair_ends, forward, inverse};
 pub use call::{Answer, Shape};
 pub use file::{run_file, Cursor, Step};
 pub use line::{forward_line, inverse_line};

@@ -43,9 +43,9 @@ pub rails-none : (e : ℕ → ℤ) → railsOf 0 e ≡ 0
 unfolding railsOf sumℕ
 rails-none e = refl
 
-pub rails-next : (y : ℕ) (e : ℕ → ℤ) → railsOf (y + 1) e ≡ railsOf y e + count (railed shortRange (rounded (e y)) (middle shortRange (e y)))
+pub rails-next : (y : ℕ) (e : ℕ → ℤ) → railsOf (y + 1) e ≡ railsOf y e + count (railed (rounded (e y)) (middle shortRange (e y)))
 unfolding railsOf
-rails-next y e = sumℕ-next y (λ y. count (railed shortRange (rounded (e y)) (middle shortRange (e y))))
+rails-next y e = sumℕ-next y (λ y. count (railed (rounded (e y)) (middle shortRange (e y))))
 
 pub count-in : (b : Bool) → count b ≤ 1
 count-in true = omega arith
@@ -54,8 +54,8 @@ count-in false = omega arith
 pub rails-in : (h : ℕ) (e : ℕ → ℤ) → railsOf h e ≤ h
 unfolding railsOf
 rails-in h e =
-    let f : ℕ → ℕ = λ y. count (railed shortRange (rounded (e y)) (middle shortRange (e y))) in
-    omega (arith, sumℕ-mono h f (λ y. 1) (λ y _. count-in (railed shortRange (rounded (e y)) (middle shortRange (e y)))), sumℕ-const h 1)
+    let f : ℕ → ℕ = λ y. count (railed (rounded (e y)) (middle shortRange (e y))) in
+    omega (arith, sumℕ-mono h f (λ y. 1) (λ y _. count-in (railed (rounded (e y)) (middle shortRange (e y)))), sumℕ-const h 1)
 
 module _ (sh : Shape) (c : List ℤ) where
   -- ---- output y of every kept column
@@ -97,10 +97,10 @@ module _ (sh : Shape) (c : List ℤ) where
   pub rails-all : railsOf (length sums) (at sums) ≡ rails (planOf sh) c
   unfolding rails railsOf
   rails-all =
-      block-count (keptColumns sh) (sh .height) (columnSum (planOf sh) c) (λ z. count (railed shortRange (rounded z) (middle shortRange z)))
-      ∙ sumℕ-swap (sh .height) (keptColumns sh) (λ y x. count (railed shortRange (rounded (columnSum (planOf sh) c x y)) (middle shortRange (columnSum (planOf sh) c x y))))
+      block-count (keptColumns sh) (sh .height) (columnSum (planOf sh) c) (λ z. count (railed (rounded z) (middle shortRange z)))
+      ∙ sumℕ-swap (sh .height) (keptColumns sh) (λ y x. count (railed (rounded (columnSum (planOf sh) c x y)) (middle shortRange (columnSum (planOf sh) c x y))))
       ∙ sumℕ-cong (keptColumns sh) _ _
-      (λ x h. sumℕ-cong (sh .height) _ _ (λ y _. ap (λ (z : ℤ). count (railed shortRange (rounded (columnSum (planOf sh) c x y)) z)) (middle-kept x y h)))
+      (λ x h. sumℕ-cong (sh .height) _ _ (λ y _. ap (λ (z : ℤ). count (railed (rounded (columnSum (planOf sh) c x y)) z)) (middle-kept x y h)))
 
   -- ---- what stands between the stages
   pub middles-made : tabulate (length sums) (λ k. middle shortRange (at sums k)) ≡ keptMiddles sh c

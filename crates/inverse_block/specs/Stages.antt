@@ -23,7 +23,7 @@ outsideAt columns rows x y z = not (eqb (natAbs z) 0) && not (ltb x columns && l
 
 -- how many of h middle values stand at an end of the range, by the sums that they are made of
 unfoldable pub railsOf : ℕ → (ℕ → ℤ) → ℕ
-railsOf h e = sumℕ h (λ y. count (railed shortRange (rounded (e y)) (middle shortRange (e y))))
+railsOf h e = sumℕ h (λ y. count (railed (rounded (e y)) (middle shortRange (e y))))
 
 -- sums, and room for their middle values
 pub record Sums (e m : List ℤ) : Type 0 where

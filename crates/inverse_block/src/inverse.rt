@@ -98,20 +98,14 @@ fn clip16(v: i32) -> i16
     v as i16
 }
 
-// 1 for a middle value that counts, by what it was before the clip and after it.
+// 1 for a middle value that the clip altered.
 fn rail(before: i32, after: i16) -> u32
-    ensures { λ r. ⌜ r ≡ count (railed shortRange before after) ⌝ }
+    ensures { λ r. ⌜ r ≡ count (railed before after) ⌝ }
 {
-    if after == -32768 {
-        return 1;
-    }
-    if after == 32767 {
-        return 1;
-    }
-    0
+    if after as i32 == before { 0 } else { 1 }
 }
 
-// Middle values, from their sums; hands back how many stand at an end.
+// Middle values, from their sums; hands back how many the clip altered.
 fn settle(e: &[i32], m: &mut [i16]) -> u32
     requires { ⌜ Sums (now e) (now m) ⌝ }
     ensures { λ r. ⌜ (now (m .exit) ≡ tabulate (length (now (e .entry))) (λ x. middle shortRange (at (now (e .entry)) x))) × (r ≡ railsOf (length (now (e .entry))) (at (now (e .entry)))) ⌝ }

@@ -7,7 +7,8 @@
 -- and over an accepted call, in the words of the scope, s being 20 − d:
 --   demand3:             of an accepted call with rail count 0, for every residual of the block that it hands back:
 --                        |2^(27−d) · residual − exact| ≤ 64 · (A + 2^(20−d))
---   demand3-inner:       the same of an accepted call in which no middle value stands at either end of the range
+--   demand3-unaltered:   the same of an accepted call in which the clip altered nothing
+--   demand3-inner:       the same of one in which no middle value stands at either end of the range
 --   demand3-call:        the same of the rail count and the output in the outcome of the call itself
 --   less-than-one-level: at d = 10 and w ≤ 16 that difference is below 2^17
 use mathlib.Core.Path.{_≡_, sym, ap, _∙_, subst}
@@ -50,7 +51,7 @@ module _ (p : Plan) (c : List ℤ) (s : 1 ≤ p .last) (x y : ℕ) where
 
   pub near-block : rails p c ≡ 0 → x < p .width → y < p .height
       → natAbs (pos (2 ^ (7 + p .last)) *ℤ at (inverseBlock p c) (x + y * p .width) -ℤ exact p c x y) ≤ 64 * (weightSizes p x + 2 ^ p .last)
-  near-block none hx hy = rw (element hx hy) (near-unaltered (inner-unaltered p c (no-rails p c none)) hy)
+  near-block none hx hy = rw (element hx hy) (near-unaltered (no-rails p c none) hy)
 
 -- of an accepted call: column x of row y
 module _ (sh : Shape) (c out : List ℤ) (number : inverseOutcome sh c out .0 .number ≡ 0) (x y : ℕ) (hx : x < sh .width) (hy : y < sh .height) where
@@ -60,9 +61,13 @@ module _ (sh : Shape) (c out : List ℤ) (number : inverseOutcome sh c out .0 .n
   shifts : (1 ≤ 20 - sh .depth) × (7 + (20 - sh .depth) ≡ 27 - sh .depth)
   shifts = let d = depth-cases (sh .depth) (taken .depth) in (omega arith, omega arith)
 
+  pub demand3-unaltered : Unaltered (planOf sh) c
+      → natAbs (pos (2 ^ (27 - sh .depth)) *ℤ residual (planOf sh) c x y -ℤ exact (planOf sh) c x y) ≤ 64 * (weightSizes (planOf sh) x + 2 ^ (20 - sh .depth))
+  demand3-unaltered u = rw (shifts .1) at (near-unaltered (planOf sh) c (shifts .0) x y u hy)
+
   pub demand3-inner : Inner (planOf sh) c
       → natAbs (pos (2 ^ (27 - sh .depth)) *ℤ residual (planOf sh) c x y -ℤ exact (planOf sh) c x y) ≤ 64 * (weightSizes (planOf sh) x + 2 ^ (20 - sh .depth))
-  demand3-inner inner = rw (shifts .1) at (near-unaltered (planOf sh) c (shifts .0) x y (inner-unaltered (planOf sh) c inner) hy)
+  demand3-inner inner = demand3-unaltered (inner-unaltered (planOf sh) c inner)
 
   pub demand3 : rails (planOf sh) c ≡ 0
       → natAbs (pos (2 ^ (27 - sh .depth)) *ℤ at (inverseBlock (planOf sh) c) (x + y * sh .width) -ℤ exact (planOf sh) c x y) ≤ 64 * (weightSizes (planOf sh) x + 2 ^ (20 - sh .depth))

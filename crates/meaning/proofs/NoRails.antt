@@ -1,10 +1,10 @@
--- A rail count of 0 says that no middle value of the kept columns, over all h rows, stands at either end of the range: over
+-- A rail count of 0 says that the clip altered no middle value of the kept columns, over all h rows, in both directions: over
 -- any plan. Assumes nothing.
---   no-rails:        rails p c ≡ 0 gives Inner p c
---   rails-no:        Inner p c gives rails p c ≡ 0
---   inner-unaltered: Inner p c gives Unaltered p c
+--   no-rails:        rails p c ≡ 0 gives Unaltered p c
+--   rails-no:        Unaltered p c gives rails p c ≡ 0
+--   inner-unaltered: Inner p c, no middle value at either end of the range, gives Unaltered p c
 use mathlib.Core.Path.{_≡_, refl, _∙_}
-use mathlib.Core.Bool.{Bool, true, false}
+use mathlib.Core.Bool.{Bool, true, false, not}
 use mathlib.Core.List.{List}
 use Prim.Native.Nat.{ℕ, _<_}
 use native.Mathlib.Omega.{arith}
@@ -13,9 +13,8 @@ use lib.Dec.{T}
 use lib.IntN.{ℤ}
 use Rattle.algebra.specs.Sum.{sumℕ}
 use Rattle.algebra.specs.Equal.{eqZ}
-use Rattle.algebra.specs.Clip.{Range}
 use Rattle.algebra.proofs.Sum.{sum-zero, zero-sum}
-use Rattle.algebra.proofs.Table.{eqZ→eq, eq→eqZ, or-left, or-right, or-none}
+use Rattle.algebra.proofs.Table.{eqZ→eq, eq→eqZ}
 use Rattle.algebra.proofs.Clip.{clip-inner}
 use Rattle.meaning.specs.Plan.{Plan}
 use Rattle.meaning.specs.Inverse.{columnSum, rounded, middle, middleAt, railed, count, rails}
@@ -30,40 +29,33 @@ abbrev pub Unaltered : Plan → List ℤ → Type 0
 Unaltered p c = (x y : ℕ) → x < p .columns → y < p .height → middleAt p c x y ≡ rounded (columnSum p c x y)
 
 -- ---- what counts
-count-zero : (b : Bool) → count b ≡ 0 → T b → ⊥
-count-zero true e t = omega arith
-count-zero false e t = t
+same : (t : Bool) → count (not t) ≡ 0 → T t
+same true e = tt
+same false e = absurd (omega arith)
 
-zero-count : (b : Bool) → (T b → ⊥) → count b ≡ 0
-zero-count true n = absurd (n tt)
-zero-count false n = refl
-
-not-railed : (r : Range) (before after : ℤ) → (T (railed r before after) → ⊥) → (after ≡ r .low → ⊥) × (after ≡ r .high → ⊥)
-not-railed r b a n =
-    let l = eqZ a (r .low) in
-    let h = eqZ a (r .high) in
-    (λ e. n (or-left l h (eq→eqZ a (r .low) e)), λ e. n (or-right l h (eq→eqZ a (r .high) e)))
-
-railed-not : (r : Range) (before after : ℤ) → (after ≡ r .low → ⊥) × (after ≡ r .high → ⊥) → T (railed r before after) → ⊥
-railed-not r b a n = or-none (eqZ a (r .low)) (eqZ a (r .high)) (λ t. n .0 (eqZ→eq a (r .low) t)) (λ t. n .1 (eqZ→eq a (r .high) t))
+none-counts : (t : Bool) → T t → count (not t) ≡ 0
+none-counts true t = refl
+none-counts false t = absurd t
 
 module _ (p : Plan) (c : List ℤ) where
   abbrev counts : ℕ → ℕ → Bool
-  counts x y = railed (p .range) (rounded (columnSum p c x y)) (middleAt p c x y)
+  counts x y = railed (rounded (columnSum p c x y)) (middleAt p c x y)
 
-  pub no-rails : rails p c ≡ 0 → Inner p c
+  pub no-rails : rails p c ≡ 0 → Unaltered p c
   unfolding rails
   no-rails e x y hx hy =
+      let before = rounded (columnSum p c x y) in
+      let after = middleAt p c x y in
       let column = sum-zero (p .columns) (λ x. sumℕ (p .height) (λ y. count (counts x y))) e x hx in
       let one = sum-zero (p .height) (λ y. count (counts x y)) column y hy in
-      not-railed (p .range) (rounded (columnSum p c x y)) (middleAt p c x y) (count-zero (counts x y) one)
+      eqZ→eq after before (same (eqZ after before) one)
 
-  pub rails-no : Inner p c → rails p c ≡ 0
+  pub rails-no : Unaltered p c → rails p c ≡ 0
   unfolding rails
-  rails-no n =
+  rails-no u =
       zero-sum (p .columns) (λ x. sumℕ (p .height) (λ y. count (counts x y)))
       (λ x hx. zero-sum (p .height) (λ y. count (counts x y))
-      (λ y hy. zero-count (counts x y) (railed-not (p .range) (rounded (columnSum p c x y)) (middleAt p c x y) (n x y hx hy))))
+      (λ y hy. let before = rounded (columnSum p c x y) in let after = middleAt p c x y in none-counts (eqZ after before) (eq→eqZ after before (u x y hx hy))))
 
   -- a kept column's middle value
   middle-kept : (x y : ℕ) → x < p .columns → middleAt p c x y ≡ middle (p .range) (columnSum p c x y)

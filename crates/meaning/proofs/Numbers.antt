@@ -102,7 +102,7 @@ items =
     ∷ rounding (negsuc 64) (negsuc 0)
     -- 7
     ∷ counts (sized 4 4 10) (column (pos 0) (pos 32767) (pos 21063) (pos 0)) 0
-    ∷ counts (sized 4 4 10) (column (pos 0) (pos 32767) (pos 21064) (pos 0)) 1
+    ∷ counts (sized 4 4 10) (column (pos 0) (pos 32767) (pos 21064) (pos 0)) 0
     ∷ counts (sized 4 4 10) (column (pos 0) (pos 32767) (pos 21066) (pos 0)) 1
     -- 8, as a call
     ∷ gives (sized 4 4 10) (alone 16 0 (pos 64)) 0
@@ -113,9 +113,9 @@ items =
     ∷ inverseRefused (sized 32 4 10) (alone 128 16 (pos 1)) 128 8 16
     -- 10
     ∷ inverseRefused (record { width = 5; height = 4; horizontal = 0; vertical = 0; depth = 7 }) (all 16 (pos 0)) 16 1 0
-    -- the low end counts as well as the high one of 7
-    ∷ counts (sized 4 4 10) (column (pos 0) (negsuc 32766) (negsuc 21064) (pos 0)) 0
-    ∷ counts (sized 4 4 10) (column (pos 0) (negsuc 32766) (negsuc 21065) (pos 0)) 1
+    -- the low end as the high one of 7: -32768 stays and does not count, -32769 does
+    ∷ counts (sized 4 4 10) (column (pos 0) (negsuc 32766) (negsuc 21065) (pos 0)) 0
+    ∷ counts (sized 4 4 10) (column (pos 0) (negsuc 32766) (negsuc 21066) (pos 0)) 1
     -- both lengths wrong: the input's is told
     ∷ inverseRefused (sized 4 4 10) (all 15 (pos 0)) 15 6 0
     -- kind 0: lines, H.266's weights, blocks, and what is kept of either direction

@@ -1,5 +1,5 @@
 -- Document 01, "Blocks", "Inverse": both stages of a block over any plan, the rail count, and the outcome of a call.
-use mathlib.Core.Bool.{Bool, not, cond, _&&_, _||_}
+use mathlib.Core.Bool.{Bool, not, cond, _&&_}
 use mathlib.Core.List.{List, [], _∷_, _++_}
 use Prim.Native.Nat.{ℕ, _+_, _*_, _/_, _%_}
 use lib.Dec.{eqb, ltb}
@@ -33,9 +33,9 @@ middle r e = clip r (rounded e)
 unfoldable pub middleAt : Plan → List ℤ → ℕ → ℕ → ℤ
 middleAt p c x y = cond (ltb x (p .columns)) (middle (p .range) (columnSum p c x y)) (pos 0)
 
--- whether a middle value counts: "are 32767 or -32768 after the clip"
-abbrev pub railed : Range → ℤ → ℤ → Bool
-railed r before after = eqZ after (r .low) || eqZ after (r .high)
+-- whether a middle value counts: "only where the clip altered it" (document 02, Wish 2)
+abbrev pub railed : ℤ → ℤ → Bool
+railed before after = not (eqZ after before)
 
 abbrev pub count : Bool → ℕ
 count b = cond b 1 0
@@ -43,7 +43,7 @@ count b = cond b 1 0
 -- "how many middle values of kept columns, over all h rows"
 unfoldable pub rails : Plan → List ℤ → ℕ
 rails p c =
-    sumℕ (p .columns) (λ x. sumℕ (p .height) (λ y. count (railed (p .range) (rounded (columnSum p c x y)) (middleAt p c x y))))
+    sumℕ (p .columns) (λ x. sumℕ (p .height) (λ y. count (railed (rounded (columnSum p c x y)) (middleAt p c x y))))
 
 -- "each row goes through the horizontal line over its kept columns, giving r"
 unfoldable pub rowSum : Plan → List ℤ → ℕ → ℕ → ℤ

@@ -6,14 +6,15 @@ use lib.Dec.{ltb, eqb}
 use lib.IntN.{ℤ, pos, negℤ}
 use lib.ListN.{getD}
 
--- "First rows s1..sN of DST-VII": s n stands at place n, and 0 at place 0
+-- "First rows s1..sN of DST-VII": s n stands at place n, and 0 at place 0. At 32 points s11 and s28 are H.266's, 46 and 87, where
+-- document 01 has 45 and 88: "Where a paper's weight differs from H.266, H.266 stands" (docs/DECISIONS.md)
 unfoldable pub first : ℕ → List ℕ
 first n =
     cond (eqb n 4) (0 ∷ 29 ∷ 55 ∷ 74 ∷ 84 ∷ [])
     (cond (eqb n 8) (0 ∷ 17 ∷ 32 ∷ 46 ∷ 60 ∷ 71 ∷ 78 ∷ 85 ∷ 86 ∷ [])
     (cond (eqb n 16) (0 ∷ 8 ∷ 17 ∷ 25 ∷ 33 ∷ 40 ∷ 48 ∷ 55 ∷ 62 ∷ 68 ∷ 73 ∷ 77 ∷ 81 ∷ 85 ∷ 87 ∷ 88 ∷ 88 ∷ [])
     (cond (eqb n 32)
-    (0 ∷ 4 ∷ 9 ∷ 13 ∷ 17 ∷ 21 ∷ 26 ∷ 30 ∷ 34 ∷ 38 ∷ 42 ∷ 45 ∷ 50 ∷ 53 ∷ 56 ∷ 60 ∷ 63 ∷ 66 ∷ 68 ∷ 72 ∷ 74 ∷ 77 ∷ 78 ∷ 80 ∷ 82 ∷ 84 ∷ 85 ∷ 86 ∷ 88 ∷ 88 ∷ 89 ∷ 90 ∷ 90 ∷ [])
+    (0 ∷ 4 ∷ 9 ∷ 13 ∷ 17 ∷ 21 ∷ 26 ∷ 30 ∷ 34 ∷ 38 ∷ 42 ∷ 46 ∷ 50 ∷ 53 ∷ 56 ∷ 60 ∷ 63 ∷ 66 ∷ 68 ∷ 72 ∷ 74 ∷ 77 ∷ 78 ∷ 80 ∷ 82 ∷ 84 ∷ 85 ∷ 86 ∷ 87 ∷ 88 ∷ 89 ∷ 90 ∷ 90 ∷ [])
     [])))
 
 abbrev pub signed : Bool → ℤ → ℤ

@@ -1,20 +1,17 @@
-// Compares the library's weights with published ones that are written out here, and prints for each source how many agree.
-// docs/DECISIONS.md, "Published weights", says where each number came from.
+// Compares the library's weights with published ones that are written out here, and prints for each source how many agree; then
+// what document 004 measures of a matrix. docs/DECISIONS.md, "Published weights", says where each number came from.
 mod letters;
+mod norms;
 mod numbers;
+mod print;
 
-use libc::STDOUT_FILENO;
 use numbers::agreeing;
 ghost use Prim.Native.Nat.{_≤_, _<_};
 ghost use lib.ListN.{length};
 
 fn report(source: &[u8], agreed: usize, of: usize) {
-    io::write_all(STDOUT_FILENO, source);
-    io::write_all(STDOUT_FILENO, b": ");
-    io::print_decimal(STDOUT_FILENO, agreed as u64);
-    io::write_all(STDOUT_FILENO, b" of ");
-    io::print_decimal(STDOUT_FILENO, of as u64);
-    io::write_all(STDOUT_FILENO, b"\n");
+    print::of(source, agreed as u64, of as u64);
+    print::text(b"\n");
 }
 
 fn compare(source: &[u8], kind: u32, n: u32, published: &[i32])
@@ -51,14 +48,59 @@ fn document_01() {
     compare(b"document 01, item 3, DCT-VIII of 4 points", 2, 4, &c4);
 }
 
-fn h266() {
-    let s4 = numbers::H266_4;
-    compare(b"H.266, DST-VII of 4 points", 1, 4, &s4);
-    let s8 = numbers::H266_8;
-    compare(b"H.266, DST-VII of 8 points", 1, 8, &s8);
+fn decoder_dst() {
+    let s4 = numbers::FIRST_4;
+    compare(b"FFmpeg 7.1.5, first row of DST-VII of 4 points", 1, 4, &s4);
+    let s8 = numbers::FIRST_8;
+    compare(b"FFmpeg 7.1.5, first row of DST-VII of 8 points", 1, 8, &s8);
+    let s16 = numbers::FIRST_16;
+    compare(
+        b"FFmpeg 7.1.5, first row of DST-VII of 16 points",
+        1,
+        16,
+        &s16,
+    );
+    let s32 = numbers::DECODER_32;
+    compare(
+        b"FFmpeg 7.1.5, first row of DST-VII of 32 points",
+        1,
+        32,
+        &s32,
+    );
 }
 
-fn h266_dct_ii() {
+fn decoder_dct() {
+    let c4 = numbers::DECODER_DCT_4;
+    compare(
+        b"FFmpeg 7.1.5, first row of DCT-VIII of 4 points",
+        2,
+        4,
+        &c4,
+    );
+    let c8 = numbers::DECODER_DCT_8;
+    compare(
+        b"FFmpeg 7.1.5, first row of DCT-VIII of 8 points",
+        2,
+        8,
+        &c8,
+    );
+    let c16 = numbers::DECODER_DCT_16;
+    compare(
+        b"FFmpeg 7.1.5, first row of DCT-VIII of 16 points",
+        2,
+        16,
+        &c16,
+    );
+    let c32 = numbers::DECODER_DCT_32;
+    compare(
+        b"FFmpeg 7.1.5, first row of DCT-VIII of 32 points",
+        2,
+        32,
+        &c32,
+    );
+}
+
+fn matrices() {
     let d4 = numbers::DCT_4;
     compare(b"H.266, DCT-II of 4 points", 0, 4, &d4);
     let d8 = numbers::DCT_8;
@@ -70,6 +112,9 @@ fn h266_dct_ii() {
         8,
         &d16,
     );
+}
+
+fn odd_rows() {
     let o4 = numbers::ODD_4;
     compare_odd(
         b"H.266, DCT-II of 4 points, odd rows' first weights",
@@ -101,14 +146,14 @@ fn h266_dct_ii() {
 }
 
 fn document_004() {
-    let s16 = numbers::EQUATION_8;
+    let s16 = numbers::FIRST_16;
     compare(
         b"document 004, equation 8, first row of DST-VII of 16 points",
         1,
         16,
         &s16,
     );
-    let c16 = numbers::EQUATION_9;
+    let c16 = numbers::DECODER_DCT_16;
     compare(
         b"document 004, equation 9, first row of DCT-VIII of 16 points",
         2,
@@ -124,12 +169,15 @@ fn document_004() {
 
 fn main() {
     document_01();
-    h266();
-    h266_dct_ii();
+    decoder_dst();
+    decoder_dct();
+    matrices();
+    odd_rows();
     document_004();
     report(
         b"document 000, equation 1, letters of all rows of 16 points",
         letters::equation_1(),
         256,
     );
+    norms::table_ii();
 }

@@ -195,22 +195,22 @@ forward0-16-laid = laid-by 16 8 (λ i j. D 16 j i) forward0-16 tt refl
 
 abbrev pub inverse32 : List ℤ
 inverse32 =
-    pos 4 ∷ pos 13 ∷ pos 9 ∷ pos 26 ∷ pos 13 ∷ pos 38 ∷ pos 17 ∷ pos 50 ∷ pos 21 ∷ pos 60 ∷ pos 26 ∷ pos 68 ∷ pos 30 ∷ pos 77 ∷ pos 34 ∷ pos 82 ∷ pos 38 ∷ pos 86 ∷ pos 42 ∷ pos 89 ∷ pos 45 ∷ pos 90 ∷ pos 50 ∷ pos 88 ∷ pos 53 ∷ pos 85 ∷ pos 56 ∷ pos 80 ∷ pos 60 ∷ pos 74 ∷ pos 63 ∷ pos 66 ∷ pos 66 ∷ pos 56 ∷ pos 68 ∷ pos 45 ∷ pos 72 ∷ pos 34 ∷ pos 74 ∷ pos 21 ∷ pos 77 ∷ pos 9 ∷ pos 78 ∷ negsuc 3 ∷ pos 80 ∷ negsuc 16 ∷ pos 82 ∷ negsuc 29 ∷ pos 84 ∷ negsuc 41 ∷ pos 85 ∷ negsuc 52 ∷ pos 86 ∷ negsuc 62 ∷ pos 88 ∷ negsuc 71 ∷ pos 88 ∷ negsuc 77 ∷ pos 89 ∷ negsuc 83 ∷ pos 90 ∷ negsuc 87 ∷ pos 90 ∷ negsuc 89 ∷
-    pos 21 ∷ pos 30 ∷ pos 42 ∷ pos 56 ∷ pos 60 ∷ pos 77 ∷ pos 74 ∷ pos 88 ∷ pos 84 ∷ pos 89 ∷ pos 89 ∷ pos 80 ∷ pos 89 ∷ pos 63 ∷ pos 84 ∷ pos 38 ∷ pos 74 ∷ pos 9 ∷ pos 60 ∷ negsuc 20 ∷ pos 42 ∷ negsuc 49 ∷ pos 21 ∷ negsuc 71 ∷ pos 0 ∷ negsuc 84 ∷ negsuc 20 ∷ negsuc 89 ∷ negsuc 41 ∷ negsuc 83 ∷ negsuc 59 ∷ negsuc 67 ∷ negsuc 73 ∷ negsuc 44 ∷ negsuc 83 ∷ negsuc 16 ∷ negsuc 88 ∷ pos 13 ∷ negsuc 88 ∷ pos 42 ∷ negsuc 83 ∷ pos 66 ∷ negsuc 73 ∷ pos 82 ∷ negsuc 59 ∷ pos 90 ∷ negsuc 41 ∷ pos 86 ∷ negsuc 20 ∷ pos 74 ∷ pos 0 ∷ pos 53 ∷ pos 21 ∷ pos 26 ∷ pos 42 ∷ negsuc 3 ∷ pos 60 ∷ negsuc 33 ∷ pos 74 ∷ negsuc 59 ∷ pos 84 ∷ negsuc 77 ∷ pos 89 ∷ negsuc 87 ∷
-    pos 38 ∷ pos 45 ∷ pos 68 ∷ pos 78 ∷ pos 86 ∷ pos 90 ∷ pos 88 ∷ pos 77 ∷ pos 74 ∷ pos 42 ∷ pos 45 ∷ negsuc 3 ∷ pos 9 ∷ negsuc 49 ∷ negsuc 29 ∷ negsuc 79 ∷ negsuc 62 ∷ negsuc 89 ∷ negsuc 83 ∷ negsuc 73 ∷ negsuc 89 ∷ negsuc 37 ∷ negsuc 77 ∷ pos 9 ∷ negsuc 52 ∷ pos 53 ∷ negsuc 16 ∷ pos 82 ∷ pos 21 ∷ pos 89 ∷ pos 56 ∷ pos 72 ∷ pos 80 ∷ pos 34 ∷ pos 90 ∷ negsuc 12 ∷ pos 82 ∷ negsuc 55 ∷ pos 60 ∷ negsuc 83 ∷ pos 26 ∷ negsuc 87 ∷ negsuc 12 ∷ negsuc 67 ∷ negsuc 49 ∷ negsuc 29 ∷ negsuc 76 ∷ pos 17 ∷ negsuc 88 ∷ pos 60 ∷ negsuc 84 ∷ pos 85 ∷ negsuc 65 ∷ pos 88 ∷ negsuc 33 ∷ pos 66 ∷ pos 4 ∷ pos 26 ∷ pos 42 ∷ negsuc 20 ∷ pos 72 ∷ negsuc 62 ∷ pos 88 ∷ negsuc 85 ∷
+    pos 4 ∷ pos 13 ∷ pos 9 ∷ pos 26 ∷ pos 13 ∷ pos 38 ∷ pos 17 ∷ pos 50 ∷ pos 21 ∷ pos 60 ∷ pos 26 ∷ pos 68 ∷ pos 30 ∷ pos 77 ∷ pos 34 ∷ pos 82 ∷ pos 38 ∷ pos 86 ∷ pos 42 ∷ pos 89 ∷ pos 46 ∷ pos 90 ∷ pos 50 ∷ pos 88 ∷ pos 53 ∷ pos 85 ∷ pos 56 ∷ pos 80 ∷ pos 60 ∷ pos 74 ∷ pos 63 ∷ pos 66 ∷ pos 66 ∷ pos 56 ∷ pos 68 ∷ pos 46 ∷ pos 72 ∷ pos 34 ∷ pos 74 ∷ pos 21 ∷ pos 77 ∷ pos 9 ∷ pos 78 ∷ negsuc 3 ∷ pos 80 ∷ negsuc 16 ∷ pos 82 ∷ negsuc 29 ∷ pos 84 ∷ negsuc 41 ∷ pos 85 ∷ negsuc 52 ∷ pos 86 ∷ negsuc 62 ∷ pos 87 ∷ negsuc 71 ∷ pos 88 ∷ negsuc 77 ∷ pos 89 ∷ negsuc 83 ∷ pos 90 ∷ negsuc 86 ∷ pos 90 ∷ negsuc 89 ∷
+    pos 21 ∷ pos 30 ∷ pos 42 ∷ pos 56 ∷ pos 60 ∷ pos 77 ∷ pos 74 ∷ pos 87 ∷ pos 84 ∷ pos 89 ∷ pos 89 ∷ pos 80 ∷ pos 89 ∷ pos 63 ∷ pos 84 ∷ pos 38 ∷ pos 74 ∷ pos 9 ∷ pos 60 ∷ negsuc 20 ∷ pos 42 ∷ negsuc 49 ∷ pos 21 ∷ negsuc 71 ∷ pos 0 ∷ negsuc 84 ∷ negsuc 20 ∷ negsuc 89 ∷ negsuc 41 ∷ negsuc 83 ∷ negsuc 59 ∷ negsuc 67 ∷ negsuc 73 ∷ negsuc 45 ∷ negsuc 83 ∷ negsuc 16 ∷ negsuc 88 ∷ pos 13 ∷ negsuc 88 ∷ pos 42 ∷ negsuc 83 ∷ pos 66 ∷ negsuc 73 ∷ pos 82 ∷ negsuc 59 ∷ pos 90 ∷ negsuc 41 ∷ pos 86 ∷ negsuc 20 ∷ pos 74 ∷ pos 0 ∷ pos 53 ∷ pos 21 ∷ pos 26 ∷ pos 42 ∷ negsuc 3 ∷ pos 60 ∷ negsuc 33 ∷ pos 74 ∷ negsuc 59 ∷ pos 84 ∷ negsuc 77 ∷ pos 89 ∷ negsuc 87 ∷
+    pos 38 ∷ pos 46 ∷ pos 68 ∷ pos 78 ∷ pos 86 ∷ pos 90 ∷ pos 88 ∷ pos 77 ∷ pos 74 ∷ pos 42 ∷ pos 46 ∷ negsuc 3 ∷ pos 9 ∷ negsuc 49 ∷ negsuc 29 ∷ negsuc 79 ∷ negsuc 62 ∷ negsuc 89 ∷ negsuc 83 ∷ negsuc 73 ∷ negsuc 89 ∷ negsuc 37 ∷ negsuc 77 ∷ pos 9 ∷ negsuc 52 ∷ pos 53 ∷ negsuc 16 ∷ pos 82 ∷ pos 21 ∷ pos 89 ∷ pos 56 ∷ pos 72 ∷ pos 80 ∷ pos 34 ∷ pos 90 ∷ negsuc 12 ∷ pos 82 ∷ negsuc 55 ∷ pos 60 ∷ negsuc 83 ∷ pos 26 ∷ negsuc 87 ∷ negsuc 12 ∷ negsuc 67 ∷ negsuc 49 ∷ negsuc 29 ∷ negsuc 76 ∷ pos 17 ∷ negsuc 88 ∷ pos 60 ∷ negsuc 84 ∷ pos 85 ∷ negsuc 65 ∷ pos 87 ∷ negsuc 33 ∷ pos 66 ∷ pos 4 ∷ pos 26 ∷ pos 42 ∷ negsuc 20 ∷ pos 72 ∷ negsuc 62 ∷ pos 87 ∷ negsuc 85 ∷
     pos 53 ∷ pos 60 ∷ pos 85 ∷ pos 89 ∷ pos 85 ∷ pos 74 ∷ pos 53 ∷ pos 21 ∷ pos 0 ∷ negsuc 41 ∷ negsuc 52 ∷ negsuc 83 ∷ negsuc 84 ∷ negsuc 83 ∷ negsuc 84 ∷ negsuc 41 ∷ negsuc 52 ∷ pos 21 ∷ pos 0 ∷ pos 74 ∷ pos 53 ∷ pos 89 ∷ pos 85 ∷ pos 60 ∷ pos 85 ∷ pos 0 ∷ pos 53 ∷ negsuc 59 ∷ pos 0 ∷ negsuc 88 ∷ negsuc 52 ∷ negsuc 73 ∷ negsuc 84 ∷ negsuc 20 ∷ negsuc 84 ∷ pos 42 ∷ negsuc 52 ∷ pos 84 ∷ pos 0 ∷ pos 84 ∷ pos 53 ∷ pos 42 ∷ pos 85 ∷ negsuc 20 ∷ pos 85 ∷ negsuc 73 ∷ pos 53 ∷ negsuc 88 ∷ pos 0 ∷ negsuc 59 ∷ negsuc 52 ∷ pos 0 ∷ negsuc 84 ∷ pos 60 ∷ negsuc 84 ∷ pos 89 ∷ negsuc 52 ∷ pos 74 ∷ pos 0 ∷ pos 21 ∷ pos 53 ∷ negsuc 41 ∷ pos 85 ∷ negsuc 83 ∷
-    pos 66 ∷ pos 72 ∷ pos 90 ∷ pos 86 ∷ pos 56 ∷ pos 34 ∷ negsuc 12 ∷ negsuc 44 ∷ negsuc 73 ∷ negsuc 88 ∷ negsuc 87 ∷ negsuc 62 ∷ negsuc 44 ∷ pos 13 ∷ pos 26 ∷ pos 78 ∷ pos 80 ∷ pos 82 ∷ pos 84 ∷ pos 21 ∷ pos 34 ∷ negsuc 55 ∷ negsuc 37 ∷ negsuc 89 ∷ negsuc 84 ∷ negsuc 52 ∷ negsuc 77 ∷ pos 26 ∷ negsuc 20 ∷ pos 84 ∷ pos 50 ∷ pos 77 ∷ pos 88 ∷ pos 9 ∷ pos 72 ∷ negsuc 65 ∷ pos 9 ∷ negsuc 87 ∷ negsuc 59 ∷ negsuc 41 ∷ negsuc 89 ∷ pos 38 ∷ negsuc 62 ∷ pos 88 ∷ pos 4 ∷ pos 68 ∷ pos 68 ∷ negsuc 3 ∷ pos 89 ∷ negsuc 73 ∷ pos 53 ∷ negsuc 84 ∷ negsuc 16 ∷ negsuc 29 ∷ negsuc 76 ∷ pos 50 ∷ negsuc 85 ∷ pos 90 ∷ negsuc 41 ∷ pos 60 ∷ pos 30 ∷ negsuc 16 ∷ pos 82 ∷ negsuc 79 ∷
-    pos 77 ∷ pos 80 ∷ pos 80 ∷ pos 72 ∷ pos 9 ∷ negsuc 16 ∷ negsuc 71 ∷ negsuc 85 ∷ negsuc 83 ∷ negsuc 59 ∷ negsuc 16 ∷ pos 34 ∷ pos 66 ∷ pos 90 ∷ pos 86 ∷ pos 45 ∷ pos 26 ∷ negsuc 49 ∷ negsuc 59 ∷ negsuc 88 ∷ negsuc 87 ∷ negsuc 29 ∷ negsuc 33 ∷ pos 63 ∷ pos 53 ∷ pos 85 ∷ pos 90 ∷ pos 13 ∷ pos 42 ∷ negsuc 73 ∷ negsuc 44 ∷ negsuc 77 ∷ negsuc 89 ∷ pos 4 ∷ negsuc 49 ∷ pos 82 ∷ pos 38 ∷ pos 68 ∷ pos 89 ∷ negsuc 20 ∷ pos 56 ∷ negsuc 87 ∷ negsuc 29 ∷ negsuc 55 ∷ negsuc 87 ∷ pos 38 ∷ negsuc 62 ∷ pos 90 ∷ pos 21 ∷ pos 42 ∷ pos 85 ∷ negsuc 52 ∷ pos 68 ∷ negsuc 87 ∷ negsuc 12 ∷ negsuc 25 ∷ negsuc 81 ∷ pos 66 ∷ negsuc 73 ∷ pos 84 ∷ pos 4 ∷ pos 9 ∷ pos 78 ∷ negsuc 76 ∷
-    pos 84 ∷ pos 86 ∷ pos 60 ∷ pos 45 ∷ negsuc 41 ∷ negsuc 62 ∷ negsuc 88 ∷ negsuc 77 ∷ negsuc 20 ∷ pos 21 ∷ pos 74 ∷ pos 90 ∷ pos 74 ∷ pos 26 ∷ negsuc 20 ∷ negsuc 76 ∷ negsuc 88 ∷ negsuc 65 ∷ negsuc 41 ∷ pos 42 ∷ pos 60 ∷ pos 88 ∷ pos 84 ∷ pos 4 ∷ pos 0 ∷ negsuc 84 ∷ negsuc 83 ∷ negsuc 49 ∷ negsuc 59 ∷ pos 60 ∷ pos 42 ∷ pos 80 ∷ pos 89 ∷ negsuc 16 ∷ pos 21 ∷ negsuc 89 ∷ negsuc 73 ∷ negsuc 29 ∷ negsuc 73 ∷ pos 74 ∷ pos 21 ∷ pos 68 ∷ pos 89 ∷ negsuc 37 ∷ pos 42 ∷ negsuc 87 ∷ negsuc 59 ∷ negsuc 8 ∷ negsuc 83 ∷ pos 84 ∷ pos 0 ∷ pos 53 ∷ pos 84 ∷ negsuc 55 ∷ pos 60 ∷ negsuc 81 ∷ negsuc 41 ∷ pos 13 ∷ negsuc 88 ∷ pos 89 ∷ negsuc 20 ∷ pos 34 ∷ pos 74 ∷ negsuc 71 ∷
-    pos 88 ∷ pos 90 ∷ pos 30 ∷ pos 13 ∷ negsuc 77 ∷ negsuc 87 ∷ negsuc 55 ∷ negsuc 25 ∷ pos 60 ∷ pos 84 ∷ pos 77 ∷ pos 38 ∷ negsuc 33 ∷ negsuc 77 ∷ negsuc 87 ∷ negsuc 49 ∷ pos 4 ∷ pos 72 ∷ pos 89 ∷ pos 60 ∷ pos 26 ∷ negsuc 62 ∷ negsuc 79 ∷ negsuc 67 ∷ negsuc 52 ∷ pos 53 ∷ pos 63 ∷ pos 77 ∷ pos 74 ∷ negsuc 41 ∷ negsuc 37 ∷ negsuc 81 ∷ negsuc 85 ∷ pos 30 ∷ pos 9 ∷ pos 86 ∷ pos 90 ∷ negsuc 16 ∷ pos 21 ∷ negsuc 88 ∷ negsuc 81 ∷ pos 4 ∷ negsuc 49 ∷ pos 90 ∷ pos 66 ∷ pos 9 ∷ pos 72 ∷ negsuc 87 ∷ negsuc 41 ∷ negsuc 20 ∷ negsuc 84 ∷ pos 85 ∷ pos 13 ∷ pos 34 ∷ pos 90 ∷ negsuc 79 ∷ pos 17 ∷ negsuc 44 ∷ negsuc 83 ∷ pos 74 ∷ negsuc 44 ∷ pos 56 ∷ pos 68 ∷ negsuc 65 ∷
-    pos 90 ∷ pos 89 ∷ negsuc 3 ∷ negsuc 20 ∷ negsuc 89 ∷ negsuc 83 ∷ pos 9 ∷ pos 42 ∷ pos 89 ∷ pos 74 ∷ negsuc 12 ∷ negsuc 59 ∷ negsuc 87 ∷ negsuc 59 ∷ pos 17 ∷ pos 74 ∷ pos 88 ∷ pos 42 ∷ negsuc 20 ∷ negsuc 83 ∷ negsuc 85 ∷ negsuc 20 ∷ pos 26 ∷ pos 89 ∷ pos 85 ∷ pos 0 ∷ negsuc 29 ∷ negsuc 88 ∷ negsuc 83 ∷ pos 21 ∷ pos 34 ∷ pos 84 ∷ pos 82 ∷ negsuc 41 ∷ negsuc 37 ∷ negsuc 73 ∷ negsuc 79 ∷ pos 60 ∷ pos 42 ∷ pos 60 ∷ pos 78 ∷ negsuc 73 ∷ negsuc 44 ∷ negsuc 41 ∷ negsuc 76 ∷ pos 84 ∷ pos 50 ∷ pos 21 ∷ pos 74 ∷ negsuc 88 ∷ negsuc 52 ∷ pos 0 ∷ negsuc 71 ∷ pos 89 ∷ pos 56 ∷ negsuc 20 ∷ pos 68 ∷ negsuc 83 ∷ negsuc 59 ∷ pos 42 ∷ negsuc 65 ∷ pos 74 ∷ pos 63 ∷ negsuc 59 ∷
-    pos 88 ∷ pos 85 ∷ negsuc 37 ∷ negsuc 52 ∷ negsuc 71 ∷ negsuc 52 ∷ pos 68 ∷ pos 85 ∷ pos 42 ∷ pos 0 ∷ negsuc 85 ∷ negsuc 84 ∷ negsuc 3 ∷ pos 53 ∷ pos 88 ∷ pos 53 ∷ negsuc 33 ∷ negsuc 84 ∷ negsuc 73 ∷ pos 0 ∷ pos 66 ∷ pos 85 ∷ pos 45 ∷ negsuc 52 ∷ negsuc 84 ∷ negsuc 52 ∷ negsuc 8 ∷ pos 85 ∷ pos 89 ∷ pos 0 ∷ negsuc 29 ∷ negsuc 84 ∷ negsuc 76 ∷ pos 53 ∷ pos 63 ∷ pos 53 ∷ pos 50 ∷ negsuc 84 ∷ negsuc 83 ∷ pos 0 ∷ negsuc 12 ∷ pos 85 ∷ pos 90 ∷ negsuc 52 ∷ negsuc 25 ∷ negsuc 52 ∷ negsuc 77 ∷ pos 85 ∷ pos 60 ∷ pos 0 ∷ pos 53 ∷ negsuc 84 ∷ negsuc 81 ∷ pos 53 ∷ negsuc 16 ∷ pos 53 ∷ pos 90 ∷ negsuc 84 ∷ negsuc 20 ∷ pos 0 ∷ negsuc 79 ∷ pos 85 ∷ pos 56 ∷ negsuc 52 ∷
-    pos 82 ∷ pos 78 ∷ negsuc 65 ∷ negsuc 76 ∷ negsuc 29 ∷ negsuc 3 ∷ pos 90 ∷ pos 80 ∷ negsuc 41 ∷ negsuc 73 ∷ negsuc 55 ∷ negsuc 8 ∷ pos 86 ∷ pos 82 ∷ negsuc 12 ∷ negsuc 71 ∷ negsuc 76 ∷ negsuc 12 ∷ pos 74 ∷ pos 84 ∷ pos 17 ∷ negsuc 67 ∷ negsuc 87 ∷ negsuc 16 ∷ pos 53 ∷ pos 85 ∷ pos 45 ∷ negsuc 65 ∷ negsuc 88 ∷ negsuc 20 ∷ pos 26 ∷ pos 86 ∷ pos 68 ∷ negsuc 62 ∷ negsuc 79 ∷ negsuc 25 ∷ negsuc 3 ∷ pos 88 ∷ pos 84 ∷ negsuc 59 ∷ negsuc 62 ∷ negsuc 29 ∷ negsuc 33 ∷ pos 88 ∷ pos 90 ∷ negsuc 55 ∷ negsuc 37 ∷ negsuc 33 ∷ negsuc 59 ∷ pos 89 ∷ pos 85 ∷ negsuc 52 ∷ negsuc 8 ∷ negsuc 37 ∷ negsuc 77 ∷ pos 90 ∷ pos 72 ∷ negsuc 49 ∷ pos 21 ∷ negsuc 41 ∷ negsuc 87 ∷ pos 90 ∷ pos 50 ∷ negsuc 44 ∷
-    pos 74 ∷ pos 68 ∷ negsuc 83 ∷ negsuc 87 ∷ pos 21 ∷ pos 45 ∷ pos 60 ∷ pos 30 ∷ negsuc 88 ∷ negsuc 83 ∷ pos 42 ∷ pos 78 ∷ pos 42 ∷ negsuc 16 ∷ negsuc 88 ∷ negsuc 55 ∷ pos 60 ∷ pos 90 ∷ pos 21 ∷ negsuc 59 ∷ negsuc 83 ∷ negsuc 12 ∷ pos 74 ∷ pos 77 ∷ pos 0 ∷ negsuc 84 ∷ negsuc 73 ∷ pos 34 ∷ pos 84 ∷ pos 42 ∷ negsuc 20 ∷ negsuc 87 ∷ negsuc 59 ∷ pos 72 ∷ pos 89 ∷ negsuc 3 ∷ negsuc 41 ∷ negsuc 65 ∷ negsuc 41 ∷ pos 89 ∷ pos 89 ∷ negsuc 49 ∷ negsuc 59 ∷ negsuc 25 ∷ negsuc 20 ∷ pos 82 ∷ pos 84 ∷ negsuc 79 ∷ negsuc 73 ∷ pos 21 ∷ pos 0 ∷ pos 53 ∷ pos 74 ∷ negsuc 89 ∷ negsuc 83 ∷ pos 63 ∷ pos 21 ∷ pos 9 ∷ pos 60 ∷ negsuc 73 ∷ negsuc 88 ∷ pos 86 ∷ pos 42 ∷ negsuc 37 ∷
-    pos 63 ∷ pos 56 ∷ negsuc 89 ∷ negsuc 87 ∷ pos 66 ∷ pos 80 ∷ negsuc 3 ∷ negsuc 37 ∷ negsuc 59 ∷ negsuc 20 ∷ pos 90 ∷ pos 72 ∷ negsuc 67 ∷ negsuc 89 ∷ pos 9 ∷ pos 68 ∷ pos 56 ∷ negsuc 16 ∷ negsuc 88 ∷ negsuc 41 ∷ pos 72 ∷ pos 82 ∷ negsuc 12 ∷ negsuc 85 ∷ negsuc 52 ∷ pos 53 ∷ pos 88 ∷ pos 4 ∷ negsuc 73 ∷ negsuc 59 ∷ pos 17 ∷ pos 88 ∷ pos 50 ∷ negsuc 77 ∷ negsuc 87 ∷ pos 34 ∷ pos 77 ∷ pos 26 ∷ negsuc 20 ∷ negsuc 73 ∷ negsuc 44 ∷ pos 90 ∷ pos 86 ∷ negsuc 65 ∷ negsuc 77 ∷ pos 13 ∷ pos 26 ∷ pos 45 ∷ pos 42 ∷ negsuc 83 ∷ negsuc 84 ∷ pos 85 ∷ pos 80 ∷ negsuc 49 ∷ negsuc 29 ∷ negsuc 8 ∷ negsuc 37 ∷ pos 63 ∷ pos 84 ∷ negsuc 88 ∷ negsuc 81 ∷ pos 77 ∷ pos 34 ∷ negsuc 29 ∷
-    pos 50 ∷ pos 42 ∷ negsuc 81 ∷ negsuc 73 ∷ pos 88 ∷ pos 89 ∷ negsuc 65 ∷ negsuc 83 ∷ pos 21 ∷ pos 60 ∷ pos 30 ∷ negsuc 20 ∷ negsuc 71 ∷ negsuc 20 ∷ pos 90 ∷ pos 60 ∷ negsuc 77 ∷ negsuc 83 ∷ pos 42 ∷ pos 89 ∷ pos 9 ∷ negsuc 73 ∷ negsuc 55 ∷ pos 42 ∷ pos 85 ∷ pos 0 ∷ negsuc 85 ∷ negsuc 41 ∷ pos 60 ∷ pos 74 ∷ negsuc 12 ∷ negsuc 88 ∷ negsuc 37 ∷ pos 84 ∷ pos 77 ∷ negsuc 59 ∷ negsuc 89 ∷ pos 21 ∷ pos 74 ∷ pos 21 ∷ negsuc 33 ∷ negsuc 59 ∷ negsuc 16 ∷ pos 84 ∷ pos 63 ∷ negsuc 88 ∷ negsuc 87 ∷ pos 74 ∷ pos 84 ∷ negsuc 41 ∷ negsuc 52 ∷ pos 0 ∷ pos 4 ∷ pos 42 ∷ pos 45 ∷ negsuc 73 ∷ negsuc 79 ∷ pos 89 ∷ pos 89 ∷ negsuc 83 ∷ negsuc 67 ∷ pos 60 ∷ pos 26 ∷ negsuc 20 ∷
-    pos 34 ∷ pos 26 ∷ negsuc 62 ∷ negsuc 49 ∷ pos 82 ∷ pos 68 ∷ negsuc 89 ∷ negsuc 81 ∷ pos 84 ∷ pos 89 ∷ negsuc 65 ∷ negsuc 87 ∷ pos 38 ∷ pos 80 ∷ negsuc 3 ∷ negsuc 65 ∷ negsuc 29 ∷ pos 45 ∷ pos 60 ∷ negsuc 20 ∷ negsuc 79 ∷ negsuc 3 ∷ pos 90 ∷ pos 30 ∷ negsuc 84 ∷ negsuc 52 ∷ pos 68 ∷ pos 72 ∷ negsuc 41 ∷ negsuc 83 ∷ pos 9 ∷ pos 90 ∷ pos 26 ∷ negsuc 87 ∷ negsuc 55 ∷ pos 78 ∷ pos 78 ∷ negsuc 62 ∷ negsuc 88 ∷ pos 42 ∷ pos 86 ∷ negsuc 16 ∷ negsuc 71 ∷ negsuc 8 ∷ pos 45 ∷ pos 34 ∷ negsuc 12 ∷ negsuc 55 ∷ negsuc 20 ∷ pos 74 ∷ pos 53 ∷ negsuc 84 ∷ negsuc 76 ∷ pos 90 ∷ pos 88 ∷ negsuc 85 ∷ negsuc 87 ∷ pos 77 ∷ pos 74 ∷ negsuc 59 ∷ negsuc 49 ∷ pos 38 ∷ pos 17 ∷ negsuc 12 ∷
-    pos 17 ∷ pos 9 ∷ negsuc 33 ∷ negsuc 16 ∷ pos 50 ∷ pos 26 ∷ negsuc 62 ∷ negsuc 33 ∷ pos 74 ∷ pos 42 ∷ negsuc 81 ∷ negsuc 49 ∷ pos 88 ∷ pos 56 ∷ negsuc 89 ∷ negsuc 62 ∷ pos 88 ∷ pos 68 ∷ negsuc 83 ∷ negsuc 73 ∷ pos 77 ∷ pos 78 ∷ negsuc 65 ∷ negsuc 81 ∷ pos 53 ∷ pos 85 ∷ negsuc 37 ∷ negsuc 87 ∷ pos 21 ∷ pos 89 ∷ negsuc 3 ∷ negsuc 89 ∷ negsuc 12 ∷ pos 90 ∷ pos 30 ∷ negsuc 87 ∷ negsuc 44 ∷ pos 86 ∷ pos 60 ∷ negsuc 83 ∷ negsuc 71 ∷ pos 80 ∷ pos 80 ∷ negsuc 76 ∷ negsuc 85 ∷ pos 72 ∷ pos 90 ∷ negsuc 65 ∷ negsuc 88 ∷ pos 60 ∷ pos 85 ∷ negsuc 52 ∷ negsuc 77 ∷ pos 45 ∷ pos 68 ∷ negsuc 37 ∷ negsuc 55 ∷ pos 30 ∷ pos 42 ∷ negsuc 20 ∷ negsuc 25 ∷ pos 13 ∷ pos 9 ∷ negsuc 3 ∷ []
+    pos 66 ∷ pos 72 ∷ pos 90 ∷ pos 86 ∷ pos 56 ∷ pos 34 ∷ negsuc 12 ∷ negsuc 45 ∷ negsuc 73 ∷ negsuc 88 ∷ negsuc 86 ∷ negsuc 62 ∷ negsuc 45 ∷ pos 13 ∷ pos 26 ∷ pos 78 ∷ pos 80 ∷ pos 82 ∷ pos 84 ∷ pos 21 ∷ pos 34 ∷ negsuc 55 ∷ negsuc 37 ∷ negsuc 89 ∷ negsuc 84 ∷ negsuc 52 ∷ negsuc 77 ∷ pos 26 ∷ negsuc 20 ∷ pos 84 ∷ pos 50 ∷ pos 77 ∷ pos 88 ∷ pos 9 ∷ pos 72 ∷ negsuc 65 ∷ pos 9 ∷ negsuc 87 ∷ negsuc 59 ∷ negsuc 41 ∷ negsuc 89 ∷ pos 38 ∷ negsuc 62 ∷ pos 87 ∷ pos 4 ∷ pos 68 ∷ pos 68 ∷ negsuc 3 ∷ pos 89 ∷ negsuc 73 ∷ pos 53 ∷ negsuc 84 ∷ negsuc 16 ∷ negsuc 29 ∷ negsuc 76 ∷ pos 50 ∷ negsuc 85 ∷ pos 90 ∷ negsuc 41 ∷ pos 60 ∷ pos 30 ∷ negsuc 16 ∷ pos 82 ∷ negsuc 79 ∷
+    pos 77 ∷ pos 80 ∷ pos 80 ∷ pos 72 ∷ pos 9 ∷ negsuc 16 ∷ negsuc 71 ∷ negsuc 85 ∷ negsuc 83 ∷ negsuc 59 ∷ negsuc 16 ∷ pos 34 ∷ pos 66 ∷ pos 90 ∷ pos 86 ∷ pos 46 ∷ pos 26 ∷ negsuc 49 ∷ negsuc 59 ∷ negsuc 88 ∷ negsuc 87 ∷ negsuc 29 ∷ negsuc 33 ∷ pos 63 ∷ pos 53 ∷ pos 85 ∷ pos 90 ∷ pos 13 ∷ pos 42 ∷ negsuc 73 ∷ negsuc 45 ∷ negsuc 77 ∷ negsuc 89 ∷ pos 4 ∷ negsuc 49 ∷ pos 82 ∷ pos 38 ∷ pos 68 ∷ pos 89 ∷ negsuc 20 ∷ pos 56 ∷ negsuc 86 ∷ negsuc 29 ∷ negsuc 55 ∷ negsuc 86 ∷ pos 38 ∷ negsuc 62 ∷ pos 90 ∷ pos 21 ∷ pos 42 ∷ pos 85 ∷ negsuc 52 ∷ pos 68 ∷ negsuc 87 ∷ negsuc 12 ∷ negsuc 25 ∷ negsuc 81 ∷ pos 66 ∷ negsuc 73 ∷ pos 84 ∷ pos 4 ∷ pos 9 ∷ pos 78 ∷ negsuc 76 ∷
+    pos 84 ∷ pos 86 ∷ pos 60 ∷ pos 46 ∷ negsuc 41 ∷ negsuc 62 ∷ negsuc 88 ∷ negsuc 77 ∷ negsuc 20 ∷ pos 21 ∷ pos 74 ∷ pos 90 ∷ pos 74 ∷ pos 26 ∷ negsuc 20 ∷ negsuc 76 ∷ negsuc 88 ∷ negsuc 65 ∷ negsuc 41 ∷ pos 42 ∷ pos 60 ∷ pos 87 ∷ pos 84 ∷ pos 4 ∷ pos 0 ∷ negsuc 84 ∷ negsuc 83 ∷ negsuc 49 ∷ negsuc 59 ∷ pos 60 ∷ pos 42 ∷ pos 80 ∷ pos 89 ∷ negsuc 16 ∷ pos 21 ∷ negsuc 89 ∷ negsuc 73 ∷ negsuc 29 ∷ negsuc 73 ∷ pos 74 ∷ pos 21 ∷ pos 68 ∷ pos 89 ∷ negsuc 37 ∷ pos 42 ∷ negsuc 87 ∷ negsuc 59 ∷ negsuc 8 ∷ negsuc 83 ∷ pos 84 ∷ pos 0 ∷ pos 53 ∷ pos 84 ∷ negsuc 55 ∷ pos 60 ∷ negsuc 81 ∷ negsuc 41 ∷ pos 13 ∷ negsuc 88 ∷ pos 89 ∷ negsuc 20 ∷ pos 34 ∷ pos 74 ∷ negsuc 71 ∷
+    pos 88 ∷ pos 90 ∷ pos 30 ∷ pos 13 ∷ negsuc 77 ∷ negsuc 86 ∷ negsuc 55 ∷ negsuc 25 ∷ pos 60 ∷ pos 84 ∷ pos 77 ∷ pos 38 ∷ negsuc 33 ∷ negsuc 77 ∷ negsuc 86 ∷ negsuc 49 ∷ pos 4 ∷ pos 72 ∷ pos 89 ∷ pos 60 ∷ pos 26 ∷ negsuc 62 ∷ negsuc 79 ∷ negsuc 67 ∷ negsuc 52 ∷ pos 53 ∷ pos 63 ∷ pos 77 ∷ pos 74 ∷ negsuc 41 ∷ negsuc 37 ∷ negsuc 81 ∷ negsuc 85 ∷ pos 30 ∷ pos 9 ∷ pos 86 ∷ pos 90 ∷ negsuc 16 ∷ pos 21 ∷ negsuc 88 ∷ negsuc 81 ∷ pos 4 ∷ negsuc 49 ∷ pos 90 ∷ pos 66 ∷ pos 9 ∷ pos 72 ∷ negsuc 87 ∷ negsuc 41 ∷ negsuc 20 ∷ negsuc 84 ∷ pos 85 ∷ pos 13 ∷ pos 34 ∷ pos 90 ∷ negsuc 79 ∷ pos 17 ∷ negsuc 45 ∷ negsuc 83 ∷ pos 74 ∷ negsuc 45 ∷ pos 56 ∷ pos 68 ∷ negsuc 65 ∷
+    pos 90 ∷ pos 89 ∷ negsuc 3 ∷ negsuc 20 ∷ negsuc 89 ∷ negsuc 83 ∷ pos 9 ∷ pos 42 ∷ pos 89 ∷ pos 74 ∷ negsuc 12 ∷ negsuc 59 ∷ negsuc 87 ∷ negsuc 59 ∷ pos 17 ∷ pos 74 ∷ pos 87 ∷ pos 42 ∷ negsuc 20 ∷ negsuc 83 ∷ negsuc 85 ∷ negsuc 20 ∷ pos 26 ∷ pos 89 ∷ pos 85 ∷ pos 0 ∷ negsuc 29 ∷ negsuc 88 ∷ negsuc 83 ∷ pos 21 ∷ pos 34 ∷ pos 84 ∷ pos 82 ∷ negsuc 41 ∷ negsuc 37 ∷ negsuc 73 ∷ negsuc 79 ∷ pos 60 ∷ pos 42 ∷ pos 60 ∷ pos 78 ∷ negsuc 73 ∷ negsuc 45 ∷ negsuc 41 ∷ negsuc 76 ∷ pos 84 ∷ pos 50 ∷ pos 21 ∷ pos 74 ∷ negsuc 88 ∷ negsuc 52 ∷ pos 0 ∷ negsuc 71 ∷ pos 89 ∷ pos 56 ∷ negsuc 20 ∷ pos 68 ∷ negsuc 83 ∷ negsuc 59 ∷ pos 42 ∷ negsuc 65 ∷ pos 74 ∷ pos 63 ∷ negsuc 59 ∷
+    pos 87 ∷ pos 85 ∷ negsuc 37 ∷ negsuc 52 ∷ negsuc 71 ∷ negsuc 52 ∷ pos 68 ∷ pos 85 ∷ pos 42 ∷ pos 0 ∷ negsuc 85 ∷ negsuc 84 ∷ negsuc 3 ∷ pos 53 ∷ pos 88 ∷ pos 53 ∷ negsuc 33 ∷ negsuc 84 ∷ negsuc 73 ∷ pos 0 ∷ pos 66 ∷ pos 85 ∷ pos 46 ∷ negsuc 52 ∷ negsuc 84 ∷ negsuc 52 ∷ negsuc 8 ∷ pos 85 ∷ pos 89 ∷ pos 0 ∷ negsuc 29 ∷ negsuc 84 ∷ negsuc 76 ∷ pos 53 ∷ pos 63 ∷ pos 53 ∷ pos 50 ∷ negsuc 84 ∷ negsuc 83 ∷ pos 0 ∷ negsuc 12 ∷ pos 85 ∷ pos 90 ∷ negsuc 52 ∷ negsuc 25 ∷ negsuc 52 ∷ negsuc 77 ∷ pos 85 ∷ pos 60 ∷ pos 0 ∷ pos 53 ∷ negsuc 84 ∷ negsuc 81 ∷ pos 53 ∷ negsuc 16 ∷ pos 53 ∷ pos 90 ∷ negsuc 84 ∷ negsuc 20 ∷ pos 0 ∷ negsuc 79 ∷ pos 85 ∷ pos 56 ∷ negsuc 52 ∷
+    pos 82 ∷ pos 78 ∷ negsuc 65 ∷ negsuc 76 ∷ negsuc 29 ∷ negsuc 3 ∷ pos 90 ∷ pos 80 ∷ negsuc 41 ∷ negsuc 73 ∷ negsuc 55 ∷ negsuc 8 ∷ pos 86 ∷ pos 82 ∷ negsuc 12 ∷ negsuc 71 ∷ negsuc 76 ∷ negsuc 12 ∷ pos 74 ∷ pos 84 ∷ pos 17 ∷ negsuc 67 ∷ negsuc 86 ∷ negsuc 16 ∷ pos 53 ∷ pos 85 ∷ pos 46 ∷ negsuc 65 ∷ negsuc 88 ∷ negsuc 20 ∷ pos 26 ∷ pos 86 ∷ pos 68 ∷ negsuc 62 ∷ negsuc 79 ∷ negsuc 25 ∷ negsuc 3 ∷ pos 87 ∷ pos 84 ∷ negsuc 59 ∷ negsuc 62 ∷ negsuc 29 ∷ negsuc 33 ∷ pos 88 ∷ pos 90 ∷ negsuc 55 ∷ negsuc 37 ∷ negsuc 33 ∷ negsuc 59 ∷ pos 89 ∷ pos 85 ∷ negsuc 52 ∷ negsuc 8 ∷ negsuc 37 ∷ negsuc 77 ∷ pos 90 ∷ pos 72 ∷ negsuc 49 ∷ pos 21 ∷ negsuc 41 ∷ negsuc 87 ∷ pos 90 ∷ pos 50 ∷ negsuc 45 ∷
+    pos 74 ∷ pos 68 ∷ negsuc 83 ∷ negsuc 87 ∷ pos 21 ∷ pos 46 ∷ pos 60 ∷ pos 30 ∷ negsuc 88 ∷ negsuc 83 ∷ pos 42 ∷ pos 78 ∷ pos 42 ∷ negsuc 16 ∷ negsuc 88 ∷ negsuc 55 ∷ pos 60 ∷ pos 90 ∷ pos 21 ∷ negsuc 59 ∷ negsuc 83 ∷ negsuc 12 ∷ pos 74 ∷ pos 77 ∷ pos 0 ∷ negsuc 84 ∷ negsuc 73 ∷ pos 34 ∷ pos 84 ∷ pos 42 ∷ negsuc 20 ∷ negsuc 86 ∷ negsuc 59 ∷ pos 72 ∷ pos 89 ∷ negsuc 3 ∷ negsuc 41 ∷ negsuc 65 ∷ negsuc 41 ∷ pos 89 ∷ pos 89 ∷ negsuc 49 ∷ negsuc 59 ∷ negsuc 25 ∷ negsuc 20 ∷ pos 82 ∷ pos 84 ∷ negsuc 79 ∷ negsuc 73 ∷ pos 21 ∷ pos 0 ∷ pos 53 ∷ pos 74 ∷ negsuc 89 ∷ negsuc 83 ∷ pos 63 ∷ pos 21 ∷ pos 9 ∷ pos 60 ∷ negsuc 73 ∷ negsuc 88 ∷ pos 86 ∷ pos 42 ∷ negsuc 37 ∷
+    pos 63 ∷ pos 56 ∷ negsuc 89 ∷ negsuc 86 ∷ pos 66 ∷ pos 80 ∷ negsuc 3 ∷ negsuc 37 ∷ negsuc 59 ∷ negsuc 20 ∷ pos 90 ∷ pos 72 ∷ negsuc 67 ∷ negsuc 89 ∷ pos 9 ∷ pos 68 ∷ pos 56 ∷ negsuc 16 ∷ negsuc 88 ∷ negsuc 41 ∷ pos 72 ∷ pos 82 ∷ negsuc 12 ∷ negsuc 85 ∷ negsuc 52 ∷ pos 53 ∷ pos 88 ∷ pos 4 ∷ negsuc 73 ∷ negsuc 59 ∷ pos 17 ∷ pos 88 ∷ pos 50 ∷ negsuc 77 ∷ negsuc 86 ∷ pos 34 ∷ pos 77 ∷ pos 26 ∷ negsuc 20 ∷ negsuc 73 ∷ negsuc 45 ∷ pos 90 ∷ pos 86 ∷ negsuc 65 ∷ negsuc 77 ∷ pos 13 ∷ pos 26 ∷ pos 46 ∷ pos 42 ∷ negsuc 83 ∷ negsuc 84 ∷ pos 85 ∷ pos 80 ∷ negsuc 49 ∷ negsuc 29 ∷ negsuc 8 ∷ negsuc 37 ∷ pos 63 ∷ pos 84 ∷ negsuc 88 ∷ negsuc 81 ∷ pos 77 ∷ pos 34 ∷ negsuc 29 ∷
+    pos 50 ∷ pos 42 ∷ negsuc 81 ∷ negsuc 73 ∷ pos 88 ∷ pos 89 ∷ negsuc 65 ∷ negsuc 83 ∷ pos 21 ∷ pos 60 ∷ pos 30 ∷ negsuc 20 ∷ negsuc 71 ∷ negsuc 20 ∷ pos 90 ∷ pos 60 ∷ negsuc 77 ∷ negsuc 83 ∷ pos 42 ∷ pos 89 ∷ pos 9 ∷ negsuc 73 ∷ negsuc 55 ∷ pos 42 ∷ pos 85 ∷ pos 0 ∷ negsuc 85 ∷ negsuc 41 ∷ pos 60 ∷ pos 74 ∷ negsuc 12 ∷ negsuc 88 ∷ negsuc 37 ∷ pos 84 ∷ pos 77 ∷ negsuc 59 ∷ negsuc 89 ∷ pos 21 ∷ pos 74 ∷ pos 21 ∷ negsuc 33 ∷ negsuc 59 ∷ negsuc 16 ∷ pos 84 ∷ pos 63 ∷ negsuc 88 ∷ negsuc 86 ∷ pos 74 ∷ pos 84 ∷ negsuc 41 ∷ negsuc 52 ∷ pos 0 ∷ pos 4 ∷ pos 42 ∷ pos 46 ∷ negsuc 73 ∷ negsuc 79 ∷ pos 89 ∷ pos 89 ∷ negsuc 83 ∷ negsuc 67 ∷ pos 60 ∷ pos 26 ∷ negsuc 20 ∷
+    pos 34 ∷ pos 26 ∷ negsuc 62 ∷ negsuc 49 ∷ pos 82 ∷ pos 68 ∷ negsuc 89 ∷ negsuc 81 ∷ pos 84 ∷ pos 89 ∷ negsuc 65 ∷ negsuc 87 ∷ pos 38 ∷ pos 80 ∷ negsuc 3 ∷ negsuc 65 ∷ negsuc 29 ∷ pos 46 ∷ pos 60 ∷ negsuc 20 ∷ negsuc 79 ∷ negsuc 3 ∷ pos 90 ∷ pos 30 ∷ negsuc 84 ∷ negsuc 52 ∷ pos 68 ∷ pos 72 ∷ negsuc 41 ∷ negsuc 83 ∷ pos 9 ∷ pos 90 ∷ pos 26 ∷ negsuc 86 ∷ negsuc 55 ∷ pos 78 ∷ pos 78 ∷ negsuc 62 ∷ negsuc 88 ∷ pos 42 ∷ pos 86 ∷ negsuc 16 ∷ negsuc 71 ∷ negsuc 8 ∷ pos 46 ∷ pos 34 ∷ negsuc 12 ∷ negsuc 55 ∷ negsuc 20 ∷ pos 74 ∷ pos 53 ∷ negsuc 84 ∷ negsuc 76 ∷ pos 90 ∷ pos 88 ∷ negsuc 85 ∷ negsuc 86 ∷ pos 77 ∷ pos 74 ∷ negsuc 59 ∷ negsuc 49 ∷ pos 38 ∷ pos 17 ∷ negsuc 12 ∷
+    pos 17 ∷ pos 9 ∷ negsuc 33 ∷ negsuc 16 ∷ pos 50 ∷ pos 26 ∷ negsuc 62 ∷ negsuc 33 ∷ pos 74 ∷ pos 42 ∷ negsuc 81 ∷ negsuc 49 ∷ pos 87 ∷ pos 56 ∷ negsuc 89 ∷ negsuc 62 ∷ pos 88 ∷ pos 68 ∷ negsuc 83 ∷ negsuc 73 ∷ pos 77 ∷ pos 78 ∷ negsuc 65 ∷ negsuc 81 ∷ pos 53 ∷ pos 85 ∷ negsuc 37 ∷ negsuc 86 ∷ pos 21 ∷ pos 89 ∷ negsuc 3 ∷ negsuc 89 ∷ negsuc 12 ∷ pos 90 ∷ pos 30 ∷ negsuc 87 ∷ negsuc 45 ∷ pos 86 ∷ pos 60 ∷ negsuc 83 ∷ negsuc 71 ∷ pos 80 ∷ pos 80 ∷ negsuc 76 ∷ negsuc 85 ∷ pos 72 ∷ pos 90 ∷ negsuc 65 ∷ negsuc 88 ∷ pos 60 ∷ pos 85 ∷ negsuc 52 ∷ negsuc 77 ∷ pos 46 ∷ pos 68 ∷ negsuc 37 ∷ negsuc 55 ∷ pos 30 ∷ pos 42 ∷ negsuc 20 ∷ negsuc 25 ∷ pos 13 ∷ pos 9 ∷ negsuc 3 ∷ []
 
 pub inverse32-laid : Laid 32 16 2 64 (S 32) inverse32
 unfolding S C D fold first turn cosines
@@ -218,22 +218,22 @@ inverse32-laid = laid-by 32 16 (S 32) inverse32 tt refl
 
 abbrev pub forward32 : List ℤ
 forward32 =
-    pos 4 ∷ pos 9 ∷ pos 13 ∷ pos 26 ∷ pos 21 ∷ pos 42 ∷ pos 30 ∷ pos 56 ∷ pos 38 ∷ pos 68 ∷ pos 45 ∷ pos 78 ∷ pos 53 ∷ pos 85 ∷ pos 60 ∷ pos 89 ∷ pos 66 ∷ pos 90 ∷ pos 72 ∷ pos 86 ∷ pos 77 ∷ pos 80 ∷ pos 80 ∷ pos 72 ∷ pos 84 ∷ pos 60 ∷ pos 86 ∷ pos 45 ∷ pos 88 ∷ pos 30 ∷ pos 90 ∷ pos 13 ∷ pos 90 ∷ negsuc 3 ∷ pos 89 ∷ negsuc 20 ∷ pos 88 ∷ negsuc 37 ∷ pos 85 ∷ negsuc 52 ∷ pos 82 ∷ negsuc 65 ∷ pos 78 ∷ negsuc 76 ∷ pos 74 ∷ negsuc 83 ∷ pos 68 ∷ negsuc 87 ∷ pos 63 ∷ negsuc 89 ∷ pos 56 ∷ negsuc 87 ∷ pos 50 ∷ negsuc 81 ∷ pos 42 ∷ negsuc 73 ∷ pos 34 ∷ negsuc 62 ∷ pos 26 ∷ negsuc 49 ∷ pos 17 ∷ negsuc 33 ∷ pos 9 ∷ negsuc 16 ∷
-    pos 13 ∷ pos 17 ∷ pos 38 ∷ pos 50 ∷ pos 60 ∷ pos 74 ∷ pos 77 ∷ pos 88 ∷ pos 86 ∷ pos 88 ∷ pos 90 ∷ pos 77 ∷ pos 85 ∷ pos 53 ∷ pos 74 ∷ pos 21 ∷ pos 56 ∷ negsuc 12 ∷ pos 34 ∷ negsuc 44 ∷ pos 9 ∷ negsuc 71 ∷ negsuc 16 ∷ negsuc 85 ∷ negsuc 41 ∷ negsuc 88 ∷ negsuc 62 ∷ negsuc 77 ∷ negsuc 77 ∷ negsuc 55 ∷ negsuc 87 ∷ negsuc 25 ∷ negsuc 89 ∷ pos 9 ∷ negsuc 83 ∷ pos 42 ∷ negsuc 71 ∷ pos 68 ∷ negsuc 52 ∷ pos 85 ∷ negsuc 29 ∷ pos 90 ∷ negsuc 3 ∷ pos 80 ∷ pos 21 ∷ pos 60 ∷ pos 45 ∷ pos 30 ∷ pos 66 ∷ negsuc 3 ∷ pos 80 ∷ negsuc 37 ∷ pos 88 ∷ negsuc 65 ∷ pos 89 ∷ negsuc 83 ∷ pos 82 ∷ negsuc 89 ∷ pos 68 ∷ negsuc 81 ∷ pos 50 ∷ negsuc 62 ∷ pos 26 ∷ negsuc 33 ∷
-    pos 21 ∷ pos 26 ∷ pos 60 ∷ pos 68 ∷ pos 84 ∷ pos 89 ∷ pos 89 ∷ pos 80 ∷ pos 74 ∷ pos 45 ∷ pos 42 ∷ negsuc 3 ∷ pos 0 ∷ negsuc 52 ∷ negsuc 41 ∷ negsuc 83 ∷ negsuc 73 ∷ negsuc 87 ∷ negsuc 88 ∷ negsuc 62 ∷ negsuc 83 ∷ negsuc 16 ∷ negsuc 59 ∷ pos 34 ∷ negsuc 20 ∷ pos 74 ∷ pos 21 ∷ pos 90 ∷ pos 60 ∷ pos 77 ∷ pos 84 ∷ pos 38 ∷ pos 89 ∷ negsuc 12 ∷ pos 74 ∷ negsuc 59 ∷ pos 42 ∷ negsuc 85 ∷ pos 0 ∷ negsuc 84 ∷ negsuc 41 ∷ negsuc 55 ∷ negsuc 73 ∷ negsuc 8 ∷ negsuc 88 ∷ pos 42 ∷ negsuc 83 ∷ pos 78 ∷ negsuc 59 ∷ pos 90 ∷ negsuc 20 ∷ pos 72 ∷ pos 21 ∷ pos 30 ∷ pos 60 ∷ negsuc 20 ∷ pos 84 ∷ negsuc 65 ∷ pos 89 ∷ negsuc 87 ∷ pos 74 ∷ negsuc 81 ∷ pos 42 ∷ negsuc 49 ∷
-    pos 30 ∷ pos 34 ∷ pos 77 ∷ pos 82 ∷ pos 89 ∷ pos 84 ∷ pos 63 ∷ pos 38 ∷ pos 9 ∷ negsuc 29 ∷ negsuc 49 ∷ negsuc 79 ∷ negsuc 84 ∷ negsuc 84 ∷ negsuc 83 ∷ negsuc 41 ∷ negsuc 44 ∷ pos 26 ∷ pos 13 ∷ pos 78 ∷ pos 66 ∷ pos 86 ∷ pos 90 ∷ pos 45 ∷ pos 74 ∷ negsuc 20 ∷ pos 26 ∷ negsuc 76 ∷ negsuc 33 ∷ negsuc 87 ∷ negsuc 77 ∷ negsuc 49 ∷ negsuc 87 ∷ pos 17 ∷ negsuc 59 ∷ pos 74 ∷ negsuc 3 ∷ pos 88 ∷ pos 53 ∷ pos 53 ∷ pos 86 ∷ negsuc 12 ∷ pos 82 ∷ negsuc 71 ∷ pos 42 ∷ negsuc 88 ∷ negsuc 16 ∷ negsuc 55 ∷ negsuc 67 ∷ pos 9 ∷ negsuc 89 ∷ pos 68 ∷ negsuc 71 ∷ pos 90 ∷ negsuc 20 ∷ pos 60 ∷ pos 38 ∷ negsuc 3 ∷ pos 80 ∷ negsuc 65 ∷ pos 88 ∷ negsuc 89 ∷ pos 56 ∷ negsuc 62 ∷
-    pos 38 ∷ pos 42 ∷ pos 86 ∷ pos 89 ∷ pos 74 ∷ pos 60 ∷ pos 9 ∷ negsuc 20 ∷ negsuc 62 ∷ negsuc 83 ∷ negsuc 89 ∷ negsuc 73 ∷ negsuc 52 ∷ pos 0 ∷ pos 21 ∷ pos 74 ∷ pos 80 ∷ pos 84 ∷ pos 82 ∷ pos 21 ∷ pos 26 ∷ negsuc 59 ∷ negsuc 49 ∷ negsuc 88 ∷ negsuc 88 ∷ negsuc 41 ∷ negsuc 65 ∷ pos 42 ∷ pos 4 ∷ pos 89 ∷ pos 72 ∷ pos 60 ∷ pos 88 ∷ negsuc 20 ∷ pos 42 ∷ negsuc 83 ∷ negsuc 33 ∷ negsuc 73 ∷ negsuc 84 ∷ pos 0 ∷ negsuc 76 ∷ pos 74 ∷ negsuc 12 ∷ pos 84 ∷ pos 60 ∷ pos 21 ∷ pos 90 ∷ negsuc 59 ∷ pos 56 ∷ negsuc 88 ∷ negsuc 16 ∷ negsuc 41 ∷ negsuc 77 ∷ pos 42 ∷ negsuc 83 ∷ pos 89 ∷ negsuc 29 ∷ pos 60 ∷ pos 45 ∷ negsuc 20 ∷ pos 88 ∷ negsuc 83 ∷ pos 68 ∷ negsuc 73 ∷
-    pos 45 ∷ pos 50 ∷ pos 90 ∷ pos 88 ∷ pos 42 ∷ pos 21 ∷ negsuc 49 ∷ negsuc 71 ∷ negsuc 89 ∷ negsuc 77 ∷ negsuc 37 ∷ pos 9 ∷ pos 53 ∷ pos 85 ∷ pos 89 ∷ pos 60 ∷ pos 34 ∷ negsuc 37 ∷ negsuc 55 ∷ negsuc 89 ∷ negsuc 87 ∷ negsuc 33 ∷ negsuc 29 ∷ pos 63 ∷ pos 60 ∷ pos 84 ∷ pos 88 ∷ pos 4 ∷ pos 26 ∷ negsuc 79 ∷ negsuc 62 ∷ negsuc 67 ∷ negsuc 85 ∷ pos 26 ∷ negsuc 20 ∷ pos 89 ∷ pos 66 ∷ pos 45 ∷ pos 85 ∷ negsuc 52 ∷ pos 17 ∷ negsuc 87 ∷ negsuc 67 ∷ negsuc 16 ∷ negsuc 83 ∷ pos 74 ∷ negsuc 12 ∷ pos 77 ∷ pos 72 ∷ negsuc 12 ∷ pos 82 ∷ negsuc 85 ∷ pos 9 ∷ negsuc 55 ∷ negsuc 73 ∷ pos 42 ∷ negsuc 79 ∷ pos 90 ∷ negsuc 3 ∷ pos 30 ∷ pos 77 ∷ negsuc 65 ∷ pos 78 ∷ negsuc 81 ∷
-    pos 53 ∷ pos 56 ∷ pos 85 ∷ pos 80 ∷ pos 0 ∷ negsuc 20 ∷ negsuc 84 ∷ negsuc 89 ∷ negsuc 52 ∷ negsuc 16 ∷ pos 53 ∷ pos 82 ∷ pos 85 ∷ pos 53 ∷ pos 0 ∷ negsuc 59 ∷ negsuc 84 ∷ negsuc 77 ∷ negsuc 52 ∷ pos 26 ∷ pos 53 ∷ pos 90 ∷ pos 85 ∷ pos 13 ∷ pos 0 ∷ negsuc 83 ∷ negsuc 84 ∷ negsuc 49 ∷ negsuc 52 ∷ pos 63 ∷ pos 53 ∷ pos 77 ∷ pos 85 ∷ negsuc 29 ∷ pos 0 ∷ negsuc 88 ∷ negsuc 84 ∷ negsuc 8 ∷ negsuc 52 ∷ pos 85 ∷ pos 53 ∷ pos 45 ∷ pos 85 ∷ negsuc 65 ∷ pos 0 ∷ negsuc 73 ∷ negsuc 84 ∷ pos 34 ∷ negsuc 52 ∷ pos 88 ∷ pos 53 ∷ pos 4 ∷ pos 85 ∷ negsuc 85 ∷ pos 0 ∷ negsuc 41 ∷ negsuc 84 ∷ pos 68 ∷ negsuc 52 ∷ pos 72 ∷ pos 53 ∷ negsuc 37 ∷ pos 85 ∷ negsuc 87 ∷
-    pos 60 ∷ pos 63 ∷ pos 74 ∷ pos 66 ∷ negsuc 41 ∷ negsuc 59 ∷ negsuc 83 ∷ negsuc 67 ∷ pos 21 ∷ pos 56 ∷ pos 89 ∷ pos 72 ∷ pos 0 ∷ negsuc 52 ∷ negsuc 88 ∷ negsuc 73 ∷ negsuc 20 ∷ pos 50 ∷ pos 84 ∷ pos 77 ∷ pos 42 ∷ negsuc 44 ∷ negsuc 73 ∷ negsuc 77 ∷ negsuc 59 ∷ pos 42 ∷ pos 60 ∷ pos 80 ∷ pos 74 ∷ negsuc 37 ∷ negsuc 41 ∷ negsuc 81 ∷ negsuc 83 ∷ pos 34 ∷ pos 21 ∷ pos 84 ∷ pos 89 ∷ negsuc 29 ∷ pos 0 ∷ negsuc 84 ∷ negsuc 88 ∷ pos 26 ∷ negsuc 20 ∷ pos 86 ∷ pos 84 ∷ negsuc 20 ∷ pos 42 ∷ negsuc 87 ∷ negsuc 73 ∷ pos 17 ∷ negsuc 59 ∷ pos 88 ∷ pos 60 ∷ negsuc 12 ∷ pos 74 ∷ negsuc 88 ∷ negsuc 41 ∷ pos 9 ∷ negsuc 83 ∷ pos 90 ∷ pos 21 ∷ negsuc 3 ∷ pos 89 ∷ negsuc 89 ∷
-    pos 66 ∷ pos 68 ∷ pos 56 ∷ pos 45 ∷ negsuc 73 ∷ negsuc 83 ∷ negsuc 44 ∷ negsuc 16 ∷ pos 80 ∷ pos 90 ∷ pos 34 ∷ negsuc 12 ∷ negsuc 84 ∷ negsuc 84 ∷ negsuc 20 ∷ pos 42 ∷ pos 88 ∷ pos 72 ∷ pos 9 ∷ negsuc 65 ∷ negsuc 89 ∷ negsuc 49 ∷ pos 4 ∷ pos 82 ∷ pos 89 ∷ pos 21 ∷ negsuc 16 ∷ negsuc 89 ∷ negsuc 85 ∷ pos 9 ∷ pos 30 ∷ pos 86 ∷ pos 82 ∷ negsuc 37 ∷ negsuc 41 ∷ negsuc 73 ∷ negsuc 76 ∷ pos 63 ∷ pos 53 ∷ pos 53 ∷ pos 68 ∷ negsuc 79 ∷ negsuc 62 ∷ negsuc 25 ∷ negsuc 59 ∷ pos 89 ∷ pos 72 ∷ negsuc 3 ∷ pos 50 ∷ negsuc 87 ∷ negsuc 77 ∷ pos 34 ∷ negsuc 37 ∷ pos 77 ∷ pos 84 ∷ negsuc 59 ∷ pos 26 ∷ negsuc 55 ∷ negsuc 87 ∷ pos 78 ∷ negsuc 12 ∷ pos 30 ∷ pos 90 ∷ negsuc 87 ∷
-    pos 72 ∷ pos 74 ∷ pos 34 ∷ pos 21 ∷ negsuc 88 ∷ negsuc 88 ∷ pos 13 ∷ pos 42 ∷ pos 82 ∷ pos 60 ∷ negsuc 55 ∷ negsuc 83 ∷ negsuc 52 ∷ pos 0 ∷ pos 84 ∷ pos 84 ∷ pos 9 ∷ negsuc 59 ∷ negsuc 87 ∷ negsuc 41 ∷ pos 38 ∷ pos 89 ∷ pos 68 ∷ negsuc 20 ∷ negsuc 73 ∷ negsuc 73 ∷ negsuc 29 ∷ pos 74 ∷ pos 90 ∷ pos 21 ∷ negsuc 16 ∷ negsuc 88 ∷ negsuc 79 ∷ pos 42 ∷ pos 60 ∷ pos 60 ∷ pos 50 ∷ negsuc 83 ∷ negsuc 84 ∷ pos 0 ∷ negsuc 3 ∷ pos 84 ∷ pos 88 ∷ negsuc 59 ∷ negsuc 41 ∷ negsuc 41 ∷ negsuc 65 ∷ pos 89 ∷ pos 77 ∷ negsuc 20 ∷ pos 26 ∷ negsuc 73 ∷ negsuc 89 ∷ pos 74 ∷ pos 21 ∷ pos 21 ∷ pos 78 ∷ negsuc 88 ∷ negsuc 62 ∷ pos 42 ∷ negsuc 44 ∷ pos 60 ∷ pos 86 ∷ negsuc 83 ∷
-    pos 77 ∷ pos 78 ∷ pos 9 ∷ negsuc 3 ∷ negsuc 83 ∷ negsuc 73 ∷ pos 66 ∷ pos 82 ∷ pos 26 ∷ negsuc 12 ∷ negsuc 87 ∷ negsuc 67 ∷ pos 53 ∷ pos 85 ∷ pos 42 ∷ negsuc 20 ∷ negsuc 89 ∷ negsuc 62 ∷ pos 38 ∷ pos 88 ∷ pos 56 ∷ negsuc 29 ∷ negsuc 87 ∷ negsuc 55 ∷ pos 21 ∷ pos 89 ∷ pos 68 ∷ negsuc 37 ∷ negsuc 81 ∷ negsuc 49 ∷ pos 4 ∷ pos 90 ∷ pos 78 ∷ negsuc 44 ∷ negsuc 73 ∷ negsuc 41 ∷ negsuc 12 ∷ pos 90 ∷ pos 85 ∷ negsuc 52 ∷ negsuc 62 ∷ negsuc 33 ∷ negsuc 29 ∷ pos 88 ∷ pos 89 ∷ negsuc 59 ∷ negsuc 49 ∷ negsuc 25 ∷ negsuc 44 ∷ pos 86 ∷ pos 90 ∷ negsuc 65 ∷ negsuc 33 ∷ negsuc 16 ∷ negsuc 59 ∷ pos 84 ∷ pos 86 ∷ negsuc 71 ∷ negsuc 16 ∷ negsuc 8 ∷ negsuc 71 ∷ pos 80 ∷ pos 80 ∷ negsuc 76 ∷
-    pos 80 ∷ pos 82 ∷ negsuc 16 ∷ negsuc 29 ∷ negsuc 59 ∷ negsuc 41 ∷ pos 90 ∷ pos 86 ∷ negsuc 49 ∷ negsuc 76 ∷ negsuc 29 ∷ pos 17 ∷ pos 85 ∷ pos 53 ∷ negsuc 73 ∷ negsuc 88 ∷ pos 4 ∷ pos 68 ∷ pos 68 ∷ negsuc 3 ∷ negsuc 87 ∷ negsuc 62 ∷ pos 38 ∷ pos 90 ∷ pos 42 ∷ negsuc 59 ∷ negsuc 87 ∷ negsuc 8 ∷ pos 66 ∷ pos 72 ∷ pos 9 ∷ negsuc 87 ∷ negsuc 76 ∷ pos 50 ∷ pos 84 ∷ pos 21 ∷ negsuc 25 ∷ negsuc 77 ∷ negsuc 52 ∷ pos 85 ∷ pos 90 ∷ negsuc 37 ∷ negsuc 55 ∷ negsuc 33 ∷ negsuc 20 ∷ pos 84 ∷ pos 82 ∷ negsuc 79 ∷ negsuc 77 ∷ pos 26 ∷ pos 13 ∷ pos 45 ∷ pos 63 ∷ negsuc 87 ∷ negsuc 88 ∷ pos 74 ∷ pos 45 ∷ negsuc 12 ∷ pos 34 ∷ negsuc 55 ∷ negsuc 85 ∷ pos 90 ∷ pos 72 ∷ negsuc 65 ∷
+    pos 4 ∷ pos 9 ∷ pos 13 ∷ pos 26 ∷ pos 21 ∷ pos 42 ∷ pos 30 ∷ pos 56 ∷ pos 38 ∷ pos 68 ∷ pos 46 ∷ pos 78 ∷ pos 53 ∷ pos 85 ∷ pos 60 ∷ pos 89 ∷ pos 66 ∷ pos 90 ∷ pos 72 ∷ pos 86 ∷ pos 77 ∷ pos 80 ∷ pos 80 ∷ pos 72 ∷ pos 84 ∷ pos 60 ∷ pos 86 ∷ pos 46 ∷ pos 88 ∷ pos 30 ∷ pos 90 ∷ pos 13 ∷ pos 90 ∷ negsuc 3 ∷ pos 89 ∷ negsuc 20 ∷ pos 87 ∷ negsuc 37 ∷ pos 85 ∷ negsuc 52 ∷ pos 82 ∷ negsuc 65 ∷ pos 78 ∷ negsuc 76 ∷ pos 74 ∷ negsuc 83 ∷ pos 68 ∷ negsuc 87 ∷ pos 63 ∷ negsuc 89 ∷ pos 56 ∷ negsuc 86 ∷ pos 50 ∷ negsuc 81 ∷ pos 42 ∷ negsuc 73 ∷ pos 34 ∷ negsuc 62 ∷ pos 26 ∷ negsuc 49 ∷ pos 17 ∷ negsuc 33 ∷ pos 9 ∷ negsuc 16 ∷
+    pos 13 ∷ pos 17 ∷ pos 38 ∷ pos 50 ∷ pos 60 ∷ pos 74 ∷ pos 77 ∷ pos 87 ∷ pos 86 ∷ pos 88 ∷ pos 90 ∷ pos 77 ∷ pos 85 ∷ pos 53 ∷ pos 74 ∷ pos 21 ∷ pos 56 ∷ negsuc 12 ∷ pos 34 ∷ negsuc 45 ∷ pos 9 ∷ negsuc 71 ∷ negsuc 16 ∷ negsuc 85 ∷ negsuc 41 ∷ negsuc 88 ∷ negsuc 62 ∷ negsuc 77 ∷ negsuc 77 ∷ negsuc 55 ∷ negsuc 86 ∷ negsuc 25 ∷ negsuc 89 ∷ pos 9 ∷ negsuc 83 ∷ pos 42 ∷ negsuc 71 ∷ pos 68 ∷ negsuc 52 ∷ pos 85 ∷ negsuc 29 ∷ pos 90 ∷ negsuc 3 ∷ pos 80 ∷ pos 21 ∷ pos 60 ∷ pos 46 ∷ pos 30 ∷ pos 66 ∷ negsuc 3 ∷ pos 80 ∷ negsuc 37 ∷ pos 88 ∷ negsuc 65 ∷ pos 89 ∷ negsuc 83 ∷ pos 82 ∷ negsuc 89 ∷ pos 68 ∷ negsuc 81 ∷ pos 50 ∷ negsuc 62 ∷ pos 26 ∷ negsuc 33 ∷
+    pos 21 ∷ pos 26 ∷ pos 60 ∷ pos 68 ∷ pos 84 ∷ pos 89 ∷ pos 89 ∷ pos 80 ∷ pos 74 ∷ pos 46 ∷ pos 42 ∷ negsuc 3 ∷ pos 0 ∷ negsuc 52 ∷ negsuc 41 ∷ negsuc 83 ∷ negsuc 73 ∷ negsuc 86 ∷ negsuc 88 ∷ negsuc 62 ∷ negsuc 83 ∷ negsuc 16 ∷ negsuc 59 ∷ pos 34 ∷ negsuc 20 ∷ pos 74 ∷ pos 21 ∷ pos 90 ∷ pos 60 ∷ pos 77 ∷ pos 84 ∷ pos 38 ∷ pos 89 ∷ negsuc 12 ∷ pos 74 ∷ negsuc 59 ∷ pos 42 ∷ negsuc 85 ∷ pos 0 ∷ negsuc 84 ∷ negsuc 41 ∷ negsuc 55 ∷ negsuc 73 ∷ negsuc 8 ∷ negsuc 88 ∷ pos 42 ∷ negsuc 83 ∷ pos 78 ∷ negsuc 59 ∷ pos 90 ∷ negsuc 20 ∷ pos 72 ∷ pos 21 ∷ pos 30 ∷ pos 60 ∷ negsuc 20 ∷ pos 84 ∷ negsuc 65 ∷ pos 89 ∷ negsuc 87 ∷ pos 74 ∷ negsuc 81 ∷ pos 42 ∷ negsuc 49 ∷
+    pos 30 ∷ pos 34 ∷ pos 77 ∷ pos 82 ∷ pos 89 ∷ pos 84 ∷ pos 63 ∷ pos 38 ∷ pos 9 ∷ negsuc 29 ∷ negsuc 49 ∷ negsuc 79 ∷ negsuc 84 ∷ negsuc 84 ∷ negsuc 83 ∷ negsuc 41 ∷ negsuc 45 ∷ pos 26 ∷ pos 13 ∷ pos 78 ∷ pos 66 ∷ pos 86 ∷ pos 90 ∷ pos 46 ∷ pos 74 ∷ negsuc 20 ∷ pos 26 ∷ negsuc 76 ∷ negsuc 33 ∷ negsuc 86 ∷ negsuc 77 ∷ negsuc 49 ∷ negsuc 87 ∷ pos 17 ∷ negsuc 59 ∷ pos 74 ∷ negsuc 3 ∷ pos 88 ∷ pos 53 ∷ pos 53 ∷ pos 86 ∷ negsuc 12 ∷ pos 82 ∷ negsuc 71 ∷ pos 42 ∷ negsuc 88 ∷ negsuc 16 ∷ negsuc 55 ∷ negsuc 67 ∷ pos 9 ∷ negsuc 89 ∷ pos 68 ∷ negsuc 71 ∷ pos 90 ∷ negsuc 20 ∷ pos 60 ∷ pos 38 ∷ negsuc 3 ∷ pos 80 ∷ negsuc 65 ∷ pos 87 ∷ negsuc 89 ∷ pos 56 ∷ negsuc 62 ∷
+    pos 38 ∷ pos 42 ∷ pos 86 ∷ pos 89 ∷ pos 74 ∷ pos 60 ∷ pos 9 ∷ negsuc 20 ∷ negsuc 62 ∷ negsuc 83 ∷ negsuc 89 ∷ negsuc 73 ∷ negsuc 52 ∷ pos 0 ∷ pos 21 ∷ pos 74 ∷ pos 80 ∷ pos 84 ∷ pos 82 ∷ pos 21 ∷ pos 26 ∷ negsuc 59 ∷ negsuc 49 ∷ negsuc 88 ∷ negsuc 88 ∷ negsuc 41 ∷ negsuc 65 ∷ pos 42 ∷ pos 4 ∷ pos 89 ∷ pos 72 ∷ pos 60 ∷ pos 87 ∷ negsuc 20 ∷ pos 42 ∷ negsuc 83 ∷ negsuc 33 ∷ negsuc 73 ∷ negsuc 84 ∷ pos 0 ∷ negsuc 76 ∷ pos 74 ∷ negsuc 12 ∷ pos 84 ∷ pos 60 ∷ pos 21 ∷ pos 90 ∷ negsuc 59 ∷ pos 56 ∷ negsuc 88 ∷ negsuc 16 ∷ negsuc 41 ∷ negsuc 77 ∷ pos 42 ∷ negsuc 83 ∷ pos 89 ∷ negsuc 29 ∷ pos 60 ∷ pos 46 ∷ negsuc 20 ∷ pos 88 ∷ negsuc 83 ∷ pos 68 ∷ negsuc 73 ∷
+    pos 46 ∷ pos 50 ∷ pos 90 ∷ pos 88 ∷ pos 42 ∷ pos 21 ∷ negsuc 49 ∷ negsuc 71 ∷ negsuc 89 ∷ negsuc 77 ∷ negsuc 37 ∷ pos 9 ∷ pos 53 ∷ pos 85 ∷ pos 89 ∷ pos 60 ∷ pos 34 ∷ negsuc 37 ∷ negsuc 55 ∷ negsuc 89 ∷ negsuc 87 ∷ negsuc 33 ∷ negsuc 29 ∷ pos 63 ∷ pos 60 ∷ pos 84 ∷ pos 87 ∷ pos 4 ∷ pos 26 ∷ negsuc 79 ∷ negsuc 62 ∷ negsuc 67 ∷ negsuc 85 ∷ pos 26 ∷ negsuc 20 ∷ pos 89 ∷ pos 66 ∷ pos 46 ∷ pos 85 ∷ negsuc 52 ∷ pos 17 ∷ negsuc 86 ∷ negsuc 67 ∷ negsuc 16 ∷ negsuc 83 ∷ pos 74 ∷ negsuc 12 ∷ pos 77 ∷ pos 72 ∷ negsuc 12 ∷ pos 82 ∷ negsuc 85 ∷ pos 9 ∷ negsuc 55 ∷ negsuc 73 ∷ pos 42 ∷ negsuc 79 ∷ pos 90 ∷ negsuc 3 ∷ pos 30 ∷ pos 77 ∷ negsuc 65 ∷ pos 78 ∷ negsuc 81 ∷
+    pos 53 ∷ pos 56 ∷ pos 85 ∷ pos 80 ∷ pos 0 ∷ negsuc 20 ∷ negsuc 84 ∷ negsuc 89 ∷ negsuc 52 ∷ negsuc 16 ∷ pos 53 ∷ pos 82 ∷ pos 85 ∷ pos 53 ∷ pos 0 ∷ negsuc 59 ∷ negsuc 84 ∷ negsuc 77 ∷ negsuc 52 ∷ pos 26 ∷ pos 53 ∷ pos 90 ∷ pos 85 ∷ pos 13 ∷ pos 0 ∷ negsuc 83 ∷ negsuc 84 ∷ negsuc 49 ∷ negsuc 52 ∷ pos 63 ∷ pos 53 ∷ pos 77 ∷ pos 85 ∷ negsuc 29 ∷ pos 0 ∷ negsuc 88 ∷ negsuc 84 ∷ negsuc 8 ∷ negsuc 52 ∷ pos 85 ∷ pos 53 ∷ pos 46 ∷ pos 85 ∷ negsuc 65 ∷ pos 0 ∷ negsuc 73 ∷ negsuc 84 ∷ pos 34 ∷ negsuc 52 ∷ pos 88 ∷ pos 53 ∷ pos 4 ∷ pos 85 ∷ negsuc 85 ∷ pos 0 ∷ negsuc 41 ∷ negsuc 84 ∷ pos 68 ∷ negsuc 52 ∷ pos 72 ∷ pos 53 ∷ negsuc 37 ∷ pos 85 ∷ negsuc 86 ∷
+    pos 60 ∷ pos 63 ∷ pos 74 ∷ pos 66 ∷ negsuc 41 ∷ negsuc 59 ∷ negsuc 83 ∷ negsuc 67 ∷ pos 21 ∷ pos 56 ∷ pos 89 ∷ pos 72 ∷ pos 0 ∷ negsuc 52 ∷ negsuc 88 ∷ negsuc 73 ∷ negsuc 20 ∷ pos 50 ∷ pos 84 ∷ pos 77 ∷ pos 42 ∷ negsuc 45 ∷ negsuc 73 ∷ negsuc 77 ∷ negsuc 59 ∷ pos 42 ∷ pos 60 ∷ pos 80 ∷ pos 74 ∷ negsuc 37 ∷ negsuc 41 ∷ negsuc 81 ∷ negsuc 83 ∷ pos 34 ∷ pos 21 ∷ pos 84 ∷ pos 89 ∷ negsuc 29 ∷ pos 0 ∷ negsuc 84 ∷ negsuc 88 ∷ pos 26 ∷ negsuc 20 ∷ pos 86 ∷ pos 84 ∷ negsuc 20 ∷ pos 42 ∷ negsuc 86 ∷ negsuc 73 ∷ pos 17 ∷ negsuc 59 ∷ pos 88 ∷ pos 60 ∷ negsuc 12 ∷ pos 74 ∷ negsuc 88 ∷ negsuc 41 ∷ pos 9 ∷ negsuc 83 ∷ pos 90 ∷ pos 21 ∷ negsuc 3 ∷ pos 89 ∷ negsuc 89 ∷
+    pos 66 ∷ pos 68 ∷ pos 56 ∷ pos 46 ∷ negsuc 73 ∷ negsuc 83 ∷ negsuc 45 ∷ negsuc 16 ∷ pos 80 ∷ pos 90 ∷ pos 34 ∷ negsuc 12 ∷ negsuc 84 ∷ negsuc 84 ∷ negsuc 20 ∷ pos 42 ∷ pos 88 ∷ pos 72 ∷ pos 9 ∷ negsuc 65 ∷ negsuc 89 ∷ negsuc 49 ∷ pos 4 ∷ pos 82 ∷ pos 89 ∷ pos 21 ∷ negsuc 16 ∷ negsuc 89 ∷ negsuc 85 ∷ pos 9 ∷ pos 30 ∷ pos 86 ∷ pos 82 ∷ negsuc 37 ∷ negsuc 41 ∷ negsuc 73 ∷ negsuc 76 ∷ pos 63 ∷ pos 53 ∷ pos 53 ∷ pos 68 ∷ negsuc 79 ∷ negsuc 62 ∷ negsuc 25 ∷ negsuc 59 ∷ pos 89 ∷ pos 72 ∷ negsuc 3 ∷ pos 50 ∷ negsuc 86 ∷ negsuc 77 ∷ pos 34 ∷ negsuc 37 ∷ pos 77 ∷ pos 84 ∷ negsuc 59 ∷ pos 26 ∷ negsuc 55 ∷ negsuc 86 ∷ pos 78 ∷ negsuc 12 ∷ pos 30 ∷ pos 90 ∷ negsuc 87 ∷
+    pos 72 ∷ pos 74 ∷ pos 34 ∷ pos 21 ∷ negsuc 88 ∷ negsuc 88 ∷ pos 13 ∷ pos 42 ∷ pos 82 ∷ pos 60 ∷ negsuc 55 ∷ negsuc 83 ∷ negsuc 52 ∷ pos 0 ∷ pos 84 ∷ pos 84 ∷ pos 9 ∷ negsuc 59 ∷ negsuc 87 ∷ negsuc 41 ∷ pos 38 ∷ pos 89 ∷ pos 68 ∷ negsuc 20 ∷ negsuc 73 ∷ negsuc 73 ∷ negsuc 29 ∷ pos 74 ∷ pos 90 ∷ pos 21 ∷ negsuc 16 ∷ negsuc 88 ∷ negsuc 79 ∷ pos 42 ∷ pos 60 ∷ pos 60 ∷ pos 50 ∷ negsuc 83 ∷ negsuc 84 ∷ pos 0 ∷ negsuc 3 ∷ pos 84 ∷ pos 87 ∷ negsuc 59 ∷ negsuc 41 ∷ negsuc 41 ∷ negsuc 65 ∷ pos 89 ∷ pos 77 ∷ negsuc 20 ∷ pos 26 ∷ negsuc 73 ∷ negsuc 89 ∷ pos 74 ∷ pos 21 ∷ pos 21 ∷ pos 78 ∷ negsuc 88 ∷ negsuc 62 ∷ pos 42 ∷ negsuc 45 ∷ pos 60 ∷ pos 86 ∷ negsuc 83 ∷
+    pos 77 ∷ pos 78 ∷ pos 9 ∷ negsuc 3 ∷ negsuc 83 ∷ negsuc 73 ∷ pos 66 ∷ pos 82 ∷ pos 26 ∷ negsuc 12 ∷ negsuc 87 ∷ negsuc 67 ∷ pos 53 ∷ pos 85 ∷ pos 42 ∷ negsuc 20 ∷ negsuc 89 ∷ negsuc 62 ∷ pos 38 ∷ pos 87 ∷ pos 56 ∷ negsuc 29 ∷ negsuc 86 ∷ negsuc 55 ∷ pos 21 ∷ pos 89 ∷ pos 68 ∷ negsuc 37 ∷ negsuc 81 ∷ negsuc 49 ∷ pos 4 ∷ pos 90 ∷ pos 78 ∷ negsuc 45 ∷ negsuc 73 ∷ negsuc 41 ∷ negsuc 12 ∷ pos 90 ∷ pos 85 ∷ negsuc 52 ∷ negsuc 62 ∷ negsuc 33 ∷ negsuc 29 ∷ pos 88 ∷ pos 89 ∷ negsuc 59 ∷ negsuc 49 ∷ negsuc 25 ∷ negsuc 45 ∷ pos 86 ∷ pos 90 ∷ negsuc 65 ∷ negsuc 33 ∷ negsuc 16 ∷ negsuc 59 ∷ pos 84 ∷ pos 86 ∷ negsuc 71 ∷ negsuc 16 ∷ negsuc 8 ∷ negsuc 71 ∷ pos 80 ∷ pos 80 ∷ negsuc 76 ∷
+    pos 80 ∷ pos 82 ∷ negsuc 16 ∷ negsuc 29 ∷ negsuc 59 ∷ negsuc 41 ∷ pos 90 ∷ pos 86 ∷ negsuc 49 ∷ negsuc 76 ∷ negsuc 29 ∷ pos 17 ∷ pos 85 ∷ pos 53 ∷ negsuc 73 ∷ negsuc 88 ∷ pos 4 ∷ pos 68 ∷ pos 68 ∷ negsuc 3 ∷ negsuc 86 ∷ negsuc 62 ∷ pos 38 ∷ pos 90 ∷ pos 42 ∷ negsuc 59 ∷ negsuc 87 ∷ negsuc 8 ∷ pos 66 ∷ pos 72 ∷ pos 9 ∷ negsuc 87 ∷ negsuc 76 ∷ pos 50 ∷ pos 84 ∷ pos 21 ∷ negsuc 25 ∷ negsuc 77 ∷ negsuc 52 ∷ pos 85 ∷ pos 90 ∷ negsuc 37 ∷ negsuc 55 ∷ negsuc 33 ∷ negsuc 20 ∷ pos 84 ∷ pos 82 ∷ negsuc 79 ∷ negsuc 77 ∷ pos 26 ∷ pos 13 ∷ pos 46 ∷ pos 63 ∷ negsuc 86 ∷ negsuc 88 ∷ pos 74 ∷ pos 46 ∷ negsuc 12 ∷ pos 34 ∷ negsuc 55 ∷ negsuc 85 ∷ pos 90 ∷ pos 72 ∷ negsuc 65 ∷
     pos 84 ∷ pos 85 ∷ negsuc 41 ∷ negsuc 52 ∷ negsuc 20 ∷ pos 0 ∷ pos 74 ∷ pos 53 ∷ negsuc 88 ∷ negsuc 84 ∷ pos 60 ∷ pos 85 ∷ pos 0 ∷ negsuc 52 ∷ negsuc 59 ∷ pos 0 ∷ pos 89 ∷ pos 53 ∷ negsuc 73 ∷ negsuc 84 ∷ pos 21 ∷ pos 85 ∷ pos 42 ∷ negsuc 52 ∷ negsuc 83 ∷ pos 0 ∷ pos 84 ∷ pos 53 ∷ negsuc 41 ∷ negsuc 84 ∷ negsuc 20 ∷ pos 85 ∷ pos 74 ∷ negsuc 52 ∷ negsuc 88 ∷ pos 0 ∷ pos 60 ∷ pos 53 ∷ pos 0 ∷ negsuc 84 ∷ negsuc 59 ∷ pos 85 ∷ pos 89 ∷ negsuc 52 ∷ negsuc 73 ∷ pos 0 ∷ pos 21 ∷ pos 53 ∷ pos 42 ∷ negsuc 84 ∷ negsuc 83 ∷ pos 85 ∷ pos 84 ∷ negsuc 52 ∷ negsuc 41 ∷ pos 0 ∷ negsuc 20 ∷ pos 53 ∷ pos 74 ∷ negsuc 84 ∷ negsuc 88 ∷ pos 85 ∷ pos 60 ∷ negsuc 52 ∷
-    pos 86 ∷ pos 88 ∷ negsuc 62 ∷ negsuc 71 ∷ pos 21 ∷ pos 42 ∷ pos 26 ∷ negsuc 3 ∷ negsuc 65 ∷ negsuc 33 ∷ pos 88 ∷ pos 66 ∷ negsuc 84 ∷ negsuc 84 ∷ pos 60 ∷ pos 89 ∷ negsuc 16 ∷ negsuc 76 ∷ negsuc 29 ∷ pos 50 ∷ pos 68 ∷ negsuc 12 ∷ negsuc 87 ∷ negsuc 25 ∷ pos 84 ∷ pos 60 ∷ negsuc 55 ∷ negsuc 81 ∷ pos 13 ∷ pos 90 ∷ pos 34 ∷ negsuc 79 ∷ negsuc 71 ∷ pos 56 ∷ pos 89 ∷ negsuc 20 ∷ negsuc 81 ∷ negsuc 16 ∷ pos 53 ∷ pos 53 ∷ negsuc 8 ∷ negsuc 77 ∷ negsuc 37 ∷ pos 90 ∷ pos 74 ∷ negsuc 83 ∷ negsuc 89 ∷ pos 63 ∷ pos 80 ∷ negsuc 29 ∷ negsuc 49 ∷ negsuc 8 ∷ pos 4 ∷ pos 45 ∷ pos 42 ∷ negsuc 73 ∷ negsuc 76 ∷ pos 88 ∷ pos 90 ∷ negsuc 85 ∷ negsuc 77 ∷ pos 68 ∷ pos 45 ∷ negsuc 37 ∷
-    pos 88 ∷ pos 89 ∷ negsuc 77 ∷ negsuc 83 ∷ pos 60 ∷ pos 74 ∷ negsuc 33 ∷ negsuc 59 ∷ pos 4 ∷ pos 42 ∷ pos 26 ∷ negsuc 20 ∷ negsuc 52 ∷ pos 0 ∷ pos 74 ∷ pos 21 ∷ negsuc 85 ∷ negsuc 41 ∷ pos 90 ∷ pos 60 ∷ negsuc 81 ∷ negsuc 73 ∷ pos 66 ∷ pos 84 ∷ negsuc 41 ∷ negsuc 88 ∷ pos 13 ∷ pos 89 ∷ pos 17 ∷ negsuc 83 ∷ negsuc 44 ∷ pos 74 ∷ pos 68 ∷ negsuc 59 ∷ negsuc 83 ∷ pos 42 ∷ pos 90 ∷ negsuc 20 ∷ negsuc 84 ∷ pos 0 ∷ pos 72 ∷ pos 21 ∷ negsuc 49 ∷ negsuc 41 ∷ pos 21 ∷ pos 60 ∷ pos 9 ∷ negsuc 73 ∷ negsuc 37 ∷ pos 84 ∷ pos 63 ∷ negsuc 88 ∷ negsuc 79 ∷ pos 89 ∷ pos 89 ∷ negsuc 83 ∷ negsuc 87 ∷ pos 74 ∷ pos 77 ∷ negsuc 59 ∷ negsuc 55 ∷ pos 42 ∷ pos 30 ∷ negsuc 20 ∷
-    pos 90 ∷ pos 90 ∷ negsuc 87 ∷ negsuc 89 ∷ pos 84 ∷ pos 89 ∷ negsuc 77 ∷ negsuc 87 ∷ pos 72 ∷ pos 88 ∷ negsuc 62 ∷ negsuc 85 ∷ pos 53 ∷ pos 85 ∷ negsuc 41 ∷ negsuc 83 ∷ pos 30 ∷ pos 82 ∷ negsuc 16 ∷ negsuc 79 ∷ pos 4 ∷ pos 78 ∷ pos 9 ∷ negsuc 76 ∷ negsuc 20 ∷ pos 74 ∷ pos 34 ∷ negsuc 71 ∷ negsuc 44 ∷ pos 68 ∷ pos 56 ∷ negsuc 65 ∷ negsuc 65 ∷ pos 63 ∷ pos 74 ∷ negsuc 59 ∷ negsuc 79 ∷ pos 56 ∷ pos 85 ∷ negsuc 52 ∷ negsuc 87 ∷ pos 50 ∷ pos 90 ∷ negsuc 44 ∷ negsuc 88 ∷ pos 42 ∷ pos 86 ∷ negsuc 37 ∷ negsuc 81 ∷ pos 34 ∷ pos 77 ∷ negsuc 29 ∷ negsuc 67 ∷ pos 26 ∷ pos 60 ∷ negsuc 20 ∷ negsuc 49 ∷ pos 17 ∷ pos 38 ∷ negsuc 12 ∷ negsuc 25 ∷ pos 9 ∷ pos 13 ∷ negsuc 3 ∷ []
+    pos 86 ∷ pos 87 ∷ negsuc 62 ∷ negsuc 71 ∷ pos 21 ∷ pos 42 ∷ pos 26 ∷ negsuc 3 ∷ negsuc 65 ∷ negsuc 33 ∷ pos 87 ∷ pos 66 ∷ negsuc 84 ∷ negsuc 84 ∷ pos 60 ∷ pos 89 ∷ negsuc 16 ∷ negsuc 76 ∷ negsuc 29 ∷ pos 50 ∷ pos 68 ∷ negsuc 12 ∷ negsuc 87 ∷ negsuc 25 ∷ pos 84 ∷ pos 60 ∷ negsuc 55 ∷ negsuc 81 ∷ pos 13 ∷ pos 90 ∷ pos 34 ∷ negsuc 79 ∷ negsuc 71 ∷ pos 56 ∷ pos 89 ∷ negsuc 20 ∷ negsuc 81 ∷ negsuc 16 ∷ pos 53 ∷ pos 53 ∷ negsuc 8 ∷ negsuc 77 ∷ negsuc 37 ∷ pos 90 ∷ pos 74 ∷ negsuc 83 ∷ negsuc 89 ∷ pos 63 ∷ pos 80 ∷ negsuc 29 ∷ negsuc 49 ∷ negsuc 8 ∷ pos 4 ∷ pos 46 ∷ pos 42 ∷ negsuc 73 ∷ negsuc 76 ∷ pos 88 ∷ pos 90 ∷ negsuc 85 ∷ negsuc 77 ∷ pos 68 ∷ pos 46 ∷ negsuc 37 ∷
+    pos 88 ∷ pos 89 ∷ negsuc 77 ∷ negsuc 83 ∷ pos 60 ∷ pos 74 ∷ negsuc 33 ∷ negsuc 59 ∷ pos 4 ∷ pos 42 ∷ pos 26 ∷ negsuc 20 ∷ negsuc 52 ∷ pos 0 ∷ pos 74 ∷ pos 21 ∷ negsuc 85 ∷ negsuc 41 ∷ pos 90 ∷ pos 60 ∷ negsuc 81 ∷ negsuc 73 ∷ pos 66 ∷ pos 84 ∷ negsuc 41 ∷ negsuc 88 ∷ pos 13 ∷ pos 89 ∷ pos 17 ∷ negsuc 83 ∷ negsuc 45 ∷ pos 74 ∷ pos 68 ∷ negsuc 59 ∷ negsuc 83 ∷ pos 42 ∷ pos 90 ∷ negsuc 20 ∷ negsuc 84 ∷ pos 0 ∷ pos 72 ∷ pos 21 ∷ negsuc 49 ∷ negsuc 41 ∷ pos 21 ∷ pos 60 ∷ pos 9 ∷ negsuc 73 ∷ negsuc 37 ∷ pos 84 ∷ pos 63 ∷ negsuc 88 ∷ negsuc 79 ∷ pos 89 ∷ pos 89 ∷ negsuc 83 ∷ negsuc 86 ∷ pos 74 ∷ pos 77 ∷ negsuc 59 ∷ negsuc 55 ∷ pos 42 ∷ pos 30 ∷ negsuc 20 ∷
+    pos 90 ∷ pos 90 ∷ negsuc 86 ∷ negsuc 89 ∷ pos 84 ∷ pos 89 ∷ negsuc 77 ∷ negsuc 87 ∷ pos 72 ∷ pos 87 ∷ negsuc 62 ∷ negsuc 85 ∷ pos 53 ∷ pos 85 ∷ negsuc 41 ∷ negsuc 83 ∷ pos 30 ∷ pos 82 ∷ negsuc 16 ∷ negsuc 79 ∷ pos 4 ∷ pos 78 ∷ pos 9 ∷ negsuc 76 ∷ negsuc 20 ∷ pos 74 ∷ pos 34 ∷ negsuc 71 ∷ negsuc 45 ∷ pos 68 ∷ pos 56 ∷ negsuc 65 ∷ negsuc 65 ∷ pos 63 ∷ pos 74 ∷ negsuc 59 ∷ negsuc 79 ∷ pos 56 ∷ pos 85 ∷ negsuc 52 ∷ negsuc 87 ∷ pos 50 ∷ pos 90 ∷ negsuc 45 ∷ negsuc 88 ∷ pos 42 ∷ pos 86 ∷ negsuc 37 ∷ negsuc 81 ∷ pos 34 ∷ pos 77 ∷ negsuc 29 ∷ negsuc 67 ∷ pos 26 ∷ pos 60 ∷ negsuc 20 ∷ negsuc 49 ∷ pos 17 ∷ pos 38 ∷ negsuc 12 ∷ negsuc 25 ∷ pos 9 ∷ pos 13 ∷ negsuc 3 ∷ []
 
 pub forward32-laid : Laid 32 16 2 64 (λ i j. S 32 j i) forward32
 unfolding S C D fold first turn cosines
@@ -241,22 +241,22 @@ forward32-laid = laid-by 32 16 (λ i j. S 32 j i) forward32 tt refl
 
 abbrev pub cosine32 : List ℤ
 cosine32 =
-    pos 90 ∷ pos 90 ∷ pos 90 ∷ pos 88 ∷ pos 89 ∷ pos 84 ∷ pos 88 ∷ pos 78 ∷ pos 88 ∷ pos 72 ∷ pos 86 ∷ pos 63 ∷ pos 85 ∷ pos 53 ∷ pos 84 ∷ pos 42 ∷ pos 82 ∷ pos 30 ∷ pos 80 ∷ pos 17 ∷ pos 78 ∷ pos 4 ∷ pos 77 ∷ negsuc 8 ∷ pos 74 ∷ negsuc 20 ∷ pos 72 ∷ negsuc 33 ∷ pos 68 ∷ negsuc 44 ∷ pos 66 ∷ negsuc 55 ∷ pos 63 ∷ negsuc 65 ∷ pos 60 ∷ negsuc 73 ∷ pos 56 ∷ negsuc 79 ∷ pos 53 ∷ negsuc 84 ∷ pos 50 ∷ negsuc 87 ∷ pos 45 ∷ negsuc 89 ∷ pos 42 ∷ negsuc 88 ∷ pos 38 ∷ negsuc 85 ∷ pos 34 ∷ negsuc 81 ∷ pos 30 ∷ negsuc 76 ∷ pos 26 ∷ negsuc 67 ∷ pos 21 ∷ negsuc 59 ∷ pos 17 ∷ negsuc 49 ∷ pos 13 ∷ negsuc 37 ∷ pos 9 ∷ negsuc 25 ∷ pos 4 ∷ negsuc 12 ∷
-    pos 89 ∷ pos 88 ∷ pos 84 ∷ pos 78 ∷ pos 74 ∷ pos 60 ∷ pos 60 ∷ pos 34 ∷ pos 42 ∷ pos 4 ∷ pos 21 ∷ negsuc 25 ∷ pos 0 ∷ negsuc 52 ∷ negsuc 20 ∷ negsuc 73 ∷ negsuc 41 ∷ negsuc 85 ∷ negsuc 59 ∷ negsuc 89 ∷ negsuc 73 ∷ negsuc 81 ∷ negsuc 83 ∷ negsuc 65 ∷ negsuc 88 ∷ negsuc 41 ∷ negsuc 88 ∷ negsuc 12 ∷ negsuc 83 ∷ pos 17 ∷ negsuc 73 ∷ pos 45 ∷ negsuc 59 ∷ pos 68 ∷ negsuc 41 ∷ pos 84 ∷ negsuc 20 ∷ pos 90 ∷ pos 0 ∷ pos 85 ∷ pos 21 ∷ pos 72 ∷ pos 42 ∷ pos 50 ∷ pos 60 ∷ pos 21 ∷ pos 74 ∷ negsuc 8 ∷ pos 84 ∷ negsuc 37 ∷ pos 89 ∷ negsuc 62 ∷ pos 89 ∷ negsuc 79 ∷ pos 84 ∷ negsuc 88 ∷ pos 74 ∷ negsuc 87 ∷ pos 60 ∷ negsuc 76 ∷ pos 42 ∷ negsuc 55 ∷ pos 21 ∷ negsuc 29 ∷
-    pos 88 ∷ pos 86 ∷ pos 72 ∷ pos 63 ∷ pos 42 ∷ pos 21 ∷ pos 4 ∷ negsuc 25 ∷ negsuc 33 ∷ negsuc 65 ∷ negsuc 65 ∷ negsuc 87 ∷ negsuc 84 ∷ negsuc 84 ∷ negsuc 88 ∷ negsuc 59 ∷ negsuc 76 ∷ negsuc 16 ∷ negsuc 49 ∷ pos 30 ∷ negsuc 12 ∷ pos 68 ∷ pos 26 ∷ pos 88 ∷ pos 60 ∷ pos 84 ∷ pos 82 ∷ pos 56 ∷ pos 90 ∷ pos 13 ∷ pos 80 ∷ negsuc 33 ∷ pos 56 ∷ negsuc 71 ∷ pos 21 ∷ negsuc 88 ∷ negsuc 16 ∷ negsuc 81 ∷ negsuc 52 ∷ negsuc 52 ∷ negsuc 77 ∷ negsuc 8 ∷ negsuc 89 ∷ pos 38 ∷ negsuc 83 ∷ pos 74 ∷ negsuc 62 ∷ pos 90 ∷ negsuc 29 ∷ pos 80 ∷ pos 9 ∷ pos 50 ∷ pos 45 ∷ pos 4 ∷ pos 74 ∷ negsuc 41 ∷ pos 88 ∷ negsuc 76 ∷ pos 86 ∷ negsuc 89 ∷ pos 68 ∷ negsuc 77 ∷ pos 38 ∷ negsuc 44 ∷
+    pos 90 ∷ pos 90 ∷ pos 90 ∷ pos 87 ∷ pos 89 ∷ pos 84 ∷ pos 88 ∷ pos 78 ∷ pos 87 ∷ pos 72 ∷ pos 86 ∷ pos 63 ∷ pos 85 ∷ pos 53 ∷ pos 84 ∷ pos 42 ∷ pos 82 ∷ pos 30 ∷ pos 80 ∷ pos 17 ∷ pos 78 ∷ pos 4 ∷ pos 77 ∷ negsuc 8 ∷ pos 74 ∷ negsuc 20 ∷ pos 72 ∷ negsuc 33 ∷ pos 68 ∷ negsuc 45 ∷ pos 66 ∷ negsuc 55 ∷ pos 63 ∷ negsuc 65 ∷ pos 60 ∷ negsuc 73 ∷ pos 56 ∷ negsuc 79 ∷ pos 53 ∷ negsuc 84 ∷ pos 50 ∷ negsuc 87 ∷ pos 46 ∷ negsuc 89 ∷ pos 42 ∷ negsuc 88 ∷ pos 38 ∷ negsuc 85 ∷ pos 34 ∷ negsuc 81 ∷ pos 30 ∷ negsuc 76 ∷ pos 26 ∷ negsuc 67 ∷ pos 21 ∷ negsuc 59 ∷ pos 17 ∷ negsuc 49 ∷ pos 13 ∷ negsuc 37 ∷ pos 9 ∷ negsuc 25 ∷ pos 4 ∷ negsuc 12 ∷
+    pos 89 ∷ pos 88 ∷ pos 84 ∷ pos 78 ∷ pos 74 ∷ pos 60 ∷ pos 60 ∷ pos 34 ∷ pos 42 ∷ pos 4 ∷ pos 21 ∷ negsuc 25 ∷ pos 0 ∷ negsuc 52 ∷ negsuc 20 ∷ negsuc 73 ∷ negsuc 41 ∷ negsuc 85 ∷ negsuc 59 ∷ negsuc 89 ∷ negsuc 73 ∷ negsuc 81 ∷ negsuc 83 ∷ negsuc 65 ∷ negsuc 88 ∷ negsuc 41 ∷ negsuc 88 ∷ negsuc 12 ∷ negsuc 83 ∷ pos 17 ∷ negsuc 73 ∷ pos 46 ∷ negsuc 59 ∷ pos 68 ∷ negsuc 41 ∷ pos 84 ∷ negsuc 20 ∷ pos 90 ∷ pos 0 ∷ pos 85 ∷ pos 21 ∷ pos 72 ∷ pos 42 ∷ pos 50 ∷ pos 60 ∷ pos 21 ∷ pos 74 ∷ negsuc 8 ∷ pos 84 ∷ negsuc 37 ∷ pos 89 ∷ negsuc 62 ∷ pos 89 ∷ negsuc 79 ∷ pos 84 ∷ negsuc 88 ∷ pos 74 ∷ negsuc 86 ∷ pos 60 ∷ negsuc 76 ∷ pos 42 ∷ negsuc 55 ∷ pos 21 ∷ negsuc 29 ∷
+    pos 87 ∷ pos 86 ∷ pos 72 ∷ pos 63 ∷ pos 42 ∷ pos 21 ∷ pos 4 ∷ negsuc 25 ∷ negsuc 33 ∷ negsuc 65 ∷ negsuc 65 ∷ negsuc 86 ∷ negsuc 84 ∷ negsuc 84 ∷ negsuc 88 ∷ negsuc 59 ∷ negsuc 76 ∷ negsuc 16 ∷ negsuc 49 ∷ pos 30 ∷ negsuc 12 ∷ pos 68 ∷ pos 26 ∷ pos 88 ∷ pos 60 ∷ pos 84 ∷ pos 82 ∷ pos 56 ∷ pos 90 ∷ pos 13 ∷ pos 80 ∷ negsuc 33 ∷ pos 56 ∷ negsuc 71 ∷ pos 21 ∷ negsuc 88 ∷ negsuc 16 ∷ negsuc 81 ∷ negsuc 52 ∷ negsuc 52 ∷ negsuc 77 ∷ negsuc 8 ∷ negsuc 89 ∷ pos 38 ∷ negsuc 83 ∷ pos 74 ∷ negsuc 62 ∷ pos 90 ∷ negsuc 29 ∷ pos 80 ∷ pos 9 ∷ pos 50 ∷ pos 46 ∷ pos 4 ∷ pos 74 ∷ negsuc 41 ∷ pos 88 ∷ negsuc 76 ∷ pos 86 ∷ negsuc 89 ∷ pos 68 ∷ negsuc 77 ∷ pos 38 ∷ negsuc 45 ∷
     pos 85 ∷ pos 84 ∷ pos 53 ∷ pos 42 ∷ pos 0 ∷ negsuc 20 ∷ negsuc 52 ∷ negsuc 73 ∷ negsuc 84 ∷ negsuc 88 ∷ negsuc 84 ∷ negsuc 59 ∷ negsuc 52 ∷ pos 0 ∷ pos 0 ∷ pos 60 ∷ pos 53 ∷ pos 89 ∷ pos 85 ∷ pos 74 ∷ pos 85 ∷ pos 21 ∷ pos 53 ∷ negsuc 41 ∷ pos 0 ∷ negsuc 83 ∷ negsuc 52 ∷ negsuc 83 ∷ negsuc 84 ∷ negsuc 41 ∷ negsuc 84 ∷ pos 21 ∷ negsuc 52 ∷ pos 74 ∷ pos 0 ∷ pos 89 ∷ pos 53 ∷ pos 60 ∷ pos 85 ∷ pos 0 ∷ pos 85 ∷ negsuc 59 ∷ pos 53 ∷ negsuc 88 ∷ pos 0 ∷ negsuc 73 ∷ negsuc 52 ∷ negsuc 20 ∷ negsuc 84 ∷ pos 42 ∷ negsuc 84 ∷ pos 84 ∷ negsuc 52 ∷ pos 84 ∷ pos 0 ∷ pos 42 ∷ pos 53 ∷ negsuc 20 ∷ pos 85 ∷ negsuc 73 ∷ pos 85 ∷ negsuc 88 ∷ pos 53 ∷ negsuc 59 ∷
-    pos 82 ∷ pos 80 ∷ pos 30 ∷ pos 17 ∷ negsuc 41 ∷ negsuc 59 ∷ negsuc 85 ∷ negsuc 89 ∷ negsuc 76 ∷ negsuc 49 ∷ negsuc 16 ∷ pos 30 ∷ pos 53 ∷ pos 85 ∷ pos 89 ∷ pos 74 ∷ pos 68 ∷ pos 4 ∷ pos 4 ∷ negsuc 67 ∷ negsuc 62 ∷ negsuc 87 ∷ negsuc 89 ∷ negsuc 37 ∷ negsuc 59 ∷ pos 42 ∷ pos 9 ∷ pos 88 ∷ pos 72 ∷ pos 66 ∷ pos 88 ∷ negsuc 8 ∷ pos 50 ∷ negsuc 76 ∷ negsuc 20 ∷ negsuc 83 ∷ negsuc 77 ∷ negsuc 25 ∷ negsuc 84 ∷ pos 53 ∷ negsuc 37 ∷ pos 90 ∷ pos 34 ∷ pos 56 ∷ pos 84 ∷ negsuc 20 ∷ pos 80 ∷ negsuc 81 ∷ pos 26 ∷ negsuc 77 ∷ negsuc 44 ∷ negsuc 12 ∷ negsuc 87 ∷ pos 63 ∷ negsuc 73 ∷ pos 89 ∷ negsuc 12 ∷ pos 45 ∷ pos 56 ∷ negsuc 33 ∷ pos 90 ∷ negsuc 85 ∷ pos 66 ∷ negsuc 71 ∷
-    pos 78 ∷ pos 77 ∷ pos 4 ∷ negsuc 8 ∷ negsuc 73 ∷ negsuc 83 ∷ negsuc 81 ∷ negsuc 65 ∷ negsuc 12 ∷ pos 26 ∷ pos 68 ∷ pos 88 ∷ pos 85 ∷ pos 53 ∷ pos 21 ∷ negsuc 41 ∷ negsuc 62 ∷ negsuc 89 ∷ negsuc 87 ∷ negsuc 37 ∷ negsuc 29 ∷ pos 56 ∷ pos 56 ∷ pos 88 ∷ pos 89 ∷ pos 21 ∷ pos 38 ∷ negsuc 67 ∷ negsuc 49 ∷ negsuc 81 ∷ negsuc 89 ∷ negsuc 3 ∷ negsuc 44 ∷ pos 78 ∷ pos 42 ∷ pos 74 ∷ pos 90 ∷ negsuc 12 ∷ pos 53 ∷ negsuc 84 ∷ negsuc 33 ∷ negsuc 62 ∷ negsuc 87 ∷ pos 30 ∷ negsuc 59 ∷ pos 89 ∷ pos 26 ∷ pos 50 ∷ pos 86 ∷ negsuc 44 ∷ pos 66 ∷ negsuc 89 ∷ negsuc 16 ∷ negsuc 33 ∷ negsuc 83 ∷ pos 60 ∷ negsuc 71 ∷ pos 86 ∷ pos 9 ∷ pos 17 ∷ pos 80 ∷ negsuc 71 ∷ pos 77 ∷ negsuc 79 ∷
-    pos 74 ∷ pos 72 ∷ negsuc 20 ∷ negsuc 33 ∷ negsuc 88 ∷ negsuc 88 ∷ negsuc 41 ∷ negsuc 12 ∷ pos 60 ∷ pos 82 ∷ pos 84 ∷ pos 56 ∷ pos 0 ∷ negsuc 52 ∷ negsuc 83 ∷ negsuc 83 ∷ negsuc 59 ∷ pos 9 ∷ pos 42 ∷ pos 88 ∷ pos 89 ∷ pos 38 ∷ pos 21 ∷ negsuc 67 ∷ negsuc 73 ∷ negsuc 73 ∷ negsuc 73 ∷ pos 30 ∷ pos 21 ∷ pos 90 ∷ pos 89 ∷ pos 17 ∷ pos 42 ∷ negsuc 79 ∷ negsuc 59 ∷ negsuc 59 ∷ negsuc 83 ∷ pos 50 ∷ pos 0 ∷ pos 85 ∷ pos 84 ∷ negsuc 3 ∷ pos 60 ∷ negsuc 87 ∷ negsuc 41 ∷ negsuc 41 ∷ negsuc 88 ∷ pos 66 ∷ negsuc 20 ∷ pos 77 ∷ pos 74 ∷ negsuc 25 ∷ pos 74 ∷ negsuc 89 ∷ negsuc 20 ∷ negsuc 20 ∷ negsuc 88 ∷ pos 78 ∷ negsuc 41 ∷ pos 63 ∷ pos 60 ∷ negsuc 44 ∷ pos 84 ∷ negsuc 85 ∷
-    pos 68 ∷ pos 66 ∷ negsuc 44 ∷ negsuc 55 ∷ negsuc 83 ∷ negsuc 73 ∷ pos 17 ∷ pos 45 ∷ pos 90 ∷ pos 80 ∷ pos 13 ∷ negsuc 33 ∷ negsuc 84 ∷ negsuc 84 ∷ negsuc 41 ∷ pos 21 ∷ pos 72 ∷ pos 88 ∷ pos 66 ∷ negsuc 8 ∷ negsuc 49 ∷ negsuc 89 ∷ negsuc 81 ∷ negsuc 3 ∷ pos 21 ∷ pos 89 ∷ pos 90 ∷ pos 17 ∷ pos 9 ∷ negsuc 85 ∷ negsuc 85 ∷ negsuc 29 ∷ negsuc 37 ∷ pos 82 ∷ pos 74 ∷ pos 42 ∷ pos 63 ∷ negsuc 76 ∷ negsuc 52 ∷ negsuc 52 ∷ negsuc 79 ∷ pos 68 ∷ pos 26 ∷ pos 63 ∷ pos 89 ∷ negsuc 59 ∷ pos 4 ∷ negsuc 71 ∷ negsuc 87 ∷ pos 50 ∷ negsuc 33 ∷ pos 78 ∷ pos 77 ∷ negsuc 37 ∷ pos 60 ∷ negsuc 83 ∷ negsuc 55 ∷ pos 26 ∷ negsuc 77 ∷ pos 88 ∷ pos 30 ∷ negsuc 12 ∷ pos 88 ∷ negsuc 89 ∷
-    pos 63 ∷ pos 60 ∷ negsuc 65 ∷ negsuc 73 ∷ negsuc 59 ∷ negsuc 41 ∷ pos 68 ∷ pos 84 ∷ pos 56 ∷ pos 21 ∷ negsuc 71 ∷ negsuc 88 ∷ negsuc 52 ∷ pos 0 ∷ pos 74 ∷ pos 89 ∷ pos 50 ∷ negsuc 20 ∷ negsuc 76 ∷ negsuc 83 ∷ negsuc 44 ∷ pos 42 ∷ pos 78 ∷ pos 74 ∷ pos 42 ∷ negsuc 59 ∷ negsuc 79 ∷ negsuc 59 ∷ negsuc 37 ∷ pos 74 ∷ pos 82 ∷ pos 42 ∷ pos 34 ∷ negsuc 83 ∷ negsuc 83 ∷ negsuc 20 ∷ negsuc 29 ∷ pos 89 ∷ pos 85 ∷ pos 0 ∷ pos 26 ∷ negsuc 88 ∷ negsuc 85 ∷ pos 21 ∷ negsuc 20 ∷ pos 84 ∷ pos 88 ∷ negsuc 41 ∷ pos 17 ∷ negsuc 73 ∷ negsuc 87 ∷ pos 60 ∷ negsuc 12 ∷ pos 60 ∷ pos 89 ∷ negsuc 73 ∷ pos 9 ∷ negsuc 41 ∷ negsuc 89 ∷ pos 84 ∷ negsuc 3 ∷ pos 21 ∷ pos 90 ∷ negsuc 88 ∷
-    pos 56 ∷ pos 53 ∷ negsuc 79 ∷ negsuc 84 ∷ negsuc 20 ∷ pos 0 ∷ pos 90 ∷ pos 85 ∷ negsuc 16 ∷ negsuc 52 ∷ negsuc 81 ∷ negsuc 52 ∷ pos 53 ∷ pos 85 ∷ pos 60 ∷ pos 0 ∷ negsuc 77 ∷ negsuc 84 ∷ negsuc 25 ∷ pos 53 ∷ pos 90 ∷ pos 53 ∷ negsuc 12 ∷ negsuc 84 ∷ negsuc 83 ∷ pos 0 ∷ pos 50 ∷ pos 85 ∷ pos 63 ∷ negsuc 52 ∷ negsuc 76 ∷ negsuc 52 ∷ negsuc 29 ∷ pos 85 ∷ pos 89 ∷ pos 0 ∷ negsuc 8 ∷ negsuc 84 ∷ negsuc 84 ∷ pos 53 ∷ pos 45 ∷ pos 53 ∷ pos 66 ∷ negsuc 84 ∷ negsuc 73 ∷ pos 0 ∷ negsuc 33 ∷ pos 85 ∷ pos 88 ∷ negsuc 52 ∷ negsuc 3 ∷ negsuc 52 ∷ negsuc 85 ∷ pos 85 ∷ pos 42 ∷ pos 0 ∷ pos 68 ∷ negsuc 84 ∷ negsuc 71 ∷ pos 53 ∷ negsuc 37 ∷ pos 53 ∷ pos 88 ∷ negsuc 84 ∷
-    pos 50 ∷ pos 45 ∷ negsuc 87 ∷ negsuc 89 ∷ pos 21 ∷ pos 42 ∷ pos 72 ∷ pos 50 ∷ negsuc 77 ∷ negsuc 89 ∷ negsuc 8 ∷ pos 38 ∷ pos 85 ∷ pos 53 ∷ negsuc 59 ∷ negsuc 88 ∷ negsuc 37 ∷ pos 34 ∷ pos 90 ∷ pos 56 ∷ negsuc 33 ∷ negsuc 87 ∷ negsuc 62 ∷ pos 30 ∷ pos 84 ∷ pos 60 ∷ negsuc 3 ∷ negsuc 87 ∷ negsuc 79 ∷ pos 26 ∷ pos 68 ∷ pos 63 ∷ pos 26 ∷ negsuc 85 ∷ negsuc 88 ∷ pos 21 ∷ pos 45 ∷ pos 66 ∷ pos 53 ∷ negsuc 84 ∷ negsuc 87 ∷ pos 17 ∷ pos 17 ∷ pos 68 ∷ pos 74 ∷ negsuc 83 ∷ negsuc 76 ∷ pos 13 ∷ negsuc 12 ∷ pos 72 ∷ pos 86 ∷ negsuc 81 ∷ negsuc 55 ∷ pos 9 ∷ negsuc 41 ∷ pos 74 ∷ pos 90 ∷ negsuc 79 ∷ negsuc 29 ∷ pos 4 ∷ negsuc 65 ∷ pos 77 ∷ pos 82 ∷ negsuc 77 ∷
-    pos 42 ∷ pos 38 ∷ negsuc 88 ∷ negsuc 85 ∷ pos 60 ∷ pos 74 ∷ pos 21 ∷ negsuc 8 ∷ negsuc 83 ∷ negsuc 62 ∷ pos 74 ∷ pos 90 ∷ pos 0 ∷ negsuc 52 ∷ negsuc 73 ∷ negsuc 20 ∷ pos 84 ∷ pos 80 ∷ negsuc 20 ∷ negsuc 81 ∷ negsuc 59 ∷ pos 26 ∷ pos 89 ∷ pos 50 ∷ negsuc 41 ∷ negsuc 88 ∷ negsuc 41 ∷ pos 66 ∷ pos 89 ∷ pos 4 ∷ negsuc 59 ∷ negsuc 71 ∷ negsuc 20 ∷ pos 88 ∷ pos 84 ∷ negsuc 41 ∷ negsuc 73 ∷ negsuc 33 ∷ pos 0 ∷ pos 85 ∷ pos 74 ∷ negsuc 76 ∷ negsuc 83 ∷ pos 13 ∷ pos 21 ∷ pos 60 ∷ pos 60 ∷ negsuc 89 ∷ negsuc 88 ∷ pos 56 ∷ pos 42 ∷ pos 17 ∷ pos 42 ∷ negsuc 77 ∷ negsuc 88 ∷ pos 84 ∷ pos 60 ∷ negsuc 29 ∷ pos 21 ∷ negsuc 44 ∷ negsuc 83 ∷ pos 88 ∷ pos 74 ∷ negsuc 67 ∷
-    pos 34 ∷ pos 30 ∷ negsuc 81 ∷ negsuc 76 ∷ pos 84 ∷ pos 89 ∷ negsuc 37 ∷ negsuc 62 ∷ negsuc 29 ∷ pos 9 ∷ pos 80 ∷ pos 50 ∷ negsuc 84 ∷ negsuc 84 ∷ pos 42 ∷ pos 84 ∷ pos 26 ∷ negsuc 44 ∷ negsuc 77 ∷ negsuc 12 ∷ pos 86 ∷ pos 66 ∷ negsuc 44 ∷ negsuc 89 ∷ negsuc 20 ∷ pos 74 ∷ pos 77 ∷ negsuc 25 ∷ negsuc 87 ∷ negsuc 33 ∷ pos 50 ∷ pos 78 ∷ pos 17 ∷ negsuc 87 ∷ negsuc 73 ∷ pos 60 ∷ pos 88 ∷ negsuc 3 ∷ negsuc 52 ∷ negsuc 52 ∷ negsuc 12 ∷ pos 86 ∷ pos 72 ∷ negsuc 81 ∷ negsuc 88 ∷ pos 42 ∷ pos 56 ∷ pos 17 ∷ pos 9 ∷ negsuc 67 ∷ negsuc 67 ∷ pos 90 ∷ pos 90 ∷ negsuc 71 ∷ negsuc 59 ∷ pos 21 ∷ negsuc 3 ∷ pos 38 ∷ pos 66 ∷ negsuc 79 ∷ negsuc 89 ∷ pos 88 ∷ pos 63 ∷ negsuc 55 ∷
-    pos 26 ∷ pos 21 ∷ negsuc 67 ∷ negsuc 59 ∷ pos 89 ∷ pos 84 ∷ negsuc 79 ∷ negsuc 88 ∷ pos 45 ∷ pos 74 ∷ pos 4 ∷ negsuc 41 ∷ negsuc 52 ∷ pos 0 ∷ pos 84 ∷ pos 42 ∷ negsuc 87 ∷ negsuc 73 ∷ pos 63 ∷ pos 89 ∷ negsuc 16 ∷ negsuc 83 ∷ negsuc 33 ∷ pos 60 ∷ pos 74 ∷ negsuc 20 ∷ negsuc 89 ∷ negsuc 20 ∷ pos 77 ∷ pos 60 ∷ negsuc 37 ∷ negsuc 83 ∷ negsuc 12 ∷ pos 89 ∷ pos 60 ∷ negsuc 73 ∷ negsuc 85 ∷ pos 42 ∷ pos 85 ∷ pos 0 ∷ negsuc 55 ∷ negsuc 41 ∷ pos 9 ∷ pos 74 ∷ pos 42 ∷ negsuc 88 ∷ negsuc 77 ∷ pos 84 ∷ pos 90 ∷ negsuc 59 ∷ negsuc 71 ∷ pos 21 ∷ pos 30 ∷ pos 21 ∷ pos 21 ∷ negsuc 59 ∷ negsuc 65 ∷ pos 84 ∷ pos 88 ∷ negsuc 88 ∷ negsuc 81 ∷ pos 74 ∷ pos 50 ∷ negsuc 41 ∷
-    pos 17 ∷ pos 13 ∷ negsuc 49 ∷ negsuc 37 ∷ pos 74 ∷ pos 60 ∷ negsuc 87 ∷ negsuc 76 ∷ pos 88 ∷ pos 86 ∷ negsuc 76 ∷ negsuc 89 ∷ pos 53 ∷ pos 85 ∷ negsuc 20 ∷ negsuc 73 ∷ negsuc 12 ∷ pos 56 ∷ pos 45 ∷ negsuc 33 ∷ negsuc 71 ∷ pos 9 ∷ pos 86 ∷ pos 17 ∷ negsuc 88 ∷ negsuc 41 ∷ pos 78 ∷ pos 63 ∷ negsuc 55 ∷ negsuc 77 ∷ pos 26 ∷ pos 88 ∷ pos 9 ∷ negsuc 89 ∷ negsuc 41 ∷ pos 84 ∷ pos 68 ∷ negsuc 71 ∷ negsuc 84 ∷ pos 53 ∷ pos 90 ∷ negsuc 29 ∷ negsuc 79 ∷ pos 4 ∷ pos 60 ∷ pos 21 ∷ negsuc 29 ∷ negsuc 44 ∷ negsuc 3 ∷ pos 66 ∷ pos 38 ∷ negsuc 79 ∷ negsuc 65 ∷ pos 88 ∷ pos 84 ∷ negsuc 88 ∷ negsuc 89 ∷ pos 82 ∷ pos 82 ∷ negsuc 67 ∷ negsuc 62 ∷ pos 50 ∷ pos 34 ∷ negsuc 25 ∷
-    pos 9 ∷ pos 4 ∷ negsuc 25 ∷ negsuc 12 ∷ pos 42 ∷ pos 21 ∷ negsuc 55 ∷ negsuc 29 ∷ pos 68 ∷ pos 38 ∷ negsuc 77 ∷ negsuc 44 ∷ pos 85 ∷ pos 53 ∷ negsuc 88 ∷ negsuc 59 ∷ pos 90 ∷ pos 66 ∷ negsuc 85 ∷ negsuc 71 ∷ pos 80 ∷ pos 77 ∷ negsuc 71 ∷ negsuc 79 ∷ pos 60 ∷ pos 84 ∷ negsuc 44 ∷ negsuc 85 ∷ pos 30 ∷ pos 88 ∷ negsuc 12 ∷ negsuc 89 ∷ negsuc 3 ∷ pos 90 ∷ pos 21 ∷ negsuc 88 ∷ negsuc 37 ∷ pos 88 ∷ pos 53 ∷ negsuc 84 ∷ negsuc 65 ∷ pos 82 ∷ pos 77 ∷ negsuc 77 ∷ negsuc 83 ∷ pos 74 ∷ pos 88 ∷ negsuc 67 ∷ negsuc 89 ∷ pos 63 ∷ pos 88 ∷ negsuc 55 ∷ negsuc 81 ∷ pos 50 ∷ pos 74 ∷ negsuc 41 ∷ negsuc 62 ∷ pos 34 ∷ pos 50 ∷ negsuc 25 ∷ negsuc 33 ∷ pos 17 ∷ pos 17 ∷ negsuc 8 ∷ []
+    pos 82 ∷ pos 80 ∷ pos 30 ∷ pos 17 ∷ negsuc 41 ∷ negsuc 59 ∷ negsuc 85 ∷ negsuc 89 ∷ negsuc 76 ∷ negsuc 49 ∷ negsuc 16 ∷ pos 30 ∷ pos 53 ∷ pos 85 ∷ pos 89 ∷ pos 74 ∷ pos 68 ∷ pos 4 ∷ pos 4 ∷ negsuc 67 ∷ negsuc 62 ∷ negsuc 86 ∷ negsuc 89 ∷ negsuc 37 ∷ negsuc 59 ∷ pos 42 ∷ pos 9 ∷ pos 88 ∷ pos 72 ∷ pos 66 ∷ pos 88 ∷ negsuc 8 ∷ pos 50 ∷ negsuc 76 ∷ negsuc 20 ∷ negsuc 83 ∷ negsuc 77 ∷ negsuc 25 ∷ negsuc 84 ∷ pos 53 ∷ negsuc 37 ∷ pos 90 ∷ pos 34 ∷ pos 56 ∷ pos 84 ∷ negsuc 20 ∷ pos 80 ∷ negsuc 81 ∷ pos 26 ∷ negsuc 77 ∷ negsuc 45 ∷ negsuc 12 ∷ negsuc 86 ∷ pos 63 ∷ negsuc 73 ∷ pos 89 ∷ negsuc 12 ∷ pos 46 ∷ pos 56 ∷ negsuc 33 ∷ pos 90 ∷ negsuc 85 ∷ pos 66 ∷ negsuc 71 ∷
+    pos 78 ∷ pos 77 ∷ pos 4 ∷ negsuc 8 ∷ negsuc 73 ∷ negsuc 83 ∷ negsuc 81 ∷ negsuc 65 ∷ negsuc 12 ∷ pos 26 ∷ pos 68 ∷ pos 88 ∷ pos 85 ∷ pos 53 ∷ pos 21 ∷ negsuc 41 ∷ negsuc 62 ∷ negsuc 89 ∷ negsuc 86 ∷ negsuc 37 ∷ negsuc 29 ∷ pos 56 ∷ pos 56 ∷ pos 87 ∷ pos 89 ∷ pos 21 ∷ pos 38 ∷ negsuc 67 ∷ negsuc 49 ∷ negsuc 81 ∷ negsuc 89 ∷ negsuc 3 ∷ negsuc 45 ∷ pos 78 ∷ pos 42 ∷ pos 74 ∷ pos 90 ∷ negsuc 12 ∷ pos 53 ∷ negsuc 84 ∷ negsuc 33 ∷ negsuc 62 ∷ negsuc 87 ∷ pos 30 ∷ negsuc 59 ∷ pos 89 ∷ pos 26 ∷ pos 50 ∷ pos 86 ∷ negsuc 45 ∷ pos 66 ∷ negsuc 89 ∷ negsuc 16 ∷ negsuc 33 ∷ negsuc 83 ∷ pos 60 ∷ negsuc 71 ∷ pos 86 ∷ pos 9 ∷ pos 17 ∷ pos 80 ∷ negsuc 71 ∷ pos 77 ∷ negsuc 79 ∷
+    pos 74 ∷ pos 72 ∷ negsuc 20 ∷ negsuc 33 ∷ negsuc 88 ∷ negsuc 88 ∷ negsuc 41 ∷ negsuc 12 ∷ pos 60 ∷ pos 82 ∷ pos 84 ∷ pos 56 ∷ pos 0 ∷ negsuc 52 ∷ negsuc 83 ∷ negsuc 83 ∷ negsuc 59 ∷ pos 9 ∷ pos 42 ∷ pos 88 ∷ pos 89 ∷ pos 38 ∷ pos 21 ∷ negsuc 67 ∷ negsuc 73 ∷ negsuc 73 ∷ negsuc 73 ∷ pos 30 ∷ pos 21 ∷ pos 90 ∷ pos 89 ∷ pos 17 ∷ pos 42 ∷ negsuc 79 ∷ negsuc 59 ∷ negsuc 59 ∷ negsuc 83 ∷ pos 50 ∷ pos 0 ∷ pos 85 ∷ pos 84 ∷ negsuc 3 ∷ pos 60 ∷ negsuc 86 ∷ negsuc 41 ∷ negsuc 41 ∷ negsuc 88 ∷ pos 66 ∷ negsuc 20 ∷ pos 77 ∷ pos 74 ∷ negsuc 25 ∷ pos 74 ∷ negsuc 89 ∷ negsuc 20 ∷ negsuc 20 ∷ negsuc 88 ∷ pos 78 ∷ negsuc 41 ∷ pos 63 ∷ pos 60 ∷ negsuc 45 ∷ pos 84 ∷ negsuc 85 ∷
+    pos 68 ∷ pos 66 ∷ negsuc 45 ∷ negsuc 55 ∷ negsuc 83 ∷ negsuc 73 ∷ pos 17 ∷ pos 46 ∷ pos 90 ∷ pos 80 ∷ pos 13 ∷ negsuc 33 ∷ negsuc 84 ∷ negsuc 84 ∷ negsuc 41 ∷ pos 21 ∷ pos 72 ∷ pos 88 ∷ pos 66 ∷ negsuc 8 ∷ negsuc 49 ∷ negsuc 89 ∷ negsuc 81 ∷ negsuc 3 ∷ pos 21 ∷ pos 89 ∷ pos 90 ∷ pos 17 ∷ pos 9 ∷ negsuc 85 ∷ negsuc 85 ∷ negsuc 29 ∷ negsuc 37 ∷ pos 82 ∷ pos 74 ∷ pos 42 ∷ pos 63 ∷ negsuc 76 ∷ negsuc 52 ∷ negsuc 52 ∷ negsuc 79 ∷ pos 68 ∷ pos 26 ∷ pos 63 ∷ pos 89 ∷ negsuc 59 ∷ pos 4 ∷ negsuc 71 ∷ negsuc 86 ∷ pos 50 ∷ negsuc 33 ∷ pos 78 ∷ pos 77 ∷ negsuc 37 ∷ pos 60 ∷ negsuc 83 ∷ negsuc 55 ∷ pos 26 ∷ negsuc 77 ∷ pos 87 ∷ pos 30 ∷ negsuc 12 ∷ pos 88 ∷ negsuc 89 ∷
+    pos 63 ∷ pos 60 ∷ negsuc 65 ∷ negsuc 73 ∷ negsuc 59 ∷ negsuc 41 ∷ pos 68 ∷ pos 84 ∷ pos 56 ∷ pos 21 ∷ negsuc 71 ∷ negsuc 88 ∷ negsuc 52 ∷ pos 0 ∷ pos 74 ∷ pos 89 ∷ pos 50 ∷ negsuc 20 ∷ negsuc 76 ∷ negsuc 83 ∷ negsuc 45 ∷ pos 42 ∷ pos 78 ∷ pos 74 ∷ pos 42 ∷ negsuc 59 ∷ negsuc 79 ∷ negsuc 59 ∷ negsuc 37 ∷ pos 74 ∷ pos 82 ∷ pos 42 ∷ pos 34 ∷ negsuc 83 ∷ negsuc 83 ∷ negsuc 20 ∷ negsuc 29 ∷ pos 89 ∷ pos 85 ∷ pos 0 ∷ pos 26 ∷ negsuc 88 ∷ negsuc 85 ∷ pos 21 ∷ negsuc 20 ∷ pos 84 ∷ pos 87 ∷ negsuc 41 ∷ pos 17 ∷ negsuc 73 ∷ negsuc 87 ∷ pos 60 ∷ negsuc 12 ∷ pos 60 ∷ pos 89 ∷ negsuc 73 ∷ pos 9 ∷ negsuc 41 ∷ negsuc 89 ∷ pos 84 ∷ negsuc 3 ∷ pos 21 ∷ pos 90 ∷ negsuc 88 ∷
+    pos 56 ∷ pos 53 ∷ negsuc 79 ∷ negsuc 84 ∷ negsuc 20 ∷ pos 0 ∷ pos 90 ∷ pos 85 ∷ negsuc 16 ∷ negsuc 52 ∷ negsuc 81 ∷ negsuc 52 ∷ pos 53 ∷ pos 85 ∷ pos 60 ∷ pos 0 ∷ negsuc 77 ∷ negsuc 84 ∷ negsuc 25 ∷ pos 53 ∷ pos 90 ∷ pos 53 ∷ negsuc 12 ∷ negsuc 84 ∷ negsuc 83 ∷ pos 0 ∷ pos 50 ∷ pos 85 ∷ pos 63 ∷ negsuc 52 ∷ negsuc 76 ∷ negsuc 52 ∷ negsuc 29 ∷ pos 85 ∷ pos 89 ∷ pos 0 ∷ negsuc 8 ∷ negsuc 84 ∷ negsuc 84 ∷ pos 53 ∷ pos 46 ∷ pos 53 ∷ pos 66 ∷ negsuc 84 ∷ negsuc 73 ∷ pos 0 ∷ negsuc 33 ∷ pos 85 ∷ pos 88 ∷ negsuc 52 ∷ negsuc 3 ∷ negsuc 52 ∷ negsuc 85 ∷ pos 85 ∷ pos 42 ∷ pos 0 ∷ pos 68 ∷ negsuc 84 ∷ negsuc 71 ∷ pos 53 ∷ negsuc 37 ∷ pos 53 ∷ pos 87 ∷ negsuc 84 ∷
+    pos 50 ∷ pos 46 ∷ negsuc 87 ∷ negsuc 89 ∷ pos 21 ∷ pos 42 ∷ pos 72 ∷ pos 50 ∷ negsuc 77 ∷ negsuc 89 ∷ negsuc 8 ∷ pos 38 ∷ pos 85 ∷ pos 53 ∷ negsuc 59 ∷ negsuc 88 ∷ negsuc 37 ∷ pos 34 ∷ pos 90 ∷ pos 56 ∷ negsuc 33 ∷ negsuc 87 ∷ negsuc 62 ∷ pos 30 ∷ pos 84 ∷ pos 60 ∷ negsuc 3 ∷ negsuc 86 ∷ negsuc 79 ∷ pos 26 ∷ pos 68 ∷ pos 63 ∷ pos 26 ∷ negsuc 85 ∷ negsuc 88 ∷ pos 21 ∷ pos 46 ∷ pos 66 ∷ pos 53 ∷ negsuc 84 ∷ negsuc 86 ∷ pos 17 ∷ pos 17 ∷ pos 68 ∷ pos 74 ∷ negsuc 83 ∷ negsuc 76 ∷ pos 13 ∷ negsuc 12 ∷ pos 72 ∷ pos 86 ∷ negsuc 81 ∷ negsuc 55 ∷ pos 9 ∷ negsuc 41 ∷ pos 74 ∷ pos 90 ∷ negsuc 79 ∷ negsuc 29 ∷ pos 4 ∷ negsuc 65 ∷ pos 77 ∷ pos 82 ∷ negsuc 77 ∷
+    pos 42 ∷ pos 38 ∷ negsuc 88 ∷ negsuc 85 ∷ pos 60 ∷ pos 74 ∷ pos 21 ∷ negsuc 8 ∷ negsuc 83 ∷ negsuc 62 ∷ pos 74 ∷ pos 90 ∷ pos 0 ∷ negsuc 52 ∷ negsuc 73 ∷ negsuc 20 ∷ pos 84 ∷ pos 80 ∷ negsuc 20 ∷ negsuc 81 ∷ negsuc 59 ∷ pos 26 ∷ pos 89 ∷ pos 50 ∷ negsuc 41 ∷ negsuc 88 ∷ negsuc 41 ∷ pos 66 ∷ pos 89 ∷ pos 4 ∷ negsuc 59 ∷ negsuc 71 ∷ negsuc 20 ∷ pos 87 ∷ pos 84 ∷ negsuc 41 ∷ negsuc 73 ∷ negsuc 33 ∷ pos 0 ∷ pos 85 ∷ pos 74 ∷ negsuc 76 ∷ negsuc 83 ∷ pos 13 ∷ pos 21 ∷ pos 60 ∷ pos 60 ∷ negsuc 89 ∷ negsuc 88 ∷ pos 56 ∷ pos 42 ∷ pos 17 ∷ pos 42 ∷ negsuc 77 ∷ negsuc 88 ∷ pos 84 ∷ pos 60 ∷ negsuc 29 ∷ pos 21 ∷ negsuc 45 ∷ negsuc 83 ∷ pos 88 ∷ pos 74 ∷ negsuc 67 ∷
+    pos 34 ∷ pos 30 ∷ negsuc 81 ∷ negsuc 76 ∷ pos 84 ∷ pos 89 ∷ negsuc 37 ∷ negsuc 62 ∷ negsuc 29 ∷ pos 9 ∷ pos 80 ∷ pos 50 ∷ negsuc 84 ∷ negsuc 84 ∷ pos 42 ∷ pos 84 ∷ pos 26 ∷ negsuc 45 ∷ negsuc 77 ∷ negsuc 12 ∷ pos 86 ∷ pos 66 ∷ negsuc 45 ∷ negsuc 89 ∷ negsuc 20 ∷ pos 74 ∷ pos 77 ∷ negsuc 25 ∷ negsuc 86 ∷ negsuc 33 ∷ pos 50 ∷ pos 78 ∷ pos 17 ∷ negsuc 87 ∷ negsuc 73 ∷ pos 60 ∷ pos 88 ∷ negsuc 3 ∷ negsuc 52 ∷ negsuc 52 ∷ negsuc 12 ∷ pos 86 ∷ pos 72 ∷ negsuc 81 ∷ negsuc 88 ∷ pos 42 ∷ pos 56 ∷ pos 17 ∷ pos 9 ∷ negsuc 67 ∷ negsuc 67 ∷ pos 90 ∷ pos 90 ∷ negsuc 71 ∷ negsuc 59 ∷ pos 21 ∷ negsuc 3 ∷ pos 38 ∷ pos 66 ∷ negsuc 79 ∷ negsuc 89 ∷ pos 87 ∷ pos 63 ∷ negsuc 55 ∷
+    pos 26 ∷ pos 21 ∷ negsuc 67 ∷ negsuc 59 ∷ pos 89 ∷ pos 84 ∷ negsuc 79 ∷ negsuc 88 ∷ pos 46 ∷ pos 74 ∷ pos 4 ∷ negsuc 41 ∷ negsuc 52 ∷ pos 0 ∷ pos 84 ∷ pos 42 ∷ negsuc 86 ∷ negsuc 73 ∷ pos 63 ∷ pos 89 ∷ negsuc 16 ∷ negsuc 83 ∷ negsuc 33 ∷ pos 60 ∷ pos 74 ∷ negsuc 20 ∷ negsuc 89 ∷ negsuc 20 ∷ pos 77 ∷ pos 60 ∷ negsuc 37 ∷ negsuc 83 ∷ negsuc 12 ∷ pos 89 ∷ pos 60 ∷ negsuc 73 ∷ negsuc 85 ∷ pos 42 ∷ pos 85 ∷ pos 0 ∷ negsuc 55 ∷ negsuc 41 ∷ pos 9 ∷ pos 74 ∷ pos 42 ∷ negsuc 88 ∷ negsuc 77 ∷ pos 84 ∷ pos 90 ∷ negsuc 59 ∷ negsuc 71 ∷ pos 21 ∷ pos 30 ∷ pos 21 ∷ pos 21 ∷ negsuc 59 ∷ negsuc 65 ∷ pos 84 ∷ pos 88 ∷ negsuc 88 ∷ negsuc 81 ∷ pos 74 ∷ pos 50 ∷ negsuc 41 ∷
+    pos 17 ∷ pos 13 ∷ negsuc 49 ∷ negsuc 37 ∷ pos 74 ∷ pos 60 ∷ negsuc 86 ∷ negsuc 76 ∷ pos 88 ∷ pos 86 ∷ negsuc 76 ∷ negsuc 89 ∷ pos 53 ∷ pos 85 ∷ negsuc 20 ∷ negsuc 73 ∷ negsuc 12 ∷ pos 56 ∷ pos 46 ∷ negsuc 33 ∷ negsuc 71 ∷ pos 9 ∷ pos 86 ∷ pos 17 ∷ negsuc 88 ∷ negsuc 41 ∷ pos 78 ∷ pos 63 ∷ negsuc 55 ∷ negsuc 77 ∷ pos 26 ∷ pos 87 ∷ pos 9 ∷ negsuc 89 ∷ negsuc 41 ∷ pos 84 ∷ pos 68 ∷ negsuc 71 ∷ negsuc 84 ∷ pos 53 ∷ pos 90 ∷ negsuc 29 ∷ negsuc 79 ∷ pos 4 ∷ pos 60 ∷ pos 21 ∷ negsuc 29 ∷ negsuc 45 ∷ negsuc 3 ∷ pos 66 ∷ pos 38 ∷ negsuc 79 ∷ negsuc 65 ∷ pos 88 ∷ pos 84 ∷ negsuc 88 ∷ negsuc 89 ∷ pos 82 ∷ pos 82 ∷ negsuc 67 ∷ negsuc 62 ∷ pos 50 ∷ pos 34 ∷ negsuc 25 ∷
+    pos 9 ∷ pos 4 ∷ negsuc 25 ∷ negsuc 12 ∷ pos 42 ∷ pos 21 ∷ negsuc 55 ∷ negsuc 29 ∷ pos 68 ∷ pos 38 ∷ negsuc 77 ∷ negsuc 45 ∷ pos 85 ∷ pos 53 ∷ negsuc 88 ∷ negsuc 59 ∷ pos 90 ∷ pos 66 ∷ negsuc 85 ∷ negsuc 71 ∷ pos 80 ∷ pos 77 ∷ negsuc 71 ∷ negsuc 79 ∷ pos 60 ∷ pos 84 ∷ negsuc 45 ∷ negsuc 85 ∷ pos 30 ∷ pos 88 ∷ negsuc 12 ∷ negsuc 89 ∷ negsuc 3 ∷ pos 90 ∷ pos 21 ∷ negsuc 88 ∷ negsuc 37 ∷ pos 87 ∷ pos 53 ∷ negsuc 84 ∷ negsuc 65 ∷ pos 82 ∷ pos 77 ∷ negsuc 77 ∷ negsuc 83 ∷ pos 74 ∷ pos 88 ∷ negsuc 67 ∷ negsuc 89 ∷ pos 63 ∷ pos 87 ∷ negsuc 55 ∷ negsuc 81 ∷ pos 50 ∷ pos 74 ∷ negsuc 41 ∷ negsuc 62 ∷ pos 34 ∷ pos 50 ∷ negsuc 25 ∷ negsuc 33 ∷ pos 17 ∷ pos 17 ∷ negsuc 8 ∷ []
 
 pub cosine32-laid : Laid 32 16 2 64 (C 32) cosine32
 unfolding S C D fold first turn cosines

@@ -23,7 +23,8 @@ use Rattle.algebra.specs.Lists.{tabulate, block}
 use Rattle.algebra.specs.First.{firstAt}
 use Rattle.meaning.specs.Weights.{first, fold, S, C, weight}
 use Rattle.meaning.specs.Line.{forwardSum, inverseSum, forwardLine, inverseLine}
-use Rattle.meaning.specs.Shape.{isSize, isKind, isDepth, keptColumns, keptRows, range, lastShift}
+use Rattle.meaning.specs.Shape.{isSize, isKind, isDepth, keptColumns, keptRows}
+use Rattle.meaning.specs.Plan.{shortRange}
 use Rattle.meaning.specs.Answer.{forwardLineOutcome, inverseLineOutcome}
 use Rattle.meaning.specs.Inverse.{columnSum, middle, middleAt, rails, rowSum, residual, inverseBlock, inverseOutcome}
 use Rattle.meaning.specs.Forward.{rowValue, columnValue, coefficient, forwardBlock, forwardOutcome}
@@ -31,11 +32,11 @@ use Rattle.meaning.specs.Forward.{rowValue, columnValue, coefficient, forwardBl
 
 /// The definitions that the checker opens only where a proof names them.
 const WEIGHTS: &str = "first fold S C weight tabulate block";
-const MIDDLE: &str = "range";
+const MIDDLE: &str = "shortRange";
 const LINE: &str = "first fold S C weight sum tabulate isSize isKind \
     forwardSum inverseSum forwardLine inverseLine";
 const BLOCK: &str = "first fold S C weight sum sumℕ tabulate block firstAt isSize isKind isDepth keptColumns keptRows \
-    range lastShift forwardSum inverseSum columnSum middleAt rails rowSum residual inverseBlock \
+    shortRange forwardSum inverseSum columnSum middleAt rails rowSum residual inverseBlock \
     rowValue columnValue coefficient forwardBlock";
 
 // ---- writing terms
@@ -161,10 +162,9 @@ fn weights_case(t: &mut Theorems, kind: i64, n: i64) {
     t.state(WEIGHTS, &left, &list(&rows.collect::<Vec<i64>>()));
 }
 
-/// The middle value of a sum e, at any shape.
+/// The middle value of a sum e.
 fn middle_case(t: &mut Theorems, e: i64) {
-    let shape = shape_term(&Shape::new(4, 4, 1, 1, 8));
-    let left = format!("middle (range {shape}) ({})", integer(e));
+    let left = format!("middle shortRange ({})", integer(e));
     t.state(MIDDLE, &left, &integer(middle(e)));
 }
 

@@ -12,10 +12,12 @@ pub fn inverse(shape: &Shape, coefficients: &[i64], residuals: &mut [i64]) -> An
     if let Some(refusal) = refusal(shape, coefficients.len(), residuals.len(), 8, place) {
         return refusal;
     }
-    let middles = middles(shape, coefficients);
+    let unclipped = unclipped(shape, coefficients);
+    let column = |values: &Vec<i64>| values.iter().map(|m| clipped(*m)).collect();
+    let middles: Vec<Vec<i64>> = unclipped.iter().map(column).collect();
     let rows = (0..shape.height).flat_map(|y| residual_row(shape, &middles, y));
     residuals.copy_from_slice(&rows.collect::<Vec<i64>>());
-    Answer::accepted(rail_count(&middles))
+    Answer::accepted(rail_count(&unclipped))
 }
 
 /// The forward of a block of residuals.
@@ -90,27 +92,43 @@ pub fn round_shift(a: i64, n: i64) -> i64 {
     floor_shift(a + (1 << (n - 1)), n)
 }
 
-/// "The middle value is (e+64)>>7, clipped to -32768..32767."
-pub fn middle(e: i64) -> i64 {
-    floor_shift(e + 64, 7).clamp(RAILS[0], RAILS[1])
+/// "(e+64)>>7", before the clip.
+fn rounded(e: i64) -> i64 {
+    floor_shift(e + 64, 7)
 }
 
-/// The h middle values of each kept column: "Each kept column goes through the vertical line over its
-/// kept rows, giving h sums e."
-fn middles(shape: &Shape, coefficients: &[i64]) -> Vec<Vec<i64>> {
+/// "The middle value is (e+64)>>7, clipped to -32768..32767."
+pub fn middle(e: i64) -> i64 {
+    clipped(rounded(e))
+}
+
+fn clipped(m: i64) -> i64 {
+    m.clamp(RAILS[0], RAILS[1])
+}
+
+/// The h middle values of each kept column before the clip: "Each kept column goes through the vertical
+/// line over its kept rows, giving h sums e."
+fn unclipped(shape: &Shape, coefficients: &[i64]) -> Vec<Vec<i64>> {
     let column = |x: i64| {
         let kept = (0..shape.kept_rows()).map(|y| coefficients[(x + y * shape.width) as usize]);
         let kept: Vec<i64> = kept.collect();
         let sums = inverse_sums(shape.vertical, shape.height as usize, &kept);
-        sums.into_iter().map(middle).collect()
+        sums.into_iter().map(rounded).collect()
     };
     (0..shape.kept_columns()).map(column).collect()
 }
 
-/// "how many middle values of kept columns, over all h rows, are 32767 or -32768 after the clip"
-fn rail_count(middles: &[Vec<i64>]) -> i64 {
-    let railed = middles.iter().flatten().filter(|m| RAILS.contains(m));
-    railed.count() as i64
+/// "how many middle values of kept columns, over all h rows": document 02, Wish 2, "only where the clip altered it".
+fn rail_count(unclipped: &[Vec<i64>]) -> i64 {
+    let altered = |m: &&i64| clipped(**m) != **m;
+    unclipped.iter().flatten().filter(altered).count() as i64
+}
+
+/// How many middle values stand at an end of the range though the clip did not alter them: those do not count.
+pub fn fair_ends(shape: &Shape, coefficients: &[i64]) -> usize {
+    let unclipped = unclipped(shape, coefficients);
+    let fair = |m: &&i64| RAILS.contains(m);
+    unclipped.iter().flatten().filter(fair).count()
 }
 
 /// "Then each row goes through the horizontal line over its kept columns, giving r. The residual is

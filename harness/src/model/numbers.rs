@@ -72,7 +72,7 @@ fn item_6() {
 
 #[test]
 fn item_7() {
-    for (third, count) in [(21063, 0), (21064, 1), (21066, 1)] {
+    for (third, count) in [(21063, 0), (21064, 0), (21066, 1)] {
         let mut coefficients = [0; 16];
         coefficients[4] = 32767;
         coefficients[8] = third;

@@ -3,6 +3,7 @@
 use crate::calls::Direction::{self, Forward, Inverse};
 use crate::calls::{area, block_call, shapes};
 use hoengtila_harness::compare::Comparison;
+use hoengtila_harness::model::fair_ends;
 use hoengtila_harness::patterns::{block, block_about_the_rails, clear_outside, LAYOUTS};
 
 /// Every shape with every layout of numbers.
@@ -54,14 +55,21 @@ fn inverse_blocks_about_the_rails() {
         return;
     };
     let mut unrailed = 0;
+    let mut fair = 0;
     for shape in shapes().iter().cycle().take(320 * 10) {
         let input = block_about_the_rails(&mut c.random, shape);
         let call = block_call(&mut c.random, Inverse, *shape, &input, area(shape));
-        unrailed += usize::from(call.by_model().answer.rails == 0);
+        let none = call.by_model().answer.rails == 0;
+        let ends = fair_ends(&(*shape).into(), &input);
+        unrailed += usize::from(none);
+        fair += usize::from(none && ends > 0);
         c.add(call);
     }
     let c = c.close();
-    // both sides of the rail are to be met
-    assert!(c.rails > 1000 && unrailed > 10);
-    eprintln!("{} values at a rail; {unrailed} blocks with none", c.rails);
+    // altered values, and blocks with none though a value stands at an end
+    assert!(c.rails > 1000 && unrailed > 10 && fair > 10);
+    eprintln!(
+        "{} values clipped; {unrailed} blocks with none, {fair} of them with a value at an end",
+        c.rails
+    );
 }

@@ -78,8 +78,7 @@ returns : tie.Need-returns Inv-loop μ-loop
 returns c =
     let L = c .before in
     let s = L .before .args in
-    let q : L .loop .i ≡ length (s .a .now) = omega (arith, c .loop-test .left, L .loop .inv .0, L .loop .inv .1 .0 .long) in
-    (
+    let q : L .loop .i ≡ length (s .a .now) = omega (arith, c .loop-test .left, L .loop .inv .0, L .loop .inv .1 .0 .long) in (
       filled refl (subst (λ (m : ℕ). Filled 0 m (L .loop .a) (s .a .now) (at (s .x .now))) q (L .loop .inv .1 .0)),
       within-places 32768 (s .x .now) (λ k h. L .loop .inv .1 .1 k (omega (arith, L .before .pre))),
     )

@@ -1,34 +1,42 @@
 -- `inverse::rail` meets its contract: equal bits are equal numbers. Assumes nothing.
-use mathlib.Core.Path.{_≡_, sym, ap, _∙_}
-use mathlib.Core.Bool.{false}
-use lib.IntN.{pos, negsuc}
-use mir.Syntax.{w16}
+use mathlib.Core.Path.{_≡_, refl, sym, ap, _∙_}
+use mathlib.Core.Bool.{Bool, true, false, not}
+use lib.Dec.{T}
+use Rattle.algebra.specs.Equal.{eqZ}
+use lib.IntN.{ℤ}
+use mir.Syntax.{w16, w32}
 use mir.Val.{toZ, ofZ}
 use mir.ValLaws.{toZ-ofZ}
-use Rattle.algebra.specs.Equal.{eqZ}
-use Rattle.algebra.proofs.Table.{eqZ-no}
-use Rattle.meaning.specs.Plan.{shortRange}
+use Rattle.algebra.proofs.Machine.{arg, cast, cast-fits, val}
+use Rattle.algebra.proofs.Table.{eqZ-no, eq→eqZ}
+use Rattle.meaning.specs.Inverse.{count, railed}
 use Rattle.inverse_block.proofs.inverse.rail.Statement.{statement}
 use Rattle.inverse_block.proofs.inverse.rail.Tie as tie
 
-not-low : (c : tie.Else1) → eqZ (c .before .args .after) (negsuc 32767) ≡ false
-not-low c = eqZ-no (c .before .args .after) (negsuc 32767) (λ e. c .if1 .left (ap (ofZ w16) e))
+-- the middle value in 32 bits
+wider : (c : tie.Start) → toZ w32 (ofZ w32 (toZ w16 (ofZ w16 (c .args .after)))) ≡ c .args .after
+wider c = val (cast w32 (arg (c .fits .after)) tt)
+
+-- equal numbers do not count
+equal : (b : Bool) → T b → 0 ≡ count (not b)
+equal true t = refl
+equal false t = absurd t
+
+cast-if1 : tie.Need-cast-if1
+cast-if1 c = cast-fits w32 (arg (c .fits .after)) tt
 
 returns : tie.Need-returns
-unfolding shortRange
 returns c =
     let s = c .before in
-    rw (sym (toZ-ofZ w16 (s .args .after) (s .fits .after)) ∙ ap (toZ w16) (c .if1 .taken))
+    let e : s .args .after ≡ s .args .before = sym (wider s) ∙ ap (toZ w32) (c .if1 .taken) ∙ toZ-ofZ w32 (s .args .before) (s .fits .before) in
+    equal (eqZ (s .args .after) (s .args .before)) (eq→eqZ (s .args .after) (s .args .before) e)
 
 returns-2 : tie.Need-returns-2
-unfolding shortRange
 returns-2 c =
-    let s = c .before .before in
-    rw (sym (toZ-ofZ w16 (s .args .after) (s .fits .after)) ∙ ap (toZ w16) (c .if2 .taken))
-
-returns-3 : tie.Need-returns-3
-unfolding shortRange
-returns-3 c = rw (not-low (c .before), eqZ-no (c .before .before .args .after) (pos 32767) (λ e. c .if2 .left (ap (ofZ w16) e)))
+    let s = c .before in
+    ap (λ (b : Bool). count (not b))
+    (sym (eqZ-no (s .args .after) (s .args .before)
+    (λ e. c .if1 .left (ap (ofZ w32) (toZ-ofZ w16 (s .args .after) (s .fits .after) ∙ e)))))
 
 pub rail-spec : {M : Type 1} → statement M
-rail-spec = tie.close (tie.spec returns returns-2 returns-3)
+rail-spec = tie.close (tie.spec cast-if1 returns returns-2)

@@ -32,18 +32,22 @@ sum-read : (c : tie.After-round7-arg Inv-loop μ-loop) → let L = c .before .be
     toZ w32 (ofZ w32 (at (L .before .args .e .now) (L .loop .x))) ≡ at (L .before .args .e .now) (L .loop .x)
 sum-read c = let L = c .before .before in toZ-ofZ w32 (at (L .before .args .e .now) (L .loop .x)) (record { sfits = c .round7-arg .given })
 
+rounding : (c : tie.After-round7 Inv-loop μ-loop) → let L = c .before .before .before in
+    toZ w32 (ofZ w32 (c .round7 .result)) ≡ rounded (at (L .before .args .e .now) (L .loop .x))
+rounding c = toZ-ofZ w32 (c .round7 .result) (search needs) ∙ c .round7 .ensures ∙ ap rounded (sum-read (c .before))
+
 made : (c : tie.After-clip16 Inv-loop μ-loop) → let L = c .before .before .before .before in
     toZ w16 (ofZ w16 (c .clip16 .result)) ≡ middle shortRange (at (L .before .args .e .now) (L .loop .x))
 made c =
     toZ-ofZ w16 (c .clip16 .result) (search needs) ∙ c .clip16 .ensures
-    ∙ ap (clip shortRange) (toZ-ofZ w32 (c .before .round7 .result) (search needs) ∙ c .before .round7 .ensures ∙ ap rounded (sum-read (c .before .before)))
+    ∙ ap (clip shortRange) (rounding (c .before))
 
 counted : (c : tie.After-rail Inv-loop μ-loop) → let L = c .before .before .before .before .before in let e = at (L .before .args .e .now) (L .loop .x) in
-    c .rail .result ≡ count (railed shortRange (rounded e) (middle shortRange e))
+    c .rail .result ≡ count (railed (rounded e) (middle shortRange e))
 counted c =
     let L = c .before .before .before .before .before in
     let e = at (L .before .args .e .now) (L .loop .x) in
-    c .rail .ensures ∙ ap (λ (z : ℤ). count (railed shortRange (rounded e) z)) (made (c .before))
+    c .rail .ensures ∙ (λ t. count (railed (rounding (c .before .before) t) (made (c .before) t)))
 
 loop-holds : tie.Need-loop-holds Inv-loop μ-loop
 loop-holds c = (omega arith, (fill-none 0 _ _, sym (rails-none (at (c .args .e .now)))))
@@ -69,7 +73,7 @@ add-rails : tie.Need-add-rails Inv-loop μ-loop
 add-rails c =
     let L = c .before .before .before .before .before in
     let e = at (L .before .args .e .now) (L .loop .x) in
-    omega (arith, L .loop .inv .1 .1, rails-in (L .loop .x) (at (L .before .args .e .now)), counted c, count-in (railed shortRange (rounded e) (middle shortRange e)), L .before .pre .few)
+    omega (arith, L .loop .inv .1 .1, rails-in (L .loop .x) (at (L .before .args .e .now)), counted c, count-in (railed (rounded e) (middle shortRange e)), L .before .pre .few)
 
 mul-after : tie.Need-mul-after Inv-loop μ-loop
 mul-after c = omega (arith, place (c .before .before .before .before))
