@@ -14,9 +14,9 @@ use Rattle.algebra.proofs.Sum.{sum-cong}
 use Rattle.algebra.proofs.Lists.{Filled, tab-length, tab-cong}
 use Rattle.meaning.specs.Weights.{weight}
 use Rattle.meaning.specs.Line.{forwardSum, forwardLine}
-use Rattle.meaning.specs.Taken.{NoneAbove}
+use Rattle.meaning.specs.Taken.{TakenLine, NoneAbove}
 use Rattle.halves.specs.Halves.{sums, differences}
-use Rattle.halves.specs.Lines.{Small, Whole}
+use Rattle.halves.specs.Lines.{Small}
 use Rattle.halves.proofs.Tables.{tab-holds}
 
 -- n a ≤ B and 1 ≤ n give a ≤ B
@@ -98,7 +98,7 @@ pub recount : {m n : ℕ} {a a₀ : List ℤ} {f : ℕ → ℤ} → m ≡ n → 
 recount {a = a} {a₀} {f} e p = subst (λ (k : ℕ). Filled 0 k a a₀ f) e p
 
 -- ---- a whole line
-pub whole-small : {n : ℕ} {x y : List ℤ} (m : ℕ) → n ≡ m → 1 ≤ m → m ≤ 32 → Whole n x y → NoneAbove 32768 x → (a : List ℤ) → a ≡ tabulate m (at x) → Small m a
+pub whole-small : {n : ℕ} {x y : List ℤ} (m : ℕ) → n ≡ m → 1 ≤ m → m ≤ 32 → TakenLine n 0 (length x) (length y) → NoneAbove 32768 x → (a : List ℤ) → a ≡ tabulate m (at x) → Small m a
 whole-small {x = x} m e some few w low a q =
     record {
       some = some;

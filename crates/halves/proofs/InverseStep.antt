@@ -14,10 +14,10 @@ use Rattle.algebra.proofs.Sum.{sum-cong, sum-in}
 use Rattle.algebra.proofs.Lists.{tab-cong, tabulated}
 use Rattle.meaning.specs.Weights.{weight}
 use Rattle.meaning.specs.Line.{inverseSum, inverseLine}
-use Rattle.meaning.specs.Taken.{NoneAbove}
+use Rattle.meaning.specs.Taken.{TakenLine, NoneAbove}
 use Rattle.meaning.proofs.Sizes.{weightSize}
 use Rattle.halves.specs.Halves.{Halves, odd, oddSum, evens}
-use Rattle.halves.specs.Lines.{Whole, strided, Inputs, Sums, Joined}
+use Rattle.halves.specs.Lines.{strided, Inputs, Sums, Joined}
 use Rattle.halves.proofs.Tables.{tab-holds, tab-long}
 use Rattle.halves.proofs.Joining.{joined}
 
@@ -82,7 +82,7 @@ four x apart out long each =
     (λ j l. each j l ∙ sum-cong 4 (λ i. weight 0 4 i j *ℤ at x (0 + i * apart)) (λ i. weight 0 4 i j *ℤ at x (apart * i)) (λ i k. ap (λ (m : ℕ). weight 0 4 i j *ℤ at x m) (zero-add (i * apart) ∙ mul-comm i apart)))
 
 -- ---- a whole line: its inputs stand side by side
-pub whole-inputs : {n : ℕ} {x y : List ℤ} (m : ℕ) → n ≡ m → Whole n x y → NoneAbove 32768 x → Inputs m 1 x × (length y ≡ m)
+pub whole-inputs : {n : ℕ} {x y : List ℤ} (m : ℕ) → n ≡ m → TakenLine n 0 (length x) (length y) → NoneAbove 32768 x → Inputs m 1 x × (length y ≡ m)
 whole-inputs m e w low = (record { there = λ i l. omega (arith, w .long); low = low }, w .room ∙ e)
 
 pub whole-line : {n : ℕ} (m : ℕ) → n ≡ m → (x : List ℤ) → tabulate m (inverseSum 0 m m (strided x 1)) ≡ inverseLine 0 n n (at x)

@@ -1,12 +1,10 @@
 -- What the lines by halves take: stored weights, inputs some places apart, and the sums of either half.
 use mathlib.Core.Path.{_≡_}
-use mathlib.Core.Bool.{true}
 use mathlib.Core.List.{List}
 use Prim.Native.Nat.{ℕ, _+_, _*_, _-_, _≤_, _<_}
 use lib.ListN.{length}
 use lib.IntN.{ℤ, natAbs, _+ℤ_, _-ℤ_}
 use Rattle.algebra.specs.Lists.{at}
-use Rattle.meaning.specs.Shape.{isSize}
 use Rattle.meaning.specs.Taken.{NoneAbove}
 use Rattle.product.specs.Product.{spot}
 
@@ -20,12 +18,6 @@ pub record Half (W : ℕ → ℕ → ℤ) (h : ℕ) (t : List ℤ) : Type 0 wher
 pub record Row (h o : ℕ) (t : List ℤ) : Type 0 where
   pub held : (j : ℕ) → j < h → 2 * j + o < length t
   pub light : (j : ℕ) → j < h → natAbs (at t (2 * j + o)) ≤ 90
-
--- a line of n points, 16 bits in and 32 bits out
-pub record Whole (n : ℕ) (x y : List ℤ) : Type 0 where
-  pub size : isSize n ≡ true
-  pub long : length x ≡ n
-  pub room : length y ≡ n
 
 -- ---- inverse
 -- the numbers of x that stand `apart` places apart

@@ -3,6 +3,12 @@ ghost use mathlib.Core.Path.{_≡_};
 ghost use Prim.Native.Nat.{_≤_};
 ghost use lib.IntN.{_+ℤ_, _-ℤ_, _*ℤ_, natAbs};
 
+pub fn wide(v: i16) -> i32
+    ensures { λ r. ⌜ r ≡ v ⌝ }
+{
+    v as i32
+}
+
 pub fn plus(a: i32, b: i32) -> i32
     requires { ⌜ (natAbs a ≤ 1000000000) × (natAbs b ≤ 1000000000) ⌝ }
     ensures { λ r. ⌜ r ≡ a +ℤ b ⌝ }

@@ -3,6 +3,7 @@
 use crate::arith::minus;
 use crate::arith::plus;
 use crate::arith::times;
+use crate::arith::wide;
 use crate::table::odd_8;
 use crate::table::odd_16;
 use crate::table::odd_32;
@@ -14,9 +15,9 @@ ghost use lib.ListN.{length};
 ghost use Rattle.algebra.specs.Sum.{sum};
 ghost use Rattle.algebra.specs.Lists.{at, tabulate};
 ghost use Rattle.meaning.specs.Line.{forwardSum, forwardLine};
-ghost use Rattle.meaning.specs.Taken.{NoneAbove};
+ghost use Rattle.meaning.specs.Taken.{TakenLine, NoneAbove};
 ghost use Rattle.halves.specs.Halves.{Halves, odd, sums, differences};
-ghost use Rattle.halves.specs.Lines.{Whole, Half, Row, Small};
+ghost use Rattle.halves.specs.Lines.{Half, Row, Small};
 
 // The inputs in 32 bits; each was one of 16.
 fn widen(x: &[i16], a: &mut [i32])
@@ -25,7 +26,7 @@ fn widen(x: &[i16], a: &mut [i32])
 {
     let mut i = 0;
     while i < a.len() {
-        a[i] = x[i] as i32;
+        a[i] = wide(x[i]);
         i += 1;
     }
 }
@@ -123,7 +124,7 @@ fn forward_32(x: &[i32], out: &mut [i32])
 
 /// The forward line of kind 0.
 pub fn forward(n: usize, x: &[i16], y: &mut [i32])
-    requires { ⌜ Whole n (now x) (now y) ⌝ }
+    requires { ⌜ TakenLine n 0 (length (now x)) (length (now y)) ⌝ }
     ensures { λ _. ⌜ now (y .exit) ≡ forwardLine 0 n (at (now (x .entry))) ⌝ }
 {
     if n == 4 {

@@ -13,8 +13,8 @@ ghost use Prim.Native.Nat.{ℕ, _+_, _*_, _≤_, _<_};
 ghost use lib.ListN.{length};
 ghost use Rattle.algebra.specs.Lists.{at, tabulate};
 ghost use Rattle.meaning.specs.Line.{inverseSum, inverseLine};
-ghost use Rattle.meaning.specs.Taken.{NoneAbove};
-ghost use Rattle.halves.specs.Lines.{Whole, strided, Inputs, Sums, Joined};
+ghost use Rattle.meaning.specs.Taken.{TakenLine, NoneAbove};
+ghost use Rattle.halves.specs.Lines.{strided, Inputs, Sums, Joined};
 
 // What reading tells of each input: in 16 bits, a size of at most 32768. The compiler sees that this does nothing.
 fn read(x: &[i16])
@@ -106,7 +106,7 @@ fn inverse_32(x: &[i16], apart: usize, o: &mut [i32], out: &mut [i32])
 
 /// The inverse line of kind 0.
 pub fn inverse(n: usize, x: &[i16], y: &mut [i32])
-    requires { ⌜ Whole n (now x) (now y) ⌝ }
+    requires { ⌜ TakenLine n 0 (length (now x)) (length (now y)) ⌝ }
     ensures { λ _. ⌜ now (y .exit) ≡ inverseLine 0 n n (at (now (x .entry))) ⌝ }
 {
     read(x);

@@ -1,125 +1,160 @@
+-- `forward::fold` meets its contract: the places before j of both are written. Assumes nothing.
 use borrow.Author.Needs.{needs}
 use native.Mathlib.Omega.{arith}
+use mathlib.Core.Path.{_≡_, sym, _∙_, subst}
+use Prim.Native.Nat.{ℕ, _+_, _-_, _≤_, _<_}
+use lib.ListN.{length}
+use lib.IntN.{ℤ, natAbs, _+ℤ_, _-ℤ_}
+use mir.Syntax.{w32}
+use mir.Val.{toZ, ofZ}
+use mir.ValLaws.{toZ-ofZ}
+use Rattle.algebra.specs.Lists.{at}
+use Rattle.algebra.proofs.Word.{small}
+use Rattle.algebra.proofs.Lists.{Filled, fill-none, fill-first, filled}
+use Rattle.halves.specs.Halves.{sums, differences}
+use Rattle.halves.proofs.ForwardStep.{less9}
 use Rattle.halves.proofs.forward.fold.Statement.{statement}
 use Rattle.halves.proofs.forward.fold.Tie as tie
-use Rattle.halves.proofs.forward.fold.Reads as reads
-use Rattle.halves.proofs.forward.fold.Lts as lts
-use Rattle.halves.proofs.arith.minus.Reads as minus-reads
-use Rattle.halves.proofs.arith.plus.Reads as plus-reads
 
 abbrev Inv-loop : tie.InvT-loop
-Inv-loop x h s₀ d₀ j₀ s d j = ?
+Inv-loop x h s₀ d₀ j₀ s d j = (j ≤ h) × (Filled 0 j s s₀ (sums (h + h) (at x)) × Filled 0 j d d₀ (differences (h + h) (at x)))
 
 abbrev μ-loop : tie.MeasureT-loop
-μ-loop x h s₀ d₀ j₀ s d j = ?
+μ-loop x h s₀ d₀ j₀ s d j = h - j
 
--- src/forward.rt:55:5
 loop-holds : tie.Need-loop-holds Inv-loop μ-loop
-loop-holds c = search needs
+loop-holds c = (omega arith, (fill-none 0 _ _, fill-none 0 _ _))
 
--- src/forward.rt:56:21
+module _ (c : tie.In-loop Inv-loop μ-loop) where
+  abbrev h : ℕ
+  h = c .before .before .args .h
+
+  abbrev j : ℕ
+  j = c .before .loop .j
+
+  -- the place from the other end
+  abbrev k : ℕ
+  k = h + h - 1 - j
+
+  here : j < h
+  here = c .loop-test .taken
+
+  few : h + h ≤ 32
+  few = c .before .before .pre .0 .few
+
+  near : j < length (c .before .before .args .x .now)
+  near = omega (arith, here, c .before .before .pre .0 .long)
+
+  far : k < length (c .before .before .args .x .now)
+  far = omega (arith, here, c .before .before .pre .0 .long)
+
+  sum-room : j < length (c .before .before .args .s .now)
+  sum-room = omega (arith, here, c .before .before .pre .1 .0)
+
+  difference-room : j < length (c .before .before .args .d .now)
+  difference-room = omega (arith, here, c .before .before .pre .1 .1)
+
+  low : (i : ℕ) → natAbs (at (c .before .before .args .x .now) i) ≤ 1000000000
+  low i = less9 (h + h) (natAbs (at (c .before .before .args .x .now) i)) (c .before .before .pre .0 .some) (c .before .before .pre .0 .low i)
+
+  reads : (i : ℕ) → let z = at (c .before .before .args .x .now) i in toZ w32 (ofZ w32 z) ≡ z
+  reads i = toZ-ofZ w32 (at (c .before .before .args .x .now) i) (small {B = 1000000000} (omega arith) (low i))
+
+  added : let x = c .before .before .args .x .now in (natAbs (toZ w32 (ofZ w32 (at x j))) ≤ 1000000000) × (natAbs (toZ w32 (ofZ w32 (at x k))) ≤ 1000000000)
+  added = (subst (λ (z : ℤ). natAbs z ≤ 1000000000) (sym (reads j)) (low j), subst (λ (z : ℤ). natAbs z ≤ 1000000000) (sym (reads k)) (low k))
+
 mul-plus : tie.Need-mul-plus Inv-loop μ-loop
-mul-plus c = search needs
+mul-plus c = omega (arith, few c, here c)
 
--- src/forward.rt:56:21
 shared-slice-copy-out-plus : tie.Need-shared-slice-copy-out-plus Inv-loop μ-loop
-shared-slice-copy-out-plus c = search needs
+shared-slice-copy-out-plus c = near c
 
--- src/forward.rt:56:29
 add-plus : tie.Need-add-plus Inv-loop μ-loop
-add-plus c = search needs
+add-plus c = omega (arith, few (c .before))
 
--- src/forward.rt:56:29
 sub-plus : tie.Need-sub-plus Inv-loop μ-loop
-sub-plus c = search needs
+sub-plus c = omega (arith, here (c .before))
 
--- src/forward.rt:56:29
 sub-plus-2 : tie.Need-sub-plus-2 Inv-loop μ-loop
-sub-plus-2 c = search needs
+sub-plus-2 c = omega (arith, here (c .before))
 
--- src/forward.rt:56:27
 mul-plus-2 : tie.Need-mul-plus-2 Inv-loop μ-loop
-mul-plus-2 c = search needs
+mul-plus-2 c = omega (arith, few (c .before), here (c .before))
 
--- src/forward.rt:56:27
 shared-slice-copy-out-plus-2 : tie.Need-shared-slice-copy-out-plus-2 Inv-loop μ-loop
-shared-slice-copy-out-plus-2 c = search needs
+shared-slice-copy-out-plus-2 c = far (c .before)
 
--- src/forward.rt:56:16
 plus-requires : tie.Need-plus-requires Inv-loop μ-loop
-plus-requires c κs = search needs
+plus-requires c κs = added (c .before .before)
 
--- src/forward.rt:56:9
 mul-d : tie.Need-mul-d Inv-loop μ-loop
-mul-d c = search needs
+mul-d c = omega (arith, few (c .before .before .before), here (c .before .before .before))
 
--- src/forward.rt:56:9
 slice-set-from-d : tie.Need-slice-set-from-d Inv-loop μ-loop
-slice-set-from-d c = search needs
+slice-set-from-d c = let I = c .before .before .before in omega (arith, sum-room I, I .before .loop .inv .1 .0 .long)
 
--- src/forward.rt:57:22
 mul-minus : tie.Need-mul-minus Inv-loop μ-loop
-mul-minus c = search needs
+mul-minus c = omega (arith, few (c .before .before .before), here (c .before .before .before))
 
--- src/forward.rt:57:22
 shared-slice-copy-out-minus : tie.Need-shared-slice-copy-out-minus Inv-loop μ-loop
-shared-slice-copy-out-minus c = search needs
+shared-slice-copy-out-minus c = near (c .before .before .before)
 
--- src/forward.rt:57:30
 add-minus : tie.Need-add-minus Inv-loop μ-loop
-add-minus c = search needs
+add-minus c = omega (arith, few (c .before .before .before .before))
 
--- src/forward.rt:57:30
 sub-minus : tie.Need-sub-minus Inv-loop μ-loop
-sub-minus c = search needs
+sub-minus c = omega (arith, here (c .before .before .before .before))
 
--- src/forward.rt:57:30
 sub-minus-2 : tie.Need-sub-minus-2 Inv-loop μ-loop
-sub-minus-2 c = search needs
+sub-minus-2 c = omega (arith, here (c .before .before .before .before))
 
--- src/forward.rt:57:28
 mul-minus-2 : tie.Need-mul-minus-2 Inv-loop μ-loop
-mul-minus-2 c = search needs
+mul-minus-2 c = omega (arith, few (c .before .before .before .before), here (c .before .before .before .before))
 
--- src/forward.rt:57:28
 shared-slice-copy-out-minus-2 : tie.Need-shared-slice-copy-out-minus-2 Inv-loop μ-loop
-shared-slice-copy-out-minus-2 c = search needs
+shared-slice-copy-out-minus-2 c = far (c .before .before .before .before)
 
--- src/forward.rt:57:16
 minus-requires : tie.Need-minus-requires Inv-loop μ-loop
-minus-requires c κs = search needs
+minus-requires c κs = added (c .before .before .before .before .before)
 
--- src/forward.rt:57:9
 mul-t8 : tie.Need-mul-t8 Inv-loop μ-loop
-mul-t8 c = search needs
+mul-t8 c = omega (arith, few (c .before .before .before .before .before .before), here (c .before .before .before .before .before .before))
 
--- src/forward.rt:57:9
 slice-set-from-d-2 : tie.Need-slice-set-from-d-2 Inv-loop μ-loop
-slice-set-from-d-2 c = search needs
+slice-set-from-d-2 c = let I = c .before .before .before .before .before .before in omega (arith, difference-room I, I .before .loop .inv .1 .1 .long)
 
--- src/forward.rt:58:9
 add-j : tie.Need-add-j Inv-loop μ-loop
 add-j c = search needs
 
--- src/forward.rt:55:5
 loop-less : tie.Need-loop-less Inv-loop μ-loop
 loop-less c = search needs
 
--- src/forward.rt:55:5
 loop-again : tie.Need-loop-again Inv-loop μ-loop
-loop-again c = search needs
+loop-again c =
+    let P = c .before .before .before in
+    let I = P .before .before .before in
+    let f = I .before .loop .inv .1 in (
+      omega (arith, here I),
+      (
+        fill-first _ (sum-room I) (f .0) (toZ-ofZ w32 (P .plus .result) (search needs) ∙ P .plus .ensures ∙ (λ t. reads I (j I) t +ℤ reads I (k I) t)),
+        fill-first _ (difference-room I) (f .1) (toZ-ofZ w32 (c .minus .result) (search needs) ∙ c .minus .ensures ∙ (λ t. reads I (j I) t -ℤ reads I (k I) t)),
+      ),
+    )
 
--- src/forward.rt:50:1
 same-length : tie.Need-same-length Inv-loop μ-loop
-same-length c = search needs
+same-length c = c .before .loop .inv .1 .0 .long
 
--- src/forward.rt:50:1
 same-length-2 : tie.Need-same-length-2 Inv-loop μ-loop
-same-length-2 c = search needs
+same-length-2 c = c .before .loop .inv .1 .1 .long
 
--- src/forward.rt:50:1
 returns : tie.Need-returns Inv-loop μ-loop
-returns c = search needs
+returns c =
+    let L = c .before in
+    let s = L .before .args in
+    let q : L .loop .j ≡ s .h = omega (arith, c .loop-test .left, L .loop .inv .0) in (
+      filled (L .before .pre .1 .0) (subst (λ (m : ℕ). Filled 0 m (L .loop .s) (s .s .now) (sums (s .h + s .h) (at (s .x .now)))) q (L .loop .inv .1 .0)),
+      filled (L .before .pre .1 .1) (subst (λ (m : ℕ). Filled 0 m (L .loop .d) (s .d .now) (differences (s .h + s .h) (at (s .x .now)))) q (L .loop .inv .1 .1)),
+    )
 
 pub fold-spec : {M : Type 1} → statement M
 fold-spec =

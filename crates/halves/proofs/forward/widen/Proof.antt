@@ -1,17 +1,16 @@
 -- `forward::widen` meets its contract: the inputs before i are written, and each was one of 16 bits. Assumes nothing.
 use borrow.Author.Needs.{needs}
 use native.Mathlib.Omega.{arith}
-use mathlib.Core.Path.{_≡_, refl, sym, _∙_, subst}
+use mathlib.Core.Path.{_≡_, refl, _∙_, subst}
 use Prim.Native.Nat.{ℕ, _-_, _≤_, _<_}
 use lib.ListN.{length}
-use lib.IntN.{ℤ, natAbs}
+use lib.IntN.{natAbs}
 use borrow.Author.Count.{below-more}
 use mir.Syntax.{w16, w32}
-use mir.Val.{toZ, ofZ}
+use mir.Val.{SFits}
 use mir.ValLaws.{toZ-ofZ}
 use Rattle.algebra.specs.Lists.{at}
 use Rattle.algebra.proofs.Order.{in-fits}
-use Rattle.algebra.proofs.Word.{small}
 use Rattle.algebra.proofs.Lists.{Filled, fill-none, fill-first, filled}
 use Rattle.meaning.proofs.Small.{within-places}
 use Rattle.halves.proofs.forward.widen.Statement.{statement}
@@ -33,28 +32,14 @@ module _ (c : tie.In-loop Inv-loop μ-loop) where
   here : c .before .loop .i < length (c .before .before .args .x .now)
   here = omega (arith, room, c .before .before .pre)
 
-mul-a : tie.Need-mul-a Inv-loop μ-loop
-mul-a c = omega (arith, here c)
+mul-wide : tie.Need-mul-wide Inv-loop μ-loop
+mul-wide c = omega (arith, here c)
 
-shared-slice-copy-out-a : tie.Need-shared-slice-copy-out-a Inv-loop μ-loop
-shared-slice-copy-out-a c = here c
+shared-slice-copy-out-wide : tie.Need-shared-slice-copy-out-wide Inv-loop μ-loop
+shared-slice-copy-out-wide c = here c
 
--- the input as it is read
-module _ (c : tie.After-a Inv-loop μ-loop) where
-  abbrev I : tie.In-loop Inv-loop μ-loop
-  I = c .before
-
-  abbrev z : ℤ
-  z = at (I .before .before .args .x .now) (I .before .loop .i)
-
-  low : natAbs z ≤ 32768
-  low = in-fits {w = w16} {z = z} (record { sfits = c .a .given }) .within
-
-  reads : toZ w16 (ofZ w16 z) ≡ z
-  reads = toZ-ofZ w16 z (record { sfits = c .a .given })
-
-cast-a : tie.Need-cast-a Inv-loop μ-loop
-cast-a c = search needs
+wide-requires : tie.Need-wide-requires Inv-loop μ-loop
+wide-requires c κs = search needs
 
 mul-t9 : tie.Need-mul-t9 Inv-loop μ-loop
 mul-t9 c = search needs
@@ -69,7 +54,17 @@ loop-less : tie.Need-loop-less Inv-loop μ-loop
 loop-less c = search needs
 
 loop-again : tie.Need-loop-again Inv-loop μ-loop
-loop-again c = search needs
+loop-again c =
+    let A = c .before in
+    let I = A .before in
+    let z = at (I .before .before .args .x .now) (I .before .loop .i) in
+    let f : SFits w16 z = record { sfits = A .wide-arg .given } in (
+      omega (arith, room I),
+      (
+        fill-first _ (room I) (I .before .loop .inv .1 .0) (toZ-ofZ w32 (c .wide .result) (search needs) ∙ c .wide .ensures ∙ toZ-ofZ w16 z f),
+        below-more (λ k. natAbs (at (I .before .before .args .x .now) k) ≤ 32768) (I .before .loop .i) (I .before .loop .inv .1 .1) (in-fits {w = w16} {z = z} f .within),
+      ),
+    )
 
 same-length : tie.Need-same-length Inv-loop μ-loop
 same-length c = c .before .loop .inv .1 .0 .long
@@ -90,9 +85,9 @@ widen-spec =
     Inv-loop
     μ-loop
     loop-holds
-    mul-a
-    shared-slice-copy-out-a
-    cast-a
+    mul-wide
+    shared-slice-copy-out-wide
+    wide-requires
     mul-t9
     slice-set-from-a
     add-i
