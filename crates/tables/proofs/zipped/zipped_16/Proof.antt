@@ -16,13 +16,13 @@ returns-3 : tie.Need-returns-3
 returns-3 c = either-way 16 8 (c .before .before .args .kind) (c .before .before .args .forward) (dct8 _ (c .if3 .taken) 16) cosine16-laid cosine16-laid-turned
 
 returns-4 : tie.Need-returns-4
-returns-4 c = by-rows 16 8 (c .before .before .args .kind) (c .before .before .args .forward) (dct2 _ (c .before .if4 .taken) 16) (c .if5 .taken) forward0-16-laid
+returns-4 c = by-rows 16 8 (c .before .before .before .before .args .kind) (c .before .before .before .before .args .forward) (dct2 _ (c .before .if4 .taken) 16) (c .if5 .taken) forward0-16-laid
 
 returns-5 : tie.Need-returns-5
-returns-5 c = by-columns 16 8 (c .before .before .args .kind) (c .before .before .args .forward) (dct2 _ (c .before .if4 .taken) 16) (c .if5 .left) inverse0-16-laid
+returns-5 c = by-columns 16 8 (c .before .before .before .before .args .kind) (c .before .before .before .before .args .forward) (dct2 _ (c .before .if4 .taken) 16) (c .if5 .left) inverse0-16-laid
 
 returns-6 : tie.Need-returns-6
-returns-6 c = no-kind 16 8 (c .before .before .args .kind) (c .before .before .args .forward) (c .before .before .if1 .left) (c .before .if3 .left) (c .if4 .left) refl
+returns-6 c = no-kind 16 8 (c .before .before .before .args .kind) (c .before .before .before .args .forward) (c .before .before .if1 .left) (c .before .if3 .left) (c .if4 .left) refl
 
 pub zipped-16-spec : {M : Type 1} → statement M
 zipped-16-spec = tie.close (tie.spec returns returns-2 returns-3 returns-4 returns-5 returns-6)

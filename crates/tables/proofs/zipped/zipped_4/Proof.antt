@@ -16,13 +16,13 @@ returns-3 : tie.Need-returns-3
 returns-3 c = either-way 4 2 (c .before .before .args .kind) (c .before .before .args .forward) (dct8 _ (c .if3 .taken) 4) cosine4-laid cosine4-laid-turned
 
 returns-4 : tie.Need-returns-4
-returns-4 c = by-rows 4 2 (c .before .before .args .kind) (c .before .before .args .forward) (dct2 _ (c .before .if4 .taken) 4) (c .if5 .taken) forward0-4-laid
+returns-4 c = by-rows 4 2 (c .before .before .before .before .args .kind) (c .before .before .before .before .args .forward) (dct2 _ (c .before .if4 .taken) 4) (c .if5 .taken) forward0-4-laid
 
 returns-5 : tie.Need-returns-5
-returns-5 c = by-columns 4 2 (c .before .before .args .kind) (c .before .before .args .forward) (dct2 _ (c .before .if4 .taken) 4) (c .if5 .left) inverse0-4-laid
+returns-5 c = by-columns 4 2 (c .before .before .before .before .args .kind) (c .before .before .before .before .args .forward) (dct2 _ (c .before .if4 .taken) 4) (c .if5 .left) inverse0-4-laid
 
 returns-6 : tie.Need-returns-6
-returns-6 c = no-kind 4 2 (c .before .before .args .kind) (c .before .before .args .forward) (c .before .before .if1 .left) (c .before .if3 .left) (c .if4 .left) refl
+returns-6 c = no-kind 4 2 (c .before .before .before .args .kind) (c .before .before .before .args .forward) (c .before .before .if1 .left) (c .before .if3 .left) (c .if4 .left) refl
 
 pub zipped-4-spec : {M : Type 1} → statement M
 zipped-4-spec = tie.close (tie.spec returns returns-2 returns-3 returns-4 returns-5 returns-6)
