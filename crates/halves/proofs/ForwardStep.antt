@@ -14,10 +14,11 @@ use Rattle.algebra.proofs.Sum.{sum-cong}
 use Rattle.algebra.proofs.Lists.{Filled, tab-length, tab-cong}
 use Rattle.meaning.specs.Weights.{weight}
 use Rattle.meaning.specs.Line.{forwardSum, forwardLine}
-use Rattle.meaning.specs.Taken.{TakenLine, NoneAbove}
+use Rattle.meaning.specs.Taken.{NoneAbove}
+use Rattle.product.specs.Product.{spot}
 use Rattle.halves.specs.Halves.{sums, differences}
-use Rattle.halves.specs.Lines.{Small}
-use Rattle.halves.proofs.Tables.{tab-holds}
+use Rattle.halves.specs.Lines.{Half, Small}
+use Rattle.halves.proofs.Tables.{tab-holds, row-sum}
 
 -- n a ≤ B and 1 ≤ n give a ≤ B
 pub less : (n a B : ℕ) → 1 ≤ n → n * a ≤ B → a ≤ B
@@ -98,8 +99,8 @@ pub recount : {m n : ℕ} {a a₀ : List ℤ} {f : ℕ → ℤ} → m ≡ n → 
 recount {a = a} {a₀} {f} e p = subst (λ (k : ℕ). Filled 0 k a a₀ f) e p
 
 -- ---- a whole line
-pub whole-small : {n : ℕ} {x y : List ℤ} (m : ℕ) → n ≡ m → 1 ≤ m → m ≤ 32 → TakenLine n 0 (length x) (length y) → NoneAbove 32768 x → (a : List ℤ) → a ≡ tabulate m (at x) → Small m a
-whole-small {x = x} m e some few w low a q =
+pub whole-small : (x : List ℤ) (m : ℕ) → 1 ≤ m → m ≤ 32 → NoneAbove 32768 x → (a : List ℤ) → a ≡ tabulate m (at x) → Small m a
+whole-small x m some few low a q =
     record {
       some = some;
       few = few;
@@ -113,3 +114,8 @@ whole-small {x = x} m e some few w low a q =
 pub whole-line : {n : ℕ} (m : ℕ) → n ≡ m → (x a : List ℤ) → a ≡ tabulate m (at x) → tabulate m (forwardSum 0 m (at a)) ≡ forwardLine 0 n (at x)
 unfolding forwardLine
 whole-line m e x a q = over m a (at x) q ∙ ap (λ (m : ℕ). forwardLine 0 m (at x)) (sym e)
+
+-- ---- row i of 4 points
+pub four-row : {t : List ℤ} → Half (weight 0 4) 4 t → (i : ℕ) → i < 4 → (f : ℕ → ℤ) → sum 4 (λ j. at t (2 * j + spot 8 i) *ℤ f j) ≡ forwardSum 0 4 f i
+unfolding forwardSum
+four-row p i l f = row-sum p i l f

@@ -14,6 +14,7 @@ ghost use lib.IntN.{_*ℤ_};
 ghost use lib.ListN.{length};
 ghost use Rattle.algebra.specs.Sum.{sum};
 ghost use Rattle.algebra.specs.Lists.{at, tabulate};
+ghost use Rattle.meaning.specs.Weights.{weight};
 ghost use Rattle.meaning.specs.Line.{forwardSum, forwardLine};
 ghost use Rattle.meaning.specs.Taken.{TakenLine, NoneAbove};
 ghost use Rattle.halves.specs.Halves.{Halves, odd, sums, differences};
@@ -71,16 +72,24 @@ fn weave(t: &[i16], h: usize, x: &[i32], e: &[i32], d: &[i32], out: &mut [i32])
     }
 }
 
+// All rows of 4 points.
+fn four(t: &[i16], x: &[i32], out: &mut [i32])
+    requires { ⌜ Half (weight 0 4) 4 (now t) × (Small 4 (now x) × (length (now out) ≡ 4)) ⌝ }
+    ensures { λ _. ⌜ now (out .exit) ≡ tabulate 4 (forwardSum 0 4 (at (now (x .entry)))) ⌝ }
+{
+    let mut i = 0;
+    while i < 4 {
+        out[i] = row(t, i / 2 * 8 + i % 2, 4, x);
+        i += 1;
+    }
+}
+
 fn forward_4(x: &[i32], out: &mut [i32])
     requires { ⌜ Small 4 (now x) × (length (now out) ≡ 4) ⌝ }
     ensures { λ _. ⌜ now (out .exit) ≡ tabulate 4 (forwardSum 0 4 (at (now (x .entry)))) ⌝ }
 {
     let t = zipped_4(0, false);
-    let mut i = 0;
-    while i < 4 {
-        out[i] = row(&t, i / 2 * 8 + i % 2, 4, x);
-        i += 1;
-    }
+    four(&t, x, out);
 }
 
 fn forward_8(x: &[i32], out: &mut [i32])

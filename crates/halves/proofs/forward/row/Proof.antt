@@ -113,8 +113,8 @@ returns c =
     let e : L .loop .j ≡ s .h = omega (arith, c .loop-test .left, L .loop .inv .0) in
     L .loop .inv .1 ∙ ap (λ (m : ℕ). sum m (λ j. at (s .t .now) (2 * j + s .o) *ℤ at (s .v .now) j)) e
 
-pub odd-row-spec : {M : Type 1} → statement M
-odd-row-spec =
+pub row-spec : {M : Type 1} → statement M
+row-spec =
     tie.close
     (tie.spec
     Inv-loop

@@ -81,20 +81,33 @@ mul-out-3 c = omega (arith, few (c .before), here (c .before))
 slice-set-from-out : tie.Need-slice-set-from-out Inv-loop μ-loop
 slice-set-from-out c = omega (arith, room (c .before), c .before .before .loop .inv .1 .long)
 
+-- the row is in the table
+held : (c : tie.In-loop Inv-loop μ-loop) → 2 * 0 + spot (2 * h c) (i c) < length (c .before .before .args .t .now)
+held c = c .before .before .pre .0 .0 .held (i c) 0 (here c) (omega (arith, here c))
+
+mul-row : tie.Need-mul-row Inv-loop μ-loop
+mul-row c = omega (arith, few (c .before))
+
+mul-row-2 : tie.Need-mul-row-2 Inv-loop μ-loop
+mul-row-2 c = omega (arith, held (c .before))
+
+add-row : tie.Need-add-row Inv-loop μ-loop
+add-row c = omega (arith, held (c .before))
+
 row-requires : tie.Need-row-requires Inv-loop μ-loop
 row-requires c κs =
     let I = c .before in
     let p = I .before .before .pre in
     (row-of (λ i j. weightSize 0 (h I + h I) (2 * i + 1) j) (p .0 .0) (i I) (here I), p .1 .0)
 
-mul-t9 : tie.Need-mul-t9 Inv-loop μ-loop
-mul-t9 c = omega (arith, few (c .before .before), here (c .before .before))
+mul-t17 : tie.Need-mul-t17 Inv-loop μ-loop
+mul-t17 c = omega (arith, few (c .before .before), here (c .before .before))
 
-add-t12 : tie.Need-add-t12 Inv-loop μ-loop
-add-t12 c = omega (arith, few (c .before .before), here (c .before .before))
+add-t18 : tie.Need-add-t18 Inv-loop μ-loop
+add-t18 c = omega (arith, few (c .before .before), here (c .before .before))
 
-mul-t13 : tie.Need-mul-t13 Inv-loop μ-loop
-mul-t13 c = omega (arith, few (c .before .before), here (c .before .before))
+mul-t19 : tie.Need-mul-t19 Inv-loop μ-loop
+mul-t19 c = omega (arith, few (c .before .before), here (c .before .before))
 
 -- the even output, then the odd one
 first : (c : tie.After-row Inv-loop μ-loop) → let I = c .before .before in let z = at (I .before .before .args .e .now) (i I) in toZ w32 (ofZ w32 z) ≡ z
@@ -143,10 +156,13 @@ weave-spec =
     mul-out-2
     mul-out-3
     slice-set-from-out
+    mul-row
+    mul-row-2
+    add-row
     row-requires
-    mul-t9
-    add-t12
-    mul-t13
+    mul-t17
+    add-t18
+    mul-t19
     slice-set-from-out-2
     add-i
     loop-less

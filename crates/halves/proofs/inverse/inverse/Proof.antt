@@ -11,13 +11,13 @@ read-requires : tie.Need-read-requires
 read-requires c κs = search needs
 
 inverse-4-requires : tie.Need-inverse-4-requires
-inverse-4-requires c κs = whole-inputs 4 (c .before .if1 .taken) (c .before .before .before .pre) (c .before .before .read .ensures)
+inverse-4-requires c κs = whole-inputs (c .before .before .before .args .x .now) (c .before .before .before .args .y .now) 4 (c .before .if1 .taken) (c .before .before .before .pre) (c .before .before .read .ensures)
 
 inverse-8-requires : tie.Need-inverse-8-requires
-inverse-8-requires c κs = whole-inputs 8 (c .before .if2 .taken) (c .before .before .before .before .pre) (c .before .before .before .read .ensures)
+inverse-8-requires c κs = whole-inputs (c .before .before .before .before .args .x .now) (c .before .before .before .before .args .y .now) 8 (c .before .if2 .taken) (c .before .before .before .before .pre) (c .before .before .before .read .ensures)
 
 inverse-16-requires : tie.Need-inverse-16-requires
-inverse-16-requires c κs = whole-inputs 16 (c .before .if3 .taken) (c .before .before .before .before .before .pre) (c .before .before .before .before .read .ensures)
+inverse-16-requires c κs = whole-inputs (c .before .before .before .before .before .args .x .now) (c .before .before .before .before .before .args .y .now) 16 (c .before .if3 .taken) (c .before .before .before .before .before .pre) (c .before .before .before .before .read .ensures)
 
 sub-inverse-32 : tie.Need-sub-inverse-32
 sub-inverse-32 c = search needs
@@ -36,7 +36,7 @@ inverse-32-requires : tie.Need-inverse-32-requires
 inverse-32-requires c κs =
     let S = c .before .before .before .before .before .before in
     let q = last S (c .before .before .before .before .if1 .left) (c .before .before .before .if2 .left) (c .before .before .if3 .left) in
-    let w = whole-inputs 32 q (S .pre) (c .before .before .before .before .before .read .ensures) in
+    let w = whole-inputs (S .args .x .now) (S .args .y .now) 32 q (S .pre) (c .before .before .before .before .before .read .ensures) in
     (w .0, (w .1, omega (arith, q)))
 
 same-length : tie.Need-same-length
