@@ -19,7 +19,7 @@ use Rattle.meaning.proofs.Sizes.{weightSize}
 use Rattle.product.specs.Product.{spot, Laid, lineSum, shifted, Line}
 use Rattle.product.proofs.Laid.{spot-two, exact}
 use Rattle.tables.specs.Term.{term}
-use Rattle.engine.specs.Lines.{lineOf}
+use Rattle.engine.specs.Lines.{Place, lineOf}
 
 light : (forward : Bool) (kind n j i : ℕ) → natAbs (term forward kind n j i) ≤ 90
 light true kind n j i = weightSize kind n j i
@@ -32,8 +32,8 @@ sums true kind n x = refl
 sums false kind n x = refl
 
 -- m is the literal size of a branch, n the caller's number of that size
-module _ {n m : ℕ} (q : n ≡ m) (pairs : ℕ) (two : 2 * pairs ≡ m) (few : pairs ≤ 16) {kind : ℕ} {forward : Bool} {t : List ℤ}
-    (z : Laid m pairs 2 (2 * m) (λ i j. term forward kind m j i) t) {x y : List ℤ} (w : TakenLine n kind (length x) (length y)) where
+module _ {n m : ℕ} (q : n ≡ m) (pairs : ℕ) (two : 2 * pairs ≡ m) (few : pairs ≤ 16) (kind : ℕ) (forward : Bool) {t : List ℤ}
+    (z : Laid m pairs 2 (2 * m) (λ i j. term forward kind m j i) t) (x y : List ℤ) (w : TakenLine n kind (length x) (length y)) where
   input : (i : ℕ) → at x (0 + spot 2 i) ≡ at x i
   input i = ap (at x) (zero-add (spot 2 i) ∙ spot-two i)
 
@@ -59,3 +59,11 @@ module _ {n m : ℕ} (q : n ≡ m) (pairs : ℕ) (two : 2 * pairs ≡ m) (few : 
   whole-line r e =
       e ∙ ap (λ (k : ℕ). tabulate k (λ j. shifted (pos 0) 0 (lineSum x 0 2 t (2 * m) pairs j))) (w .room ∙ q)
       ∙ tab-cong m _ _ output ∙ sums forward kind m (at x) ∙ ap (λ (k : ℕ). lineOf forward kind k (at x)) (sym q)
+
+-- a single weight: input i of output j of an inverse line
+pub entry-is : {n m : ℕ} → n ≡ m → (pairs : ℕ) → 2 * pairs ≡ m → (kind : ℕ) {t : List ℤ} → Laid m pairs 2 (2 * m) (λ i j. term false kind m j i) t
+    → (i j : ℕ) → Place n i j → (2 * j + spot (2 * m) i < length t) × (at t (2 * j + spot (2 * m) i) ≡ weight kind n i j)
+entry-is q pairs two kind z i j p = (
+  z .held i j (omega (arith, p .row)) (omega (arith, p .column)),
+  z .right i j (omega (arith, p .row)) (omega (arith, p .column)) ∙ ap (λ (k : ℕ). weight kind k i j) (sym q),
+)
