@@ -5,7 +5,7 @@ ghost use Rattle.halves.specs.Lines.{Half};
 
 // The odd rows of 8 points, their first half.
 const ODD_8: [i16; 16] = [
-    89,
+    89, // rows 1 and 3 of 8
     75,
     75,
     -18,
@@ -13,7 +13,7 @@ const ODD_8: [i16; 16] = [
     -89,
     18,
     -50,
-    50,
+    50, // rows 5 and 7 of 8
     18,
     -89,
     -50,
@@ -31,7 +31,7 @@ pub fn odd_8() -> [i16; 16]
 
 // The odd rows of 16 points, their first half.
 const ODD_16: [i16; 64] = [
-    90,
+    90, // rows 1 and 3 of 16
     87,
     87,
     57,
@@ -47,7 +47,7 @@ const ODD_16: [i16; 64] = [
     -70,
     9,
     -25,
-    80,
+    80, // rows 5 and 7 of 16
     70,
     9,
     -43,
@@ -63,7 +63,7 @@ const ODD_16: [i16; 64] = [
     -80,
     43,
     -57,
-    57,
+    57, // rows 9 and 11 of 16
     43,
     -80,
     -90,
@@ -79,7 +79,7 @@ const ODD_16: [i16; 64] = [
     9,
     70,
     -80,
-    25,
+    25, // rows 13 and 15 of 16
     9,
     -70,
     -25,
@@ -105,7 +105,7 @@ pub fn odd_16() -> [i16; 64]
 
 // The odd rows of 32 points, their first half.
 const ODD_32: [i16; 256] = [
-    90,
+    90, // rows 1 and 3 of 32
     90,
     90,
     82,
@@ -137,7 +137,7 @@ const ODD_32: [i16; 256] = [
     -38,
     4,
     -13,
-    88,
+    88, // rows 5 and 7 of 32
     85,
     67,
     46,
@@ -169,7 +169,7 @@ const ODD_32: [i16; 256] = [
     -78,
     22,
     -31,
-    82,
+    82, // rows 9 and 11 of 32
     78,
     22,
     -4,
@@ -201,7 +201,7 @@ const ODD_32: [i16; 256] = [
     -90,
     38,
     -46,
-    73,
+    73, // rows 13 and 15 of 32
     67,
     -31,
     -54,
@@ -233,7 +233,7 @@ const ODD_32: [i16; 256] = [
     -73,
     54,
     -61,
-    61,
+    61, // rows 17 and 19 of 32
     54,
     -73,
     -85,
@@ -265,7 +265,7 @@ const ODD_32: [i16; 256] = [
     -31,
     67,
     -73,
-    46,
+    46, // rows 21 and 23 of 32
     38,
     -90,
     -88,
@@ -297,7 +297,7 @@ const ODD_32: [i16; 256] = [
     22,
     78,
     -82,
-    31,
+    31, // rows 25 and 27 of 32
     22,
     -78,
     -61,
@@ -329,7 +329,7 @@ const ODD_32: [i16; 256] = [
     67,
     85,
     -88,
-    13,
+    13, // rows 29 and 31 of 32
     4,
     -38,
     -13,
