@@ -185,3 +185,15 @@ sum-rest m n f l e =
     ap (λ (i : ℕ). sum i f) whole ∙ sum-split m k f
     ∙ ap (λ (z : ℤ). sum m f +ℤ z) (sum-cong k (λ i. f (m + i)) (λ i. pos 0) (λ i h. e (m + i) (omega arith) (omega arith)) ∙ sum-none k)
     ∙ +ℤ-idr (sum m f)
+
+pub sumℕ-rest : (m n : ℕ) (f : ℕ → ℕ) → m ≤ n → ((i : ℕ) → m ≤ i → i < n → f i ≡ 0) → sumℕ n f ≡ sumℕ m f
+sumℕ-rest m n f l e =
+    let k = n - m in
+    let whole : n ≡ m + k = omega arith in
+    ap (λ (i : ℕ). sumℕ i f) whole ∙ more k (λ i h g. e i h (omega arith))
+  where
+    more : (k : ℕ) → ((i : ℕ) → m ≤ i → i < m + k → f i ≡ 0) → sumℕ (m + k) f ≡ sumℕ m f
+    more zero z = ap (λ (i : ℕ). sumℕ i f) (add-zero m)
+    more (suc k) z =
+        let one : m + suc k ≡ m + k + 1 = omega arith in
+        ap (λ (i : ℕ). sumℕ i f) one ∙ sumℕ-next (m + k) f ∙ omega (arith, more k (λ i h g. z i h (omega arith)), z (m + k) (omega arith) (omega arith))

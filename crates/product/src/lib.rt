@@ -6,8 +6,8 @@
 // (`products`) and added by a second one (`total`), the odd number named first, and the number of pairs a literal of the caller
 // of `lines`. docs/DECISIONS.md has what loses it.
 ghost use mathlib.Core.Path.{_≡_};
-ghost use Prim.Native.Nat.{ℕ, _+_, _*_, _≤_, _<_};
-ghost use lib.IntN.{_+ℤ_, _*ℤ_, natAbs};
+ghost use Prim.Native.Nat.{ℕ, _+_, _*_, _-_, _^_, _≤_, _<_};
+ghost use lib.IntN.{pos, _+ℤ_, _*ℤ_, natAbs};
 ghost use lib.ListN.{length, drop};
 ghost use mathlib.Core.List.{_++_};
 ghost use Rattle.algebra.specs.Sum.{sum};
@@ -34,6 +34,14 @@ fn round(z: i32, half: i32, shift: u32) -> i32
     ensures { λ r. ⌜ r ≡ shifted half shift z ⌝ }
 {
     (z + half) >> shift
+}
+
+// What a sum is rounded by before a shift.
+pub fn half(shift: u32) -> i32
+    requires { ⌜ (0 < shift) × (shift ≤ 20) ⌝ }
+    ensures { λ r. ⌜ (r ≡ pos (2 ^ (shift - 1))) × Rounding r shift ⌝ }
+{
+    1 << (shift - 1)
 }
 
 // The pairs of one output, each on its own.

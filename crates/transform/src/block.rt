@@ -17,11 +17,13 @@ pub fn inverse(shape: Shape, coefficients: &[i16], residuals: &mut [i32]) -> Ans
     if number != 0 {
         return refusal(number, 0);
     }
-    let place = inverse_block::inverse::hunt(shape, coefficients);
+    let rows = inverse_block::live::rows(shape, coefficients);
+    let columns = inverse_block::live::columns(shape, rows, coefficients);
+    let place = inverse_block::hunt::hunt(shape, columns, rows, coefficients);
     if place < coefficients.len() {
         return refusal(8, place as u32);
     }
-    acceptance(inverse_block::inverse::stages(shape, coefficients, residuals))
+    acceptance(inverse_block::stages::stages(shape, rows, columns, coefficients, residuals))
 }
 
 /// The forward block: residuals to coefficients. Refusals 1 to 7 and 9.

@@ -1,25 +1,31 @@
--- `zipped_32` hands out the order of 32 points that kind and direction take. Assumes nothing.
+-- `zipped_32` hands out the order of 32 points that kind and direction take, each by one computed test. Assumes nothing.
 use mathlib.Core.Path.{refl}
+use Rattle.meaning.specs.Weights.{S, C, D, fold, first, turn, cosines}
 use Rattle.meaning.proofs.ThreeKinds.{dst, dct8, dct2}
-use Rattle.tables.proofs.Orders.{inverse32-laid, forward32-laid, cosine32-laid, cosine32-laid-turned, inverse0-32-laid, forward0-32-laid}
+use Rattle.tables.proofs.Pairs.{laid-by}
 use Rattle.tables.proofs.Choice.{by-rows, by-columns, either-way, no-kind}
 use Rattle.tables.proofs.zipped.zipped_32.Statement.{statement}
 use Rattle.tables.proofs.zipped.zipped_32.Tie as tie
 
 returns : tie.Need-returns
-returns c = by-rows 32 16 (c .before .before .args .kind) (c .before .before .args .forward) (dst _ (c .before .if1 .taken) 32) (c .if2 .taken) forward32-laid
+unfolding S fold first
+returns c = by-rows 32 16 (c .before .before .args .kind) (c .before .before .args .forward) (dst _ (c .before .if1 .taken) 32) (c .if2 .taken) (laid-by 32 16 (λ i j. S 32 j i) _ tt refl)
 
 returns-2 : tie.Need-returns-2
-returns-2 c = by-columns 32 16 (c .before .before .args .kind) (c .before .before .args .forward) (dst _ (c .before .if1 .taken) 32) (c .if2 .left) inverse32-laid
+unfolding S fold first
+returns-2 c = by-columns 32 16 (c .before .before .args .kind) (c .before .before .args .forward) (dst _ (c .before .if1 .taken) 32) (c .if2 .left) (laid-by 32 16 (S 32) _ tt refl)
 
 returns-3 : tie.Need-returns-3
-returns-3 c = either-way 32 16 (c .before .before .args .kind) (c .before .before .args .forward) (dct8 _ (c .if3 .taken) 32) cosine32-laid cosine32-laid-turned
+unfolding S C fold first
+returns-3 c = either-way 32 16 (c .before .before .args .kind) (c .before .before .args .forward) (dct8 _ (c .if3 .taken) 32) (laid-by 32 16 (C 32) _ tt refl) (laid-by 32 16 (λ i j. C 32 j i) _ tt refl)
 
 returns-4 : tie.Need-returns-4
-returns-4 c = by-rows 32 16 (c .before .before .before .before .args .kind) (c .before .before .before .before .args .forward) (dct2 _ (c .before .if4 .taken) 32) (c .if5 .taken) forward0-32-laid
+unfolding D turn cosines
+returns-4 c = by-rows 32 16 (c .before .before .before .before .args .kind) (c .before .before .before .before .args .forward) (dct2 _ (c .before .if4 .taken) 32) (c .if5 .taken) (laid-by 32 16 (λ i j. D 32 j i) _ tt refl)
 
 returns-5 : tie.Need-returns-5
-returns-5 c = by-columns 32 16 (c .before .before .before .before .args .kind) (c .before .before .before .before .args .forward) (dct2 _ (c .before .if4 .taken) 32) (c .if5 .left) inverse0-32-laid
+unfolding D turn cosines
+returns-5 c = by-columns 32 16 (c .before .before .before .before .args .kind) (c .before .before .before .before .args .forward) (dct2 _ (c .before .if4 .taken) 32) (c .if5 .left) (laid-by 32 16 (D 32) _ tt refl)
 
 returns-6 : tie.Need-returns-6
 returns-6 c = no-kind 32 16 (c .before .before .before .args .kind) (c .before .before .before .args .forward) (c .before .before .if1 .left) (c .before .if3 .left) (c .if4 .left) refl
