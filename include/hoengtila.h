@@ -69,7 +69,9 @@ typedef struct {
 int32_t hoengtila_weight(uint32_t kind, uint32_t n, uint32_t i, uint32_t j);
 
 /* Lines: n numbers of 16 bits in, n exact sums of 32 bits out, with no shift.
- * The first two take the fast path, the others the full matrix product; they give the same. */
+ * The first two take the fast path, the others the full matrix product; they give the same. The fast path shares products
+ * between weights: 10, 136 and 664 multiplications at 4, 16 and 32 points, where the product has 16, 256 and 1,024. At 8 points
+ * nothing is shared, and it is the product. */
 hoengtila_answer hoengtila_line_forward(uint32_t n, uint32_t kind, const int16_t *x, size_t x_len, int32_t *y, size_t y_len);
 hoengtila_answer hoengtila_line_inverse(uint32_t n, uint32_t kind, const int16_t *x, size_t x_len, int32_t *y, size_t y_len);
 hoengtila_answer hoengtila_line_forward_product(uint32_t n, uint32_t kind, const int16_t *x, size_t x_len, int32_t *y, size_t y_len);

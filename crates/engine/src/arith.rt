@@ -24,10 +24,3 @@ pub fn negated(a: i32) -> i32
 {
     0 - a
 }
-
-pub fn plus(a: i32, b: i32) -> i32
-    requires { ⌜ (natAbs a ≤ 1000000000) × (natAbs b ≤ 1000000000) ⌝ }
-    ensures { λ r. ⌜ r ≡ a +ℤ b ⌝ }
-{
-    a + b
-}

@@ -12,7 +12,10 @@ use lib.ListN.{length}
 use Rattle.algebra.specs.Lists.{at}
 use Rattle.meaning.specs.Shape.{isSize, isKind}
 use Rattle.meaning.specs.Taken.{TakenLine}
+use Rattle.meaning.proofs.Cases.{size-cases, kind-cases}
 use Rattle.engine.specs.Lines.{Spot, Given, input, line}
+use Rattle.folding.specs.Lines as Folded
+use Rattle.folding.specs.Lines.{isShared, isSine}
 use Rattle.tables.specs.Table.{Table}
 use Rattle.transform.specs.Line.{isPlace}
 
@@ -56,3 +59,7 @@ in-order forward kind n x e = e ∙ (λ p. line forward kind n n (λ i. at x (sa
   where
     same : (i : ℕ) → 0 + i * 1 ≡ i
     same i = omega arith
+
+-- what the folded lines ask for
+pub folded-given : {n kind : ℕ} {x y : List ℤ} → TakenLine n kind (length x) (length y) → (n ≡ 8 → ⊥) → Folded.Given n kind x y
+folded-given {n} {kind} p d = record { size = size-cases (λ n. (n ≡ 8 → ⊥) → isShared n ≡ true) (λ d. refl) (λ d. absurd (d refl)) (λ d. refl) (λ d. refl) n (p .size) d; known = kind-cases (λ k. isSine k ≡ true) refl refl kind (p .known); inputs = p .long; outputs = p .room }

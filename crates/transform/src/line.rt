@@ -3,7 +3,6 @@
 use crate::check::acceptance;
 use crate::check::line_refusal;
 use crate::check::refusal;
-use engine::fast::fast;
 use engine::product::entry;
 use engine::product::product;
 use meaning::Answer;
@@ -14,7 +13,7 @@ use tables::weights_8;
 use tables::weights_16;
 use tables::weights_32;
 ghost use mathlib.Core.Path.{_≡_};
-ghost use mathlib.Core.Bool.{true};
+ghost use mathlib.Core.Bool.{true, false};
 ghost use lib.ListN.{length};
 ghost use Rattle.algebra.specs.Lists.{at};
 ghost use Rattle.algebra.specs.Refusals.{numberOf};
@@ -70,50 +69,72 @@ pub fn weight(kind: u32, n: u32, i: u32, j: u32) -> i32
 }
 
 // All n inputs, on a table lent to it.
-fn run(t: &[i16], n: usize, kind: u32, forward: bool, quick: bool, x: &[i16], y: &mut [i32])
+fn run(t: &[i16], n: usize, kind: u32, forward: bool, x: &[i16], y: &mut [i32])
     requires { ⌜ Given n kind forward n 0 1 (now t) (now x) (now y) ⌝ }
     ensures { λ _. ⌜ now (y .exit) ≡ line forward kind n n (at (now (x .entry))) ⌝ }
 {
-    if quick {
-        fast(t, n, kind, forward, x, 0, 1, n, y);
-    } else {
-        product(t, n, kind, forward, x, 0, 1, n, y);
-    }
+    product(t, n, kind, forward, x, 0, 1, n, y);
 }
 
-// A line that was accepted: the one table of its size is lent to it.
-fn accepted_line(n: u32, kind: u32, forward: bool, quick: bool, x: &[i16], y: &mut [i32])
+// A line that was accepted, by the full product: the one table of its size is lent to it.
+fn product_line(n: u32, kind: u32, forward: bool, x: &[i16], y: &mut [i32])
     requires { ⌜ numberOf (lineTests n kind (length (now x)) (length (now y))) ≡ 0 ⌝ }
     ensures { λ _. ⌜ now (y .exit) ≡ line forward kind n n (at (now (x .entry))) ⌝ }
 {
     if n == 4 {
         let t = weights_4();
-        run(&t, 4, kind, forward, quick, x, y);
+        run(&t, 4, kind, forward, x, y);
         return;
     }
     if n == 8 {
         let t = weights_8();
-        run(&t, 8, kind, forward, quick, x, y);
+        run(&t, 8, kind, forward, x, y);
         return;
     }
     if n == 16 {
         let t = weights_16();
-        run(&t, 16, kind, forward, quick, x, y);
+        run(&t, 16, kind, forward, x, y);
         return;
     }
     let t = weights_32();
-    run(&t, 32, kind, forward, quick, x, y);
+    run(&t, 32, kind, forward, x, y);
 }
 
-// Any numbers and any buffers: the first refusal that applies, or the line.
-fn total(n: u32, kind: u32, forward: bool, quick: bool, x: &[i16], y: &mut [i32]) -> Answer
+// A line that was accepted, by its folds. At 8 points nothing is shared, and the product is the only path. The directions are
+// apart, so that neither has the other's numbers on its stack, nor the larger tables.
+fn folded_forward(n: u32, kind: u32, x: &[i16], y: &mut [i32])
+    requires { ⌜ numberOf (lineTests n kind (length (now x)) (length (now y))) ≡ 0 ⌝ }
+    ensures { λ _. ⌜ now (y .exit) ≡ line true kind n n (at (now (x .entry))) ⌝ }
+{
+    if n == 8 {
+        let t = weights_8();
+        run(&t, 8, kind, true, x, y);
+    } else {
+        folded::forward::forward(n as usize, kind, x, y);
+    }
+}
+
+fn folded_inverse(n: u32, kind: u32, x: &[i16], y: &mut [i32])
+    requires { ⌜ numberOf (lineTests n kind (length (now x)) (length (now y))) ≡ 0 ⌝ }
+    ensures { λ _. ⌜ now (y .exit) ≡ line false kind n n (at (now (x .entry))) ⌝ }
+{
+    if n == 8 {
+        let t = weights_8();
+        run(&t, 8, kind, false, x, y);
+    } else {
+        folded::inverse::inverse(n as usize, kind, x, y);
+    }
+}
+
+// Any numbers and any buffers: the first refusal that applies, or the line by the full product.
+fn total(n: u32, kind: u32, forward: bool, x: &[i16], y: &mut [i32]) -> Answer
     ensures { λ r. ⌜ _≡_ {A = Outcome} (r, now (y .exit)) (lineOutcome forward n kind (now (x .entry)) (now (y .entry))) ⌝ }
 {
     let number = line_refusal(n, kind, x.len(), y.len());
     if number != 0 {
         return refusal(number, 0);
     }
-    accepted_line(n, kind, forward, quick, x, y);
+    product_line(n, kind, forward, x, y);
     acceptance(0)
 }
 
@@ -121,28 +142,38 @@ fn total(n: u32, kind: u32, forward: bool, quick: bool, x: &[i16], y: &mut [i32]
 pub fn forward(n: u32, kind: u32, x: &[i16], y: &mut [i32]) -> Answer
     ensures { λ r. ⌜ _≡_ {A = Outcome} (r, now (y .exit)) (forwardLineOutcome n kind (now (x .entry)) (now (y .entry))) ⌝ }
 {
-    total(n, kind, true, true, x, y)
+    let refused = line_refusal(n, kind, x.len(), y.len());
+    if refused != 0 {
+        return refusal(refused, 0);
+    }
+    folded_forward(n, kind, x, y);
+    acceptance(0)
 }
 
 /// The forward line by the full product.
 pub fn forward_product(n: u32, kind: u32, x: &[i16], y: &mut [i32]) -> Answer
     ensures { λ r. ⌜ _≡_ {A = Outcome} (r, now (y .exit)) (forwardLineOutcome n kind (now (x .entry)) (now (y .entry))) ⌝ }
 {
-    total(n, kind, true, false, x, y)
+    total(n, kind, true, x, y)
 }
 
 /// The inverse line by the fast path.
 pub fn inverse(n: u32, kind: u32, x: &[i16], y: &mut [i32]) -> Answer
     ensures { λ r. ⌜ _≡_ {A = Outcome} (r, now (y .exit)) (inverseLineOutcome n kind (now (x .entry)) (now (y .entry))) ⌝ }
 {
-    total(n, kind, false, true, x, y)
+    let refused = line_refusal(n, kind, x.len(), y.len());
+    if refused != 0 {
+        return refusal(refused, 0);
+    }
+    folded_inverse(n, kind, x, y);
+    acceptance(0)
 }
 
 /// The inverse line by the full product.
 pub fn inverse_product(n: u32, kind: u32, x: &[i16], y: &mut [i32]) -> Answer
     ensures { λ r. ⌜ _≡_ {A = Outcome} (r, now (y .exit)) (inverseLineOutcome n kind (now (x .entry)) (now (y .entry))) ⌝ }
 {
-    total(n, kind, false, false, x, y)
+    total(n, kind, false, x, y)
 }
 
 /// What both paths of a direction hand back.

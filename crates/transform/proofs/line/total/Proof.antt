@@ -34,8 +34,8 @@ returns c =
     ap (λ (a : Answer). (a, s .args .y .now)) (c .refusal .ensures ∙ ap (λ (number : ℕ). refused number 0) (c .before .before .line-refusal .ensures))
     ∙ sym (refused-first [] (given-back s) (done s) (tests s) tt (λ e. c .before .if1 .taken (c .before .before .line-refusal .ensures ∙ e)))
 
-accepted-line-requires : tie.Need-accepted-line-requires
-accepted-line-requires c κs = search needs
+product-line-requires : tie.Need-product-line-requires
+product-line-requires c κs = search needs
 
 acceptance-requires : tie.Need-acceptance-requires
 acceptance-requires c κs = search needs
@@ -46,7 +46,7 @@ same-length c = search needs
 returns-2 : tie.Need-returns-2
 returns-2 c =
     let s = c .before .before .before .before .before .before in
-    _∙_ {b = done s} (λ i. (c .acceptance .ensures i, c .before .before .accepted-line .ensures i))
+    _∙_ {b = done s} (λ i. (c .acceptance .ensures i, c .before .before .product-line .ensures i))
     (sym (passed-first [] (given-back s) (done s) (tests s) tt (sym (c .before .before .before .before .before .line-refusal .ensures) ∙ c .before .before .before .before .if1 .left)))
 
 pub total-spec : {M : Type 1} → statement M
@@ -56,7 +56,7 @@ total-spec =
     line-refusal-requires
     refusal-requires
     returns
-    accepted-line-requires
+    product-line-requires
     acceptance-requires
     same-length
     returns-2)

@@ -1,0 +1,9 @@
+pub mod Law
+pub mod Classes
+pub mod Sizes
+pub mod Reading
+pub mod TwoKinds
+pub mod Writing
+pub mod Adding
+pub mod Dots
+pub mod Gathering
