@@ -15,6 +15,17 @@
  *   7  the output's length is not width * height (line: n)
  *   8  inverse block: a coefficient other than 0 outside the kept part (the first 16 columns and rows); place of the first
  *   9  forward block: a residual of size above 2^depth - 1; place of the first
+ *
+ * Lists of steps have these, in this order, with count 0:
+ *
+ *   1  there is no list of n points: n is not 4, 16 or 32
+ *  18  more than 2,048 steps or cells
+ *   6  the input's length is not the list's number of inputs
+ *   7  the output's length is not the list's number of output cells
+ *  28  more inputs than cells; then at the first step that meets one, and after the last step at the first output cell:
+ *  28  a cell outside the list's number of cells
+ *  17  a cell is read that was not written
+ *  29  the result of a step is outside 32 bits
  */
 #ifndef HOENGTILA_H
 #define HOENGTILA_H
@@ -54,6 +65,37 @@ hoengtila_answer hoengtila_line_inverse_product(uint32_t n, uint32_t kind, const
  * takes residuals and gives coefficients, 0 outside the kept part. */
 hoengtila_answer hoengtila_block_inverse(hoengtila_shape shape, const int16_t *coefficients, size_t coefficients_len, int32_t *residuals, size_t residuals_len);
 hoengtila_answer hoengtila_block_forward(hoengtila_shape shape, const int16_t *residuals, size_t residuals_len, int16_t *coefficients, size_t coefficients_len);
+
+/* Lists of steps: a run works on numbered cells. The inputs stand in the first cells; each step writes one cell; `outs` names
+ * the cells of the outputs. `steps` has four numbers to a step: the operation, the cell that it writes, the cell that it reads,
+ * and the second cell that it reads or the constant.
+ *
+ *   0  adds two cells                 2  negates a cell; the fourth number says nothing
+ *   1  subtracts the second cell      any other: multiplies by the constant
+ *
+ * Fewer than four numbers at the end are no step. The cells that a step reads are looked at before it writes. */
+typedef struct {
+    uint32_t number;
+    uint32_t count; /* how many multiplying steps the run took */
+} hoengtila_taken;
+
+typedef struct {
+    uint32_t number;
+    uint32_t inputs;
+    uint32_t cells;
+    uint32_t steps; /* four numbers each */
+    uint32_t outs;
+} hoengtila_listed;
+
+/* Any list: x holds the inputs, y takes the outputs. */
+hoengtila_taken hoengtila_steps_run(uint32_t inputs, uint32_t cells, const int32_t *steps, size_t steps_len, const int32_t *outs, size_t outs_len, const int16_t *x, size_t x_len, int32_t *y, size_t y_len);
+
+/* The forward DST-VII of n points as a list: 18, 277 or 1302 steps, 8, 127 or 620 of them multiplying. 7 where a buffer has
+ * another length than the list's, and neither is written; what is told of the list is told then too. */
+hoengtila_listed hoengtila_steps_list(uint32_t n, int32_t *steps, size_t steps_len, int32_t *outs, size_t outs_len);
+
+/* The forward DST-VII of n points by its list: what hoengtila_line_forward_product gives. */
+hoengtila_taken hoengtila_steps_forward(uint32_t n, const int16_t *x, size_t x_len, int32_t *y, size_t y_len);
 
 #ifdef __cplusplus
 }

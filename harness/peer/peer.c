@@ -8,12 +8,18 @@
 
 enum { MOST = 4096 };
 enum { WEIGHT, LINE_FORWARD, LINE_INVERSE, LINE_FORWARD_PRODUCT, LINE_INVERSE_PRODUCT, BLOCK_INVERSE, BLOCK_FORWARD };
+enum { STEPS_RUN = 600, STEPS_LIST, STEPS_FORWARD };
+
+/* more numbers than 2,048 steps have */
+enum { MOST_STEPS = 8448 };
 
 /* an output has one number more than the library is told of, which is to stay as it is */
 enum { BEYOND = 0x5A5A };
 static int16_t in16[MOST];
 static int16_t out16[MOST + 1];
 static int32_t out32[MOST + 1];
+static int32_t steps32[MOST_STEPS + 1];
+static int32_t outs32[MOST + 1];
 
 static void get(void *to, size_t size, size_t count) {
     if (fread(to, size, count, stdin) != count) exit(1);
@@ -97,12 +103,63 @@ static void block(uint32_t call) {
     }
 }
 
+static uint32_t steps_length(void) {
+    uint32_t n = number();
+    if (n > MOST_STEPS) exit(2);
+    return n;
+}
+
+static void put_taken(hoengtila_taken t, uint32_t out) {
+    if (out32[out] != BEYOND) exit(3);
+    put(&t.number, sizeof t.number, 1);
+    put(&t.count, sizeof t.count, 1);
+    put(out32, sizeof *out32, out);
+}
+
+static void steps_run(void) {
+    uint32_t inputs = number(), cells = number(), steps = steps_length(), outs = length(), in = length(), out = length();
+    get(steps32, sizeof *steps32, steps);
+    get(outs32, sizeof *outs32, outs);
+    get(in16, sizeof *in16, in);
+    get(out32, sizeof *out32, out);
+    out32[out] = BEYOND;
+    put_taken(hoengtila_steps_run(inputs, cells, steps32, steps, outs32, outs, in16, in, out32, out), out);
+}
+
+static void steps_list(void) {
+    uint32_t n = number(), steps = steps_length(), outs = length();
+    hoengtila_listed l;
+    get(steps32, sizeof *steps32, steps);
+    get(outs32, sizeof *outs32, outs);
+    steps32[steps] = outs32[outs] = BEYOND;
+    l = hoengtila_steps_list(n, steps32, steps, outs32, outs);
+    if (steps32[steps] != BEYOND || outs32[outs] != BEYOND) exit(3);
+    put(&l.number, sizeof l.number, 1);
+    put(&l.inputs, sizeof l.inputs, 1);
+    put(&l.cells, sizeof l.cells, 1);
+    put(&l.steps, sizeof l.steps, 1);
+    put(&l.outs, sizeof l.outs, 1);
+    put(steps32, sizeof *steps32, steps);
+    put(outs32, sizeof *outs32, outs);
+}
+
+static void steps_forward(void) {
+    uint32_t n = number(), in = length(), out = length();
+    get(in16, sizeof *in16, in);
+    get(out32, sizeof *out32, out);
+    out32[out] = BEYOND;
+    put_taken(hoengtila_steps_forward(n, in16, in, out32, out), out);
+}
+
 int main(void) {
     uint32_t call;
     while (fread(&call, sizeof call, 1, stdin) == 1) {
         if (call == WEIGHT) weight();
         else if (call <= LINE_INVERSE_PRODUCT) line(call);
         else if (call <= BLOCK_FORWARD) block(call);
+        else if (call == STEPS_RUN) steps_run();
+        else if (call == STEPS_LIST) steps_list();
+        else if (call == STEPS_FORWARD) steps_forward();
         else return 2;
         fflush(stdout);
     }

@@ -1,11 +1,11 @@
 //! An independent model of document 01 (the scope), and what compares other things with it.
 //!
-//! `model` is written from the text of document 01 alone, but for two weights that are H.266's, on 64-bit integers, with no
-//! eye to speed.
-//! `random` makes the cases, the same ones for the same seed; `patterns`, `folding` and `wrong` know which are hard, and
-//! `files` has block files.
-//! `library` is the library for Rust callers, `peer` the library behind a pipe; `call` and `subject` let a test run the
-//! same calls on either, and `compare` holds what comes back to the model.
+//! `model` is written from the text of documents 01 and 02 alone, but for two weights that are H.266's, on 64-bit integers,
+//! with no eye to speed.
+//! `random` makes the cases, the same ones for the same seed; `patterns`, `folding` and `wrong` know which are hard, `files`
+//! has block files, and `steps` makes the lists of steps that the crates store.
+//! `library` is the library for Rust callers, `peer` the library behind a pipe; `call`, `step_call` and `subject` let a test
+//! run the same calls on either, and `compare` holds what comes back to the model.
 
 pub mod call;
 pub mod compare;
@@ -16,5 +16,7 @@ pub mod model;
 pub mod patterns;
 pub mod peer;
 pub mod random;
+pub mod step_call;
+pub mod steps;
 pub mod subject;
 pub mod wrong;

@@ -24,8 +24,28 @@ pub struct Answer {
     pub rails: u32,
 }
 
+/// What a run of a list of steps hands back beside its output: the number of the refusal or 0, and how many multiplying
+/// steps it took.
+#[repr(C)]
+#[derive(Clone, Copy, Debug, PartialEq, Eq)]
+pub struct Taken {
+    pub number: u32,
+    pub count: u32,
+}
+
+/// What is told of a list of steps, which has four numbers to a step.
+#[repr(C)]
+#[derive(Clone, Copy, Debug, PartialEq, Eq)]
+pub struct Listed {
+    pub number: u32,
+    pub inputs: u32,
+    pub cells: u32,
+    pub steps: u32,
+    pub outs: u32,
+}
+
 mod c {
-    use super::{Answer, Shape};
+    use super::{Answer, Listed, Shape, Taken};
 
     // Nothing holds these lines to the header or to the Rattle source but the tests.
     unsafe extern "C" {
@@ -76,6 +96,32 @@ mod c {
             coefficients: *mut i16,
             coefficients_len: usize,
         ) -> Answer;
+        pub fn hoengtila_steps_run(
+            inputs: u32,
+            cells: u32,
+            steps: *const i32,
+            steps_len: usize,
+            outs: *const i32,
+            outs_len: usize,
+            x: *const i16,
+            x_len: usize,
+            y: *mut i32,
+            y_len: usize,
+        ) -> Taken;
+        pub fn hoengtila_steps_list(
+            n: u32,
+            steps: *mut i32,
+            steps_len: usize,
+            outs: *mut i32,
+            outs_len: usize,
+        ) -> Listed;
+        pub fn hoengtila_steps_forward(
+            n: u32,
+            x: *const i16,
+            x_len: usize,
+            y: *mut i32,
+            y_len: usize,
+        ) -> Taken;
     }
 }
 
@@ -144,4 +190,50 @@ pub fn block_forward(shape: Shape, residuals: &[i16], coefficients: &mut [i16]) 
             output.len(),
         )
     }
+}
+
+/// Runs a list of steps on `x`: four numbers to a step in `steps`, the output cells in `outs`.
+#[inline]
+pub fn steps_run(
+    inputs: u32,
+    cells: u32,
+    steps: &[i32],
+    outs: &[i32],
+    x: &[i16],
+    y: &mut [i32],
+) -> Taken {
+    unsafe {
+        c::hoengtila_steps_run(
+            inputs,
+            cells,
+            steps.as_ptr(),
+            steps.len(),
+            outs.as_ptr(),
+            outs.len(),
+            x.as_ptr(),
+            x.len(),
+            y.as_mut_ptr(),
+            y.len(),
+        )
+    }
+}
+
+/// The forward DST-VII of `n` points as a list of steps, into buffers of its lengths.
+#[inline]
+pub fn steps_list(n: u32, steps: &mut [i32], outs: &mut [i32]) -> Listed {
+    unsafe {
+        c::hoengtila_steps_list(
+            n,
+            steps.as_mut_ptr(),
+            steps.len(),
+            outs.as_mut_ptr(),
+            outs.len(),
+        )
+    }
+}
+
+/// The forward DST-VII of `n` points by its list of steps.
+#[inline]
+pub fn steps_forward(n: u32, x: &[i16], y: &mut [i32]) -> Taken {
+    unsafe { c::hoengtila_steps_forward(n, x.as_ptr(), x.len(), y.as_mut_ptr(), y.len()) }
 }

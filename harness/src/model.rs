@@ -8,6 +8,7 @@ pub mod call;
 pub mod file;
 pub mod line;
 pub mod small;
+pub mod steps;
 pub mod weights;
 
 pub use block::{fair_ends, forward, inverse};

@@ -51,6 +51,14 @@ impl Peer {
         outcomes.unwrap_or_else(|why| panic!("the peer gave no reply ({why}): {:?}", self.ended()))
     }
 
+    /// One request as it stands, and so many numbers of its reply.
+    pub fn ask(&mut self, request: &[u8], count: usize) -> Vec<i32> {
+        let requests = self.requests.as_mut().expect("the peer is running");
+        let written = requests.write_all(request).and_then(|()| requests.flush());
+        let reply = written.and_then(|()| read_fours(&mut self.replies, count));
+        reply.unwrap_or_else(|why| panic!("the peer gave no reply ({why}): {:?}", self.ended()))
+    }
+
     fn ended(&mut self) -> std::io::Result<std::process::ExitStatus> {
         drop(self.requests.take());
         self.child.wait()

@@ -1,13 +1,18 @@
-// The library for C and Rust: each public function of `transform` under the name and with the arguments that
-// include/hoengtila.h declares. A wrapper is one call and has the contract of what it calls; none has a `requires`, so
+// The library for C and Rust: each public function of `transform`, `step_run` and `step_lists` under the name and with the
+// arguments that include/hoengtila.h declares. A wrapper is one call and has the contract of what it calls; none has a `requires`, so
 // whatever numbers and lengths a caller hands over, the contract says what comes back. Read it beside the header.
 use meaning::Answer;
 use meaning::Shape;
+use step_lists::Listed;
+use steps::Taken;
 ghost use mathlib.Core.Path.{_≡_};
 ghost use Rattle.meaning.specs.Answer.{Outcome, forwardLineOutcome, inverseLineOutcome};
 ghost use Rattle.meaning.specs.Inverse.{inverseOutcome};
 ghost use Rattle.meaning.specs.Forward.{forwardOutcome};
 ghost use Rattle.transform.specs.Line.{weightOrZero};
+ghost use Rattle.steps.specs.Numbers.{listOf};
+ghost use Rattle.steps.specs.Outcome.{Result, runOutcome};
+ghost use Rattle.step_lists.specs.Listed.{Handed, listOutcome, lineOutcome};
 
 #[no_mangle]
 pub extern "C" fn hoengtila_weight(kind: u32, n: u32, i: u32, j: u32) -> i32
@@ -74,4 +79,32 @@ pub extern "C" fn hoengtila_block_forward(
     ensures { λ r. ⌜ _≡_ {A = Outcome} (r, now (coefficients .exit)) (forwardOutcome shape (now (residuals .entry)) (now (coefficients .entry))) ⌝ }
 {
     transform::block::forward(shape, residuals, coefficients)
+}
+
+#[no_mangle]
+pub extern "C" fn hoengtila_steps_run(
+    inputs: u32,
+    cells: u32,
+    steps: &[i32],
+    outs: &[i32],
+    x: &[i16],
+    y: &mut [i32],
+) -> Taken
+    ensures { λ r. ⌜ _≡_ {A = Result} (r, now (y .exit)) (runOutcome (listOf inputs cells (now (steps .entry)) (now (outs .entry))) (now (x .entry)) (now (y .entry))) ⌝ }
+{
+    step_run::run::run(inputs, cells, steps, outs, x, y)
+}
+
+#[no_mangle]
+pub extern "C" fn hoengtila_steps_list(n: u32, steps: &mut [i32], outs: &mut [i32]) -> Listed
+    ensures { λ r. ⌜ _≡_ {A = Handed} (r, (now (steps .exit), now (outs .exit))) (listOutcome n (now (steps .entry)) (now (outs .entry))) ⌝ }
+{
+    step_lists::list::list(n, steps, outs)
+}
+
+#[no_mangle]
+pub extern "C" fn hoengtila_steps_forward(n: u32, x: &[i16], y: &mut [i32]) -> Taken
+    ensures { λ r. ⌜ _≡_ {A = Result} (r, now (y .exit)) (lineOutcome n (now (x .entry)) (now (y .entry))) ⌝ }
+{
+    step_lists::forward::forward(n, x, y)
 }

@@ -9,4 +9,5 @@ mod calls;
 mod lines;
 mod numbers;
 mod refusals;
+mod steps;
 mod weights;

@@ -1,0 +1,66 @@
+-- `main` ends. Assumes nothing.
+use Prim.Native.Nat.{_-_}
+use borrow.Author.Needs.{needs}
+use Rattle.print_steps.proofs.main.Statement.{statement}
+use Rattle.print_steps.proofs.main.Tie as tie
+
+abbrev Inv-loop : tie.InvT-loop
+Inv-loop count i₀ i = Unit {0}
+
+abbrev μ-loop : tie.MeasureT-loop
+μ-loop count i₀ i = count - i
+
+arg-count-requires : tie.Need-arg-count-requires Inv-loop μ-loop
+arg-count-requires c κs = search needs
+
+loop-holds : tie.Need-loop-holds Inv-loop μ-loop
+loop-holds c = search needs
+
+buffer-requires : tie.Need-buffer-requires Inv-loop μ-loop
+buffer-requires c κs = search needs
+
+slice-aggregate-arg : tie.Need-slice-aggregate-arg Inv-loop μ-loop
+slice-aggregate-arg c = search needs
+
+arg-requires : tie.Need-arg-requires Inv-loop μ-loop
+arg-requires c κs = search needs
+
+array-share-prefix-word : tie.Need-array-share-prefix-word Inv-loop μ-loop
+array-share-prefix-word c = search needs
+
+slice-aggregate-print : tie.Need-slice-aggregate-print Inv-loop μ-loop
+slice-aggregate-print c = search needs
+
+print-requires : tie.Need-print-requires Inv-loop μ-loop
+print-requires c κs = search needs
+
+add-i : tie.Need-add-i Inv-loop μ-loop
+add-i c = search needs
+
+loop-less : tie.Need-loop-less Inv-loop μ-loop
+loop-less c = search needs
+
+loop-again : tie.Need-loop-again Inv-loop μ-loop
+loop-again c = search needs
+
+returns : tie.Need-returns Inv-loop μ-loop
+returns c = search needs
+
+pub main-spec : {M : Type 1} → statement M
+main-spec =
+    tie.close
+    (tie.spec
+    Inv-loop
+    μ-loop
+    arg-count-requires
+    loop-holds
+    buffer-requires
+    slice-aggregate-arg
+    arg-requires
+    array-share-prefix-word
+    slice-aggregate-print
+    print-requires
+    add-i
+    loop-less
+    loop-again
+    returns)
