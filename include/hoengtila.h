@@ -12,9 +12,12 @@
  *   4  the vertical kind is not 1 or 2
  *   5  the depth is outside 8..12
  *   6  the input's length is not width * height (line: n)
- *   7  the output's length is not width * height (line: n)
+ *   7  the output's length is not width * height (line: n; writing a picture: it is too short)
  *   8  inverse block: a coefficient other than 0 outside the kept part (the first 16 columns and rows); place of the first
  *   9  forward block: a residual of size above 2^depth - 1; place of the first
+ *  23  writing a picture: a residual outside -32768..32767
+ *  24  reading a picture: the header is not that of such a graymap, or has sizes that 1 or 2 would refuse
+ *  25  reading a picture: too few or too many samples
  *
  * Lists of steps have these, in this order, with count 0:
  *
@@ -50,6 +53,17 @@ typedef struct {
     uint32_t place;  /* of the number that 8 or 9 refuses: column + row * width */
     uint32_t rails;  /* inverse block: values between the stages that the clip to 16 bits altered */
 } hoengtila_answer;
+
+typedef struct {
+    uint32_t number; /* 0, or the number of the refusal */
+    uint32_t bytes;  /* how long the picture is, from the start of the output; 0 where refused */
+} hoengtila_written;
+
+typedef struct {
+    uint32_t number; /* 0, or the number of the refusal */
+    uint32_t width;  /* of the header, also where 25 or 7 refuses; 0 where 24 does */
+    uint32_t height;
+} hoengtila_picture;
 
 /* The weight of row i in column j at n points; 0 outside. */
 int32_t hoengtila_weight(uint32_t kind, uint32_t n, uint32_t i, uint32_t j);
@@ -96,6 +110,12 @@ hoengtila_listed hoengtila_steps_list(uint32_t n, int32_t *steps, size_t steps_l
 
 /* The forward DST-VII of n points by its list: what hoengtila_line_forward_product gives. */
 hoengtila_taken hoengtila_steps_forward(uint32_t n, const int16_t *x, size_t x_len, int32_t *y, size_t y_len);
+
+/* Pictures: a block of residuals as a binary graymap (P5, maximum value 65535, each sample the residual + 32768, high byte
+ * first). A picture has at most 15 + 2 * width * height bytes. Writing refuses 1, 2, 6, 23, then 7: an output too short to hold
+ * the picture; what stands beyond it stays. Reading refuses 24, 25, then 7: an output that has not width * height numbers. */
+hoengtila_written hoengtila_picture_write(uint32_t width, uint32_t height, const int32_t *residuals, size_t residuals_len, uint8_t *file, size_t file_len);
+hoengtila_picture hoengtila_picture_read(const uint8_t *file, size_t file_len, int32_t *residuals, size_t residuals_len);
 
 #ifdef __cplusplus
 }

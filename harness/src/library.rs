@@ -44,8 +44,25 @@ pub struct Listed {
     pub outs: u32,
 }
 
+/// What writing a picture hands back: the number of the refusal or 0, and how long the picture is.
+#[repr(C)]
+#[derive(Clone, Copy, Debug, PartialEq, Eq)]
+pub struct Written {
+    pub number: u32,
+    pub bytes: u32,
+}
+
+/// What reading a picture hands back: the number of the refusal or 0, and the sides that its header gives.
+#[repr(C)]
+#[derive(Clone, Copy, Debug, PartialEq, Eq)]
+pub struct Picture {
+    pub number: u32,
+    pub width: u32,
+    pub height: u32,
+}
+
 mod c {
-    use super::{Answer, Listed, Shape, Taken};
+    use super::{Answer, Listed, Picture, Shape, Taken, Written};
 
     // Nothing holds these lines to the header or to the Rattle source but the tests.
     unsafe extern "C" {
@@ -122,6 +139,20 @@ mod c {
             y: *mut i32,
             y_len: usize,
         ) -> Taken;
+        pub fn hoengtila_picture_write(
+            width: u32,
+            height: u32,
+            residuals: *const i32,
+            residuals_len: usize,
+            file: *mut u8,
+            file_len: usize,
+        ) -> Written;
+        pub fn hoengtila_picture_read(
+            file: *const u8,
+            file_len: usize,
+            residuals: *mut i32,
+            residuals_len: usize,
+        ) -> Picture;
     }
 }
 
@@ -236,4 +267,34 @@ pub fn steps_list(n: u32, steps: &mut [i32], outs: &mut [i32]) -> Listed {
 #[inline]
 pub fn steps_forward(n: u32, x: &[i16], y: &mut [i32]) -> Taken {
     unsafe { c::hoengtila_steps_forward(n, x.as_ptr(), x.len(), y.as_mut_ptr(), y.len()) }
+}
+
+/// A block of residuals, which stand row by row, as a graymap at the start of `file`.
+#[inline]
+pub fn picture_write(width: u32, height: u32, residuals: &[i32], file: &mut [u8]) -> Written {
+    let (input, output) = (residuals, file);
+    unsafe {
+        c::hoengtila_picture_write(
+            width,
+            height,
+            input.as_ptr(),
+            input.len(),
+            output.as_mut_ptr(),
+            output.len(),
+        )
+    }
+}
+
+/// The residuals of a graymap, row by row.
+#[inline]
+pub fn picture_read(file: &[u8], residuals: &mut [i32]) -> Picture {
+    let (input, output) = (file, residuals);
+    unsafe {
+        c::hoengtila_picture_read(
+            input.as_ptr(),
+            input.len(),
+            output.as_mut_ptr(),
+            output.len(),
+        )
+    }
 }

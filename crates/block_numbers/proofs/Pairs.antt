@@ -8,7 +8,7 @@ use lib.IntN.{ℤ, pos, negsuc, _-ℤ_}
 use lib.ListN.{length, take, drop, getD, set, drop-of-length-le}
 use lib.Seq.{drop-cons, take-suc-set, take-length}
 use Rattle.algebra.proofs.Order.{subℕ-cases}
-use Rattle.block_numbers.specs.Numbers.{signed16, numbers}
+use Rattle.block_numbers.specs.Numbers.{pairs}
 
 -- a number less 65,536, as the library writes negative numbers
 pub less : (n : ℕ) → n < 65536 → pos n -ℤ pos 65536 ≡ negsuc (65536 - suc n)
@@ -21,11 +21,11 @@ two b i h =
     drop-cons b (i + i) 0 k ∙ rw (← add-one (i + i), drop-cons b (i + i + 1) 0 h, e)
 
 -- what is done and what is to do make up all
-pub step : (b : List ℕ) (out : List ℤ) (i : ℕ) (v : ℤ) → i + i + 1 < length b → i < length out
-    → v ≡ signed16 (getD b (i + i) 0 * 256 + getD b (i + i + 1) 0)
-    → take i out ++ numbers (drop (i + i) b) ≡ numbers b
-    → take (i + 1) (set out i v) ++ numbers (drop (i + 1 + (i + 1)) b) ≡ numbers b
-step b out i v h k e inv = rw (add-one i, take-suc-set out i v k, append-assoc, e) (rw (two b i h) at inv)
+module _ (f : ℕ → ℤ) (b : List ℕ) (out : List ℤ) (i : ℕ) where
+  pub step : (v : ℤ) → i + i + 1 < length b → i < length out → v ≡ f (getD b (i + i) 0 * 256 + getD b (i + i + 1) 0)
+      → take i out ++ pairs f (drop (i + i) b) ≡ pairs f b
+      → take (i + 1) (set out i v) ++ pairs f (drop (i + 1 + (i + 1)) b) ≡ pairs f b
+  step v h k e inv = rw (add-one i, take-suc-set out i v k, append-assoc, e) (rw (two b i h) at inv)
 
-pub all : (b : List ℕ) (out : List ℤ) (i : ℕ) → length b ≡ i + i → length out ≡ i → take i out ++ numbers (drop (i + i) b) ≡ numbers b → out ≡ numbers b
-all b out i n l e = sym (take-length out) ∙ ap (λ (k : ℕ). take k out) l ∙ rw (← e, drop-of-length-le b {i = i + i} (omega arith), append-nil)
+  pub all : length b ≡ i + i → length out ≡ i → take i out ++ pairs f (drop (i + i) b) ≡ pairs f b → out ≡ pairs f b
+  all n l e = sym (take-length out) ∙ ap (λ (k : ℕ). take k out) l ∙ rw (← e, drop-of-length-le b {i = i + i} (omega arith), append-nil)

@@ -10,8 +10,11 @@ use lib.IntN.{ℤ, pos, _-ℤ_}
 unfoldable pub signed16 : ℕ → ℤ
 signed16 n = cond (ltb n 32768) (pos n) (pos n -ℤ pos 65536)
 
--- an odd byte at the end is no number
+-- two bytes to a number, "High byte first"; an odd byte at the end is no number
+abbrev pub pairs : (ℕ → ℤ) → List ℕ → List ℤ
+pairs f [] = []
+pairs f (high ∷ []) = []
+pairs f (high ∷ low ∷ rest) = f (high * 256 + low) ∷ pairs f rest
+
 abbrev pub numbers : List ℕ → List ℤ
-numbers [] = []
-numbers (high ∷ []) = []
-numbers (high ∷ low ∷ rest) = signed16 (high * 256 + low) ∷ numbers rest
+numbers bytes = pairs signed16 bytes

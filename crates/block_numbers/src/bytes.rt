@@ -27,3 +27,16 @@ pub fn read_numbers(body: &[u8], out: &mut [i16])
         i += 1;
     }
 }
+
+// The same, for numbers of 32 bits.
+pub fn read_wide_numbers(body: &[u8], out: &mut [i32])
+    requires { ⌜ length (now body) ≡ length (now out) + length (now out) ⌝ }
+    ensures { λ _. ⌜ now (out .exit) ≡ numbers (now (body .entry)) ⌝ }
+{
+    let mut i = 0;
+    while i < out.len() {
+        let v = number(body[i + i], body[i + i + 1]) as i32;
+        out[i] = v;
+        i += 1;
+    }
+}

@@ -1,3 +1,3 @@
-// Internal: the numbers of a body, for `block_run` alone, which lends an output of the right length: hence a `requires`.
-// Read specs/Numbers, then bytes.
+// Internal: the numbers of a body, for the crates that run or draw a block, which lend an output of the right length: hence a
+// `requires`. Read specs/Numbers, then bytes.
 pub mod bytes;

@@ -1,6 +1,6 @@
 pub mod Unique
-mod Turns
-mod Steps
+pub mod Turns
+pub mod Steps
 pub mod Fuel
 pub mod Counted
 mod Loop

@@ -1,4 +1,4 @@
 pub mod Writing
-mod Digits
+pub mod Digits
 mod Signs
 mod Spaced

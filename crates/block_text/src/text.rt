@@ -3,10 +3,10 @@ ghost use mathlib.Core.List.{[], _∷_};
 ghost use Prim.Native.Nat.{_+_, _*_, _<_, _≤_, _^_};
 ghost use lib.IntN.{pos};
 ghost use lib.ListN.{length};
-ghost use Rattle.block_text.specs.Text.{digits, spaced, inverseText, forwardText, refusalText};
+ghost use Rattle.block_text.specs.Text.{digits, decimal, spaced, inverseText, forwardText, refusalText};
 ghost use Rattle.block_text.specs.Wrote.{Wrote};
 
-fn put(byte: u8, out: &mut [u8], at: usize) -> usize
+pub fn put(byte: u8, out: &mut [u8], at: usize) -> usize
     requires { ⌜ at < length (now out) ⌝ }
     ensures { λ r. ⌜ Wrote (byte ∷ []) 1 at (now (out .entry)) (now (out .exit)) r ⌝ }
 {
@@ -25,13 +25,20 @@ fn put_digits(n: u32, k: usize, out: &mut [u8], at: usize) -> usize
     put(48 + (n % 10) as u8, out, next)
 }
 
+pub fn put_decimal(n: u32, out: &mut [u8], at: usize) -> usize
+    requires { ⌜ at + 10 ≤ length (now out) ⌝ }
+    ensures { λ r. ⌜ Wrote (decimal n) 10 at (now (out .entry)) (now (out .exit)) r ⌝ }
+{
+    put_digits(n, 9, out, at)
+}
+
 // A space and a number.
 fn put_natural(n: u32, out: &mut [u8], at: usize) -> usize
     requires { ⌜ at + 11 ≤ length (now out) ⌝ }
     ensures { λ r. ⌜ Wrote (spaced (pos n ∷ [])) 11 at (now (out .entry)) (now (out .exit)) r ⌝ }
 {
     let next = put(b' ', out, at);
-    put_digits(n, 9, out, next)
+    put_decimal(n, out, next)
 }
 
 // A space and a number: `!z` is one less than the size of a negative one, and fits where `-z` may not.

@@ -1,17 +1,23 @@
-// The library for C and Rust: each public function of `transform`, `step_run` and `step_lists` under the name and with the
+// The library for C and Rust: each public function of `transform`, `step_run`, `step_lists` and `picture` under the name and with the
 // arguments that include/hoengtila.h declares. A wrapper is one call and has the contract of what it calls; none has a `requires`, so
 // whatever numbers and lengths a caller hands over, the contract says what comes back. Read it beside the header.
 use meaning::Answer;
 use meaning::Shape;
+use picture::read::Picture;
+use picture::write::Written;
 use step_lists::Listed;
 use steps::Taken;
 ghost use mathlib.Core.Path.{_≡_};
+ghost use mathlib.Core.List.{List};
+ghost use Prim.Native.Nat.{ℕ};
+ghost use lib.IntN.{ℤ};
 ghost use Rattle.meaning.specs.Answer.{Outcome, forwardLineOutcome, inverseLineOutcome};
 ghost use Rattle.meaning.specs.Inverse.{inverseOutcome};
 ghost use Rattle.meaning.specs.Forward.{forwardOutcome};
 ghost use Rattle.transform.specs.Line.{weightOrZero};
 ghost use Rattle.steps.specs.Numbers.{listOf};
 ghost use Rattle.steps.specs.Outcome.{Result, runOutcome};
+ghost use Rattle.picture.specs.Outcomes.{writeOutcome, readOutcome};
 ghost use Rattle.step_lists.specs.Listed.{Handed, listOutcome, lineOutcome};
 
 #[no_mangle]
@@ -107,4 +113,23 @@ pub extern "C" fn hoengtila_steps_forward(n: u32, x: &[i16], y: &mut [i32]) -> T
     ensures { λ r. ⌜ _≡_ {A = Result} (r, now (y .exit)) (lineOutcome n (now (x .entry)) (now (y .entry))) ⌝ }
 {
     step_lists::forward::forward(n, x, y)
+}
+
+#[no_mangle]
+pub extern "C" fn hoengtila_picture_write(
+    width: u32,
+    height: u32,
+    residuals: &[i32],
+    file: &mut [u8],
+) -> Written
+    ensures { λ r. ⌜ _≡_ {A = Written × List ℕ} (r, now (file .exit)) (writeOutcome width height (now (residuals .entry)) (now (file .entry))) ⌝ }
+{
+    picture::write::write(width, height, residuals, file)
+}
+
+#[no_mangle]
+pub extern "C" fn hoengtila_picture_read(file: &[u8], residuals: &mut [i32]) -> Picture
+    ensures { λ r. ⌜ _≡_ {A = Picture × List ℤ} (r, now (residuals .exit)) (readOutcome (now (file .entry)) (now (residuals .entry))) ⌝ }
+{
+    picture::read::read(file, residuals)
 }

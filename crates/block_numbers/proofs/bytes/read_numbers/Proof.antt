@@ -9,7 +9,7 @@ use mir.Syntax.{w16}
 use mir.Val.{toZ, ofZ}
 use mir.ValLaws.{toZ-ofZ}
 use denote.Ref.{now}
-use Rattle.block_numbers.specs.Numbers.{numbers}
+use Rattle.block_numbers.specs.Numbers.{signed16, numbers}
 use Rattle.block_numbers.proofs.Pairs.{step, all}
 use Rattle.block_numbers.proofs.bytes.read_numbers.Statement.{statement}
 use Rattle.block_numbers.proofs.bytes.read_numbers.Tie as tie
@@ -62,7 +62,7 @@ loop-again c =
     let k : l .i < length (l .out) = omega arith in (
       search needs,
       simp length-set (l .inv .1),
-      step (now (a .body)) (l .out) (l .i) v (omega arith) k (toZ-ofZ w16 _ (record { sfits = c .number .ok }) ∙ c .number .ensures) (l .inv .2),
+      step signed16 (now (a .body)) (l .out) (l .i) v (omega arith) k (toZ-ofZ w16 _ (record { sfits = c .number .ok }) ∙ c .number .ensures) (l .inv .2),
     )
 
 same-length : tie.Need-same-length Inv-loop μ-loop
@@ -72,7 +72,7 @@ returns : tie.Need-returns Inv-loop μ-loop
 returns c =
     let l = c .before .loop in
     let a = c .before .before .before .args in
-    all (now (a .body)) (l .out) (l .i) (omega arith) (omega arith) (l .inv .2)
+    all signed16 (now (a .body)) (l .out) (l .i) (omega arith) (omega arith) (l .inv .2)
 
 pub read-numbers-spec : {M : Type 1} → statement M
 read-numbers-spec =

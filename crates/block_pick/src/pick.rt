@@ -1,0 +1,44 @@
+// "names a block".
+use block_file::cursor::Cursor;
+ghost use mathlib.Core.Path.{_≡_};
+ghost use Rattle.block_pick.specs.Pick.{passes, left, picked};
+
+fn passes(tag: u32, n: usize) -> bool
+    ensures { λ r. ⌜ r ≡ passes tag n ⌝ }
+{
+    if tag == 0 {
+        return false;
+    }
+    if tag == 1 {
+        return true;
+    }
+    n != 1
+}
+
+fn left(tag: u32, n: usize) -> usize
+    ensures { λ r. ⌜ r ≡ left tag n ⌝ }
+{
+    if tag == 1 {
+        return n;
+    }
+    if n == 0 {
+        return 0;
+    }
+    n - 1
+}
+
+/// The cursor at the n-th data field of a file, of which the first is 1; where there is none, the cursor at which the reader
+/// stops. Its step and its body are the reader's. Any bytes.
+pub fn pick(file: &[u8], n: usize) -> Cursor
+    ensures { λ r. ⌜ r ≡ picked (now (file .entry)) n ⌝ }
+{
+    let mut left_over = n;
+    let mut cursor = Cursor::new();
+    let mut step = cursor.step(file);
+    while passes(step.tag, left_over) {
+        left_over = left(step.tag, left_over);
+        cursor = step.next;
+        step = cursor.step(file);
+    }
+    cursor
+}

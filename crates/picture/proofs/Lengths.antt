@@ -1,0 +1,35 @@
+-- How long a picture is, and what the output holds once it is written. Assumes nothing.
+use mathlib.Core.Path.{_≡_, sym, ap, _∙_}
+use mathlib.Core.Bool.{true}
+use mathlib.Core.List.{List, _++_}
+use Prim.Native.Nat.{ℕ, _+_, _*_, _≤_}
+use native.Mathlib.Nat.{mul-le-mul}
+use native.Mathlib.Omega.{arith}
+use lib.IntN.{ℤ}
+use lib.ListN.{length, drop, length-append, take-append-drop}
+use Rattle.meaning.specs.Shape.{isSize}
+use Rattle.meaning.proofs.Cases.{size-cases, size-in}
+use Rattle.block_text.specs.Text.{decimal}
+use Rattle.block_text.specs.Wrote.{Wrote}
+use Rattle.picture.specs.Picture.{headerText, samples, pictureOf}
+use Rattle.picture.proofs.Samples.{samples-length}
+
+least : (n : ℕ) → isSize n ≡ true → 4 ≤ n
+least = size-cases (λ n. 4 ≤ n) (omega arith) (omega arith) (omega arith) (omega arith)
+
+pub area : (w h : ℕ) → isSize w ≡ true → isSize h ≡ true → (16 ≤ w * h) × (w * h ≤ 1024)
+area w h p q = (mul-le-mul (least w p) (least h q), mul-le-mul (size-in w p) (size-in h q))
+
+pub header-length : (w h : ℕ) → length (headerText w h) ≡ length (decimal w) + length (decimal h) + 11
+unfolding headerText
+header-length w h = simp length-append (omega arith)
+
+pub picture-length : (w h : ℕ) (zs : List ℤ) → length zs ≡ w * h → length (pictureOf w h zs) ≡ length (decimal w) + length (decimal h) + 11 + 2 * (w * h)
+unfolding pictureOf
+picture-length w h zs l = length-append (headerText w h) (samples zs) ∙ omega (arith, header-length w h, samples-length zs)
+
+-- a text at the start: its length, and all that the output holds then
+pub at-start : {t : List ℕ} {m r : ℕ} {o o₁ : List ℕ} → Wrote t m 0 o o₁ r → (r ≡ length t) × (o₁ ≡ t ++ drop (length t) o)
+at-start {t} {m} {r} {o} {o₁} a =
+    let e : r ≡ length t = omega (arith, a .next) in
+    (e, sym (take-append-drop r o₁) ∙ ap (λ (l : List ℕ). l ++ drop r o₁) (a .front) ∙ ap (λ (l : List ℕ). t ++ l) (a .beyond ∙ ap (λ (k : ℕ). drop k o) e))

@@ -1,0 +1,264 @@
+// The header of a graymap, byte by byte.
+ghost use mathlib.Core.Path.{_≡_};
+ghost use mathlib.Core.Bool.{true, false};
+ghost use Prim.Native.Nat.{_-_, _≤_};
+ghost use lib.ListN.{length};
+ghost use Rattle.picture.specs.Header.{endsLine, isSpace, isDigit, behindP5, none, ended, white, commented, more, withDigit, partOf, digit, plain, step, isP5, headerOf, isPicture};
+
+// What was read: the part that was begun last (0 for P5, 1 the width, 2 the height, 3 the maximum value, 4 where this is no
+// header), whether that part goes on, whether a comment does, and the three numbers.
+pub struct Header {
+    pub part: u32,
+    pub going: bool,
+    pub comment: bool,
+    pub width: u32,
+    pub height: u32,
+    pub most: u32,
+}
+
+// A header, and the place behind what was read of it.
+pub struct Found {
+    pub header: Header,
+    pub start: usize,
+}
+
+fn ends_line(b: u8) -> bool
+    ensures { λ r. ⌜ r ≡ endsLine b ⌝ }
+{
+    if b == b'\n' {
+        return true;
+    }
+    b == b'\r'
+}
+
+fn is_space(b: u8) -> bool
+    ensures { λ r. ⌜ r ≡ isSpace b ⌝ }
+{
+    if b == b' ' {
+        return true;
+    }
+    if b == b'\t' {
+        return true;
+    }
+    ends_line(b)
+}
+
+fn is_digit(b: u8) -> bool
+    ensures { λ r. ⌜ r ≡ isDigit b ⌝ }
+{
+    if b < b'0' {
+        return false;
+    }
+    b <= b'9'
+}
+
+fn behind_p5() -> Header
+    ensures { λ r. ⌜ r ≡ behindP5 ⌝ }
+{
+    Header {
+        part: 0,
+        going: true,
+        comment: false,
+        width: 0,
+        height: 0,
+        most: 0,
+    }
+}
+
+fn no_header() -> Header
+    ensures { λ r. ⌜ r ≡ none ⌝ }
+{
+    Header {
+        part: 4,
+        going: false,
+        comment: false,
+        width: 0,
+        height: 0,
+        most: 0,
+    }
+}
+
+fn ended(header: Header) -> bool
+    ensures { λ r. ⌜ r ≡ ended header ⌝ }
+{
+    if header.part < 3 {
+        return false;
+    }
+    !header.going
+}
+
+// A digit more of a number.
+fn more(n: u32, b: u8) -> u32
+    requires { ⌜ isDigit b ≡ true ⌝ }
+    ensures { λ r. ⌜ r ≡ more n (b - 48) ⌝ }
+{
+    if n > 6553 {
+        return 65536;
+    }
+    let sum = n * 10 + (b - b'0') as u32;
+    if sum > 65536 {
+        return 65536;
+    }
+    sum
+}
+
+// White space, or the end of a comment's line.
+fn white(header: Header) -> Header
+    ensures { λ r. ⌜ r ≡ white header ⌝ }
+{
+    let part = header.part;
+    let width = header.width;
+    let height = header.height;
+    let most = header.most;
+    Header {
+        part,
+        going: false,
+        comment: false,
+        width,
+        height,
+        most,
+    }
+}
+
+fn commented(header: Header) -> Header
+    ensures { λ r. ⌜ r ≡ commented header ⌝ }
+{
+    let part = header.part;
+    let going = header.going;
+    let width = header.width;
+    let height = header.height;
+    let most = header.most;
+    Header {
+        part,
+        going,
+        comment: true,
+        width,
+        height,
+        most,
+    }
+}
+
+// The number `n` of part `mine` where a digit of part `part` is read.
+fn with_digit(mine: u32, part: u32, n: u32, b: u8) -> u32
+    requires { ⌜ isDigit b ≡ true ⌝ }
+    ensures { λ r. ⌜ r ≡ withDigit mine part n (b - 48) ⌝ }
+{
+    if mine == part {
+        return more(n, b);
+    }
+    n
+}
+
+// The part that a digit belongs to.
+fn part_of(header: Header) -> u32
+    requires { ⌜ ended header ≡ false ⌝ }
+    ensures { λ r. ⌜ r ≡ partOf header ⌝ }
+{
+    let part = header.part;
+    if header.going {
+        return part;
+    }
+    part + 1
+}
+
+fn digit(header: Header, b: u8) -> Header
+    requires { ⌜ (ended header ≡ false) × (isDigit b ≡ true) ⌝ }
+    ensures { λ r. ⌜ r ≡ digit header (b - 48) ⌝ }
+{
+    let part = part_of(header);
+    if part == 0 {
+        return no_header();
+    }
+    let width = with_digit(1, part, header.width, b);
+    let height = with_digit(2, part, header.height, b);
+    let most = with_digit(3, part, header.most, b);
+    Header {
+        part,
+        going: true,
+        comment: false,
+        width,
+        height,
+        most,
+    }
+}
+
+// A byte that no comment holds.
+fn plain(header: Header, b: u8) -> Header
+    requires { ⌜ ended header ≡ false ⌝ }
+    ensures { λ r. ⌜ r ≡ plain header b ⌝ }
+{
+    if b == b'#' {
+        return commented(header);
+    }
+    if is_space(b) {
+        return white(header);
+    }
+    if is_digit(b) {
+        return digit(header, b);
+    }
+    no_header()
+}
+
+// A byte more of a header that has not ended.
+fn step(header: Header, b: u8) -> Header
+    requires { ⌜ ended header ≡ false ⌝ }
+    ensures { λ r. ⌜ r ≡ step header b ⌝ }
+{
+    if header.comment {
+        if ends_line(b) {
+            return white(header);
+        }
+        return header;
+    }
+    plain(header, b)
+}
+
+fn is_p5(file: &[u8]) -> bool
+    ensures { λ r. ⌜ r ≡ isP5 (now (file .entry)) ⌝ }
+{
+    if file.len() < 2 {
+        return false;
+    }
+    if file[0] != b'P' {
+        return false;
+    }
+    file[1] == b'5'
+}
+
+// Reads the header of a file, which lies in the file.
+pub fn header_of(file: &[u8]) -> Found
+    ensures { λ r. ⌜ (r ≡ headerOf (now (file .entry))) × (r .start ≤ length (now (file .entry))) ⌝ }
+{
+    if !is_p5(file) {
+        let header = no_header();
+        return Found { header, start: 0 };
+    }
+    let mut header = behind_p5();
+    let mut start = 2;
+    while start < file.len() {
+        if ended(header) {
+            break;
+        }
+        header = step(header, file[start]);
+        start += 1;
+    }
+    Found { header, start }
+}
+
+pub fn is_picture(header: Header) -> bool
+    ensures { λ r. ⌜ r ≡ isPicture header ⌝ }
+{
+    if header.part != 3 {
+        return false;
+    }
+    if header.going {
+        return false;
+    }
+    if header.most != 65535 {
+        return false;
+    }
+    if !meaning::is_size(header.width) {
+        return false;
+    }
+    meaning::is_size(header.height)
+}

@@ -1,0 +1,67 @@
+-- `show` meets its contract. Assumes nothing.
+use mathlib.Core.Path.{sym}
+use lib.Seq.{length-take-le}
+use borrow.Author.Needs.{needs}
+use Rattle.picture_file.proofs.show.Statement.{statement}
+use Rattle.picture_file.proofs.show.Tie as tie
+
+picture-buffer-requires : tie.Need-picture-buffer-requires
+picture-buffer-requires c κs = search needs
+
+slice-aggregate-shown : tie.Need-slice-aggregate-shown
+slice-aggregate-shown c = search needs
+
+shown-requires : tie.Need-shown-requires
+shown-requires c κs = search needs
+
+cast-bytes : tie.Need-cast-bytes
+cast-bytes c = search needs
+
+say-refused-requires : tie.Need-say-refused-requires
+say-refused-requires c κs = search needs
+
+returns : tie.Need-returns
+returns c = search needs
+
+slice-aggregate-write-all : tie.Need-slice-aggregate-write-all
+slice-aggregate-write-all c = search needs
+
+write-all-requires : tie.Need-write-all-requires
+write-all-requires c κs = search needs
+
+returns-2 : tie.Need-returns-2
+returns-2 c = search needs
+
+returns-3 : tie.Need-returns-3
+returns-3 c = search needs
+
+array-share-prefix-picture : tie.Need-array-share-prefix-picture
+array-share-prefix-picture c = search needs
+
+slice-aggregate-write-all-2 : tie.Need-slice-aggregate-write-all-2
+slice-aggregate-write-all-2 c = sym (length-take-le _ _ (search needs))
+
+write-all-requires-2 : tie.Need-write-all-requires-2
+write-all-requires-2 c κs = search needs
+
+returns-4 : tie.Need-returns-4
+returns-4 c = search needs
+
+pub show-spec : {M : Type 1} → statement M
+show-spec =
+    tie.close
+    (tie.spec
+    picture-buffer-requires
+    slice-aggregate-shown
+    shown-requires
+    cast-bytes
+    say-refused-requires
+    returns
+    slice-aggregate-write-all
+    write-all-requires
+    returns-2
+    returns-3
+    array-share-prefix-picture
+    slice-aggregate-write-all-2
+    write-all-requires-2
+    returns-4)

@@ -1,0 +1,234 @@
+//! The library against the model: blocks, headers in many spellings, damaged files, and every refusal.
+
+use crate::subject::{by_model, Call, Library, Outcome};
+use hoengtila_harness::random::{seeded, Random};
+use std::collections::BTreeMap;
+
+pub const SIZES: [u32; 4] = [4, 8, 16, 32];
+
+/// What was compared: how many calls, and how often each number was handed back.
+struct Comparison {
+    library: Library,
+    random: Random,
+    calls: usize,
+    met: BTreeMap<u32, usize>,
+}
+
+impl Comparison {
+    fn open() -> Option<Comparison> {
+        Some(Comparison {
+            library: Library::open()?,
+            random: seeded(),
+            calls: 0,
+            met: BTreeMap::new(),
+        })
+    }
+
+    fn compare(&mut self, call: &Call) -> Outcome {
+        let outcome = self.library.run(call);
+        assert_eq!(outcome, by_model(call), "{call:?}");
+        self.calls += 1;
+        *self.met.entry(outcome.number()).or_default() += 1;
+        outcome
+    }
+
+    fn close(self, title: &str) {
+        println!(
+            "pictures: {title}: {} calls, of numbers {:?}",
+            self.calls, self.met
+        );
+    }
+}
+
+fn bytes(random: &mut Random, count: usize) -> Vec<u8> {
+    (0..count).map(|_| random.below(256) as u8).collect()
+}
+
+fn numbers(random: &mut Random, count: usize, low: i64, high: i64) -> Vec<i32> {
+    let number = |z: i64| z as i32;
+    random
+        .numbers(count, low, high)
+        .into_iter()
+        .map(number)
+        .collect()
+}
+
+/// A block: any residuals in range, or those at its ends.
+pub fn block(random: &mut Random, count: usize) -> Vec<i32> {
+    if random.once_in(4) {
+        let end = |_| random.choose(&[-32768, -32767, -1, 0, 1, 255, 256, 32766, 32767]);
+        (0..count).map(end).collect()
+    } else {
+        numbers(random, count, -32768, 32767)
+    }
+}
+
+/// Every size, written and read back.
+#[test]
+fn blocks_come_back() {
+    let Some(mut c) = Comparison::open() else {
+        return;
+    };
+    for (width, height) in SIZES.iter().flat_map(|w| SIZES.map(|h| (*w, h))) {
+        for _ in 0..40 {
+            let count = (width * height) as usize;
+            let residuals = block(&mut c.random, count);
+            let room = 15 + 2 * count + c.random.below(20);
+            let held = bytes(&mut c.random, room);
+            let written = c.compare(&Call::Write {
+                width,
+                height,
+                residuals: residuals.clone(),
+                held,
+            });
+            let file = written.bytes[..written.answer[1] as usize].to_vec();
+            let held = numbers(&mut c.random, count, i32::MIN.into(), i32::MAX.into());
+            let read = c.compare(&Call::Read { file, held });
+            assert_eq!(read.answer, [0, width, height]);
+            assert_eq!(read.numbers, residuals);
+        }
+    }
+    c.close("written and read back");
+}
+
+/// Any mixture of wrong sides, lengths, residuals and outputs.
+#[test]
+fn refused_writings() {
+    let Some(mut c) = Comparison::open() else {
+        return;
+    };
+    for _ in 0..20_000 {
+        let random = &mut c.random;
+        let side = |random: &mut Random| {
+            if random.once_in(4) {
+                random.choose(&[0, 1, 2, 5, 24, 31, 64, 65_536, u32::MAX])
+            } else {
+                random.choose(&SIZES)
+            }
+        };
+        let (width, height) = (side(random), side(random));
+        let area = u64::from(width) * u64::from(height);
+        let right = if (1..=1024).contains(&area) {
+            area as i64
+        } else {
+            16
+        };
+        let near = |random: &mut Random, right: i64| match random.below(4) {
+            0 => random.choose(&[0, right - 1, right + 1, right * 2]).max(0) as usize,
+            _ => right as usize,
+        };
+        let count = near(random, right);
+        let mut residuals = block(random, count);
+        if random.once_in(3) && count > 0 {
+            let at = random.below(count);
+            residuals[at] = random.choose(&[-32769, 32768, i32::MIN, i32::MAX, 65_536]);
+        }
+        let digits = |n: u32| if n < 10 { 1 } else { 2 };
+        let room = near(random, 11 + digits(width) + digits(height) + 2 * right);
+        let held = bytes(random, room);
+        c.compare(&Call::Write {
+            width,
+            height,
+            residuals,
+            held,
+        });
+    }
+    assert!([0, 1, 2, 6, 7, 23].iter().all(|n| c.met.contains_key(n)));
+    c.close("writings, refused and not");
+}
+
+/// White space or comments, as the format allows them in a header.
+fn gap(random: &mut Random) -> Vec<u8> {
+    let mut gap = vec![];
+    for _ in 0..random.between(1, 3) {
+        if random.once_in(4) {
+            gap.push(b'#');
+            let count = random.below(6);
+            gap.extend((0..count).map(|_| random.choose(b"# 0125Pa\t\x00\xff")));
+            gap.push(random.choose(b"\n\r"));
+        } else {
+            gap.push(random.choose(b" \t\n\r"));
+        }
+    }
+    gap
+}
+
+/// A number, now and then with zeros before it.
+fn spelt(random: &mut Random, n: u32) -> Vec<u8> {
+    let zeros = if random.once_in(5) {
+        random.below(4)
+    } else {
+        0
+    };
+    format!("{}{n}", "0".repeat(zeros)).into_bytes()
+}
+
+/// The header of a graymap in any spelling.
+pub fn header(random: &mut Random, width: u32, height: u32) -> Vec<u8> {
+    let mut header = b"P5".to_vec();
+    for n in [width, height, 65535] {
+        header.extend(gap(random));
+        header.extend(spelt(random, n));
+    }
+    if random.once_in(4) {
+        header.extend(b"# behind it\n");
+    } else {
+        header.push(random.choose(b" \t\n\r"));
+    }
+    header
+}
+
+/// Headers in any spelling, of all sizes, with the right number of samples.
+#[test]
+fn headers_in_any_spelling() {
+    let Some(mut c) = Comparison::open() else {
+        return;
+    };
+    for _ in 0..10_000 {
+        let random = &mut c.random;
+        let (width, height) = (random.choose(&SIZES), random.choose(&SIZES));
+        let count = (width * height) as usize;
+        let mut file = header(random, width, height);
+        file.extend(bytes(random, 2 * count));
+        let held = numbers(random, count, -9, 9);
+        let read = c.compare(&Call::Read { file, held });
+        assert_eq!(read.answer, [0, width, height]);
+    }
+    c.close("headers in any spelling");
+}
+
+/// A byte of a header changed, put in or lost; samples too few or too many; outputs of other lengths.
+#[test]
+fn damaged_files() {
+    let Some(mut c) = Comparison::open() else {
+        return;
+    };
+    for _ in 0..40_000 {
+        let random = &mut c.random;
+        let (width, height) = (random.choose(&[4, 8]), random.choose(&[4, 8]));
+        let count = (width * height) as usize;
+        let mut file = header(random, width, height);
+        for _ in 0..random.below(3) {
+            let at = random.below(file.len());
+            let byte = random.choose(b"P5#0123456789 \n\r\t\x0b\x0c+-x\x00\xff");
+            match random.below(3) {
+                0 => file[at] = byte,
+                1 => file.insert(at, byte),
+                _ => drop(file.remove(at)),
+            }
+        }
+        let samples = match random.below(6) {
+            0 => random.below(2 * count + 4),
+            _ => 2 * count,
+        };
+        file.extend(bytes(random, samples));
+        let length = match random.below(6) {
+            0 => random.below(2 * count),
+            _ => count,
+        };
+        let held = numbers(random, length, i32::MIN.into(), i32::MAX.into());
+        c.compare(&Call::Read { file, held });
+    }
+    assert!([0, 7, 24, 25].iter().all(|n| c.met.contains_key(n)));
+    c.close("damaged files");
+}
