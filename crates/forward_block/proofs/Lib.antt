@@ -1,2 +1,2 @@
 pub mod Places
-pub mod TwoStages
+pub mod Ends
