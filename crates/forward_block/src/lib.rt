@@ -3,3 +3,4 @@
 // stages, both of them.
 pub mod hunt;
 mod place;
+pub mod stages;
