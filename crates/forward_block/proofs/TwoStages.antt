@@ -21,19 +21,17 @@ use Rattle.algebra.proofs.Lists.{place-in, block-ext}
 use Rattle.meaning.specs.declared.Shape.{Shape}
 use Rattle.meaning.specs.Weights.{weight}
 use Rattle.meaning.specs.Line.{forwardSum}
-use Rattle.meaning.specs.Shape.{isSize, keptColumns, keptRows}
+use Rattle.meaning.specs.Shape.{keptColumns, keptRows}
 use Rattle.meaning.specs.Forward.{rowShift, columnShift, rowValue, columnValue, coefficient, forwardBlock}
-use Rattle.meaning.proofs.Cases.{size-cases, size-in, depth-cases}
+use Rattle.meaning.proofs.Cases.{size-in, depth-cases}
 use Rattle.meaning.proofs.KeptPart.{columns-some}
 use Rattle.meaning.proofs.Sizes.{weightSize}
 use Rattle.meaning.proofs.Stages.{columns-in, rows-in, log-in, rowStage, columnStage, rowValue-fits, columnValue-fits}
 use Rattle.product.specs.Product.{spot, Laid, lineSum}
 use Rattle.product.proofs.Laid.{lines-given, line-is}
 use Rattle.layout.specs.Zip.{Rows}
+use Rattle.layout.proofs.Zipping.{size-even}
 use Rattle.forward_block.specs.Stage.{Residuals, lineValue, Put, Stage, Rooms}
-
-size-even : (n : ℕ) → isSize n ≡ true → (4 ≤ n) × (2 * (n / 2) ≡ n)
-size-even = size-cases (λ n. (4 ≤ n) × (2 * (n / 2) ≡ n)) (omega arith, refl) (omega arith, refl) (omega arith, refl) (omega arith, refl)
 
 -- a number of rows or columns that is not all of them leaves places
 fewer-columns : {rows h k w : ℕ} → rows ≤ h → 0 < h → k < w → rows * k < h * w

@@ -3,6 +3,8 @@
 // written where the coefficients will stand.
 use crate::place::clear_beyond;
 use crate::place::narrow;
+use crate::shift::column_shift;
+use crate::shift::row_shift;
 use layout::zip::zip;
 use meaning::Shape;
 use meaning::kept_columns;
@@ -15,8 +17,8 @@ ghost use mathlib.Core.Path.{_≡_};
 ghost use mathlib.Core.Bool.{true};
 ghost use Prim.Native.Nat.{_*_, _/_, _≤_};
 ghost use lib.ListN.{length};
-ghost use Rattle.meaning.specs.Shape.{isSize, isDepth, keptColumns, keptRows};
-ghost use Rattle.meaning.specs.Forward.{log2, rowShift, columnShift, forwardBlock};
+ghost use Rattle.meaning.specs.Shape.{isSize};
+ghost use Rattle.meaning.specs.Forward.{forwardBlock};
 ghost use Rattle.forward_block.specs.Stage.{Residuals, lineValue, Put, Stage, Rooms};
 
 // Lines in 16 bits, each in the first places of its row. The sums of one line stand in a list of this function's own: of one that
@@ -87,35 +89,6 @@ fn stage(
     } else {
         put_lines(16, a, step, gap, b, kept, some, wide, shift, out);
     }
-}
-
-fn log(n: u32) -> u32
-    ensures { λ r. ⌜ r ≡ log2 n ⌝ }
-{
-    if n == 4 {
-        2
-    } else if n == 8 {
-        3
-    } else if n == 16 {
-        4
-    } else {
-        5
-    }
-}
-
-// "p = log2(w)+d-9"
-fn row_shift(shape: Shape) -> u32
-    requires { ⌜ isDepth (shape .depth) ≡ true ⌝ }
-    ensures { λ r. ⌜ r ≡ rowShift shape ⌝ }
-{
-    log(shape.width) + shape.depth - 9
-}
-
-// "q = log2(h)+6"
-fn column_shift(shape: Shape) -> u32
-    ensures { λ r. ⌜ r ≡ columnShift shape ⌝ }
-{
-    log(shape.height) + 6
 }
 
 // "Rows first", the kept columns of them; "then columns", the kept rows of them. In lent rooms, whatever their lengths are.

@@ -1,9 +1,9 @@
--- `stages::column_shift` meets its contract. Assumes nothing.
+-- `shift::column_shift` meets its contract. Assumes nothing.
 use borrow.Author.Needs.{needs}
 use native.Mathlib.Omega.{arith}
 use Rattle.meaning.proofs.Stages.{log-in}
-use Rattle.forward_block.proofs.stages.column_shift.Statement.{statement}
-use Rattle.forward_block.proofs.stages.column_shift.Tie as tie
+use Rattle.forward_block.proofs.shift.column_shift.Statement.{statement}
+use Rattle.forward_block.proofs.shift.column_shift.Tie as tie
 
 log-requires : tie.Need-log-requires
 log-requires c κs = search needs

@@ -1,11 +1,11 @@
--- `stages::row_shift` meets its contract. Assumes nothing.
+-- `shift::row_shift` meets its contract. Assumes nothing.
 use borrow.Author.Needs.{needs}
 use native.Mathlib.Omega.{arith}
 use Prim.Native.Nat.{_-_}
 use Rattle.meaning.proofs.Cases.{depth-cases}
 use Rattle.meaning.proofs.Stages.{log-in}
-use Rattle.forward_block.proofs.stages.row_shift.Statement.{statement}
-use Rattle.forward_block.proofs.stages.row_shift.Tie as tie
+use Rattle.forward_block.proofs.shift.row_shift.Statement.{statement}
+use Rattle.forward_block.proofs.shift.row_shift.Tie as tie
 
 log-requires : tie.Need-log-requires
 log-requires c κs = search needs

@@ -1,7 +1,7 @@
--- `stages::log` meets its contract. Assumes nothing.
+-- `shift::log` meets its contract. Assumes nothing.
 use borrow.Author.Tests.{eq-eqb, ne-eqb}
-use Rattle.forward_block.proofs.stages.log.Statement.{statement}
-use Rattle.forward_block.proofs.stages.log.Tie as tie
+use Rattle.forward_block.proofs.shift.log.Statement.{statement}
+use Rattle.forward_block.proofs.shift.log.Tie as tie
 
 returns : tie.Need-returns
 returns c = rw (eq-eqb _ _ (c .if1 .taken))
