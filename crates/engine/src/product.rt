@@ -7,10 +7,10 @@ ghost use mathlib.Core.Bool.{true};
 ghost use Prim.Native.Nat.{_≤_, _<_};
 ghost use Rattle.meaning.specs.Weights.{S, weight};
 ghost use Rattle.meaning.specs.Shape.{isKind};
-ghost use Rattle.engine.specs.Lines.{Spot, Inside, Given, input, line};
+ghost use Rattle.engine.specs.Lines.{Spot, Inside, Given, input, lineOf};
 ghost use Rattle.tables.specs.Table.{Table};
 ghost use Rattle.tables.specs.Term.{term};
-ghost use Rattle.engine.specs.Product.{lineSum};
+ghost use Rattle.engine.specs.Product.{outputSum};
 
 pub fn stored(t: &[i16], n: usize, i: usize, j: usize) -> i32
     requires { ⌜ Spot n i j (now t) ⌝ }
@@ -56,7 +56,7 @@ fn dot(
     k: usize,
 ) -> i32
     requires { ⌜ (isKind kind ≡ true) × ((k < n) × ((count ≤ n) × ((n ≤ 32) × (Inside count from step (now s) × Table n (now t))))) ⌝ }
-    ensures { λ r. ⌜ r ≡ lineSum forward kind n count (input (now (s .entry)) from step) k ⌝ }
+    ensures { λ r. ⌜ r ≡ outputSum forward kind n count (input (now (s .entry)) from step) k ⌝ }
 {
     let mut sum: i32 = 0;
     let mut i = 0;
@@ -83,7 +83,7 @@ pub fn product(
     z: &mut [i32],
 )
     requires { ⌜ Given n kind forward count from step (now t) (now s) (now z) ⌝ }
-    ensures { λ _. ⌜ now (z .exit) ≡ line forward kind n count (input (now (s .entry)) from step) ⌝ }
+    ensures { λ _. ⌜ now (z .exit) ≡ lineOf forward kind n count (input (now (s .entry)) from step) ⌝ }
 {
     let mut k = 0;
     while k < n {

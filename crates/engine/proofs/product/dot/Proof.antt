@@ -10,14 +10,14 @@ use mir.Val.{toZ, ofZ}
 use mir.ValLaws.{toZ-ofZ}
 use Rattle.engine.specs.Lines.{input}
 use Rattle.tables.specs.Term.{term}
-use Rattle.engine.specs.Product.{lineSum}
+use Rattle.engine.specs.Product.{outputSum}
 use Rattle.engine.proofs.Sums.{grown, none-yet, one-more, reads, abs-term}
 use Rattle.engine.proofs.product.dot.Statement.{statement}
 use Rattle.engine.proofs.product.dot.Tie as tie
 
 abbrev Inv-loop : tie.InvT-loop
 Inv-loop t n kind forward s from step count k sum₀ i₀ sum i =
-    (i ≤ count) × ((sum ≡ ofZ w32 (lineSum forward kind n i (input s from step) k)) × (natAbs (lineSum forward kind n i (input s from step) k) ≤ i * 2949120))
+    (i ≤ count) × ((sum ≡ ofZ w32 (outputSum forward kind n i (input s from step) k)) × (natAbs (outputSum forward kind n i (input s from step) k) ≤ i * 2949120))
 
 abbrev μ-loop : tie.MeasureT-loop
 μ-loop t n kind forward s from step count k sum₀ i₀ sum i = count - i
@@ -26,7 +26,7 @@ place : (c : tie.In-loop Inv-loop μ-loop) → c .before .before .args .from + c
 place c = c .before .before .pre .1 .1 .1 .1 .0 (c .before .loop .i) (c .loop-test .taken)
 
 sofar : (c : tie.In-loop Inv-loop μ-loop) → let s = c .before .before .args in
-    toZ w32 (c .before .loop .sum) ≡ lineSum (s .forward) (s .kind) (s .n) (c .before .loop .i) (input (s .s .now) (s .from) (s .step)) (s .k)
+    toZ w32 (c .before .loop .sum) ≡ outputSum (s .forward) (s .kind) (s .n) (c .before .loop .i) (input (s .s .now) (s .from) (s .step)) (s .k)
 sofar c = reads (c .before .loop .inv .1 .0) (c .before .loop .inv .1 .1) (omega arith)
 
 loop-holds : tie.Need-loop-holds Inv-loop μ-loop
@@ -75,7 +75,7 @@ wideness : (c : tie.After-wide Inv-loop μ-loop) → let L = c .before .before .
 wideness c = toZ-ofZ w32 (c .wide .result) (search needs) ∙ c .wide .ensures .0 ∙ toZ-ofZ w16 _ (record { sfits = c .before .wide-arg .given })
 
 next : (c : tie.After-mac Inv-loop μ-loop) → let L = c .before .before .before .before .before in let s = L .before .args in
-    c .mac .result ≡ lineSum (s .forward) (s .kind) (s .n) (L .loop .i + 1) (input (s .s .now) (s .from) (s .step)) (s .k)
+    c .mac .result ≡ outputSum (s .forward) (s .kind) (s .n) (L .loop .i + 1) (input (s .s .now) (s .from) (s .step)) (s .k)
 next c =
     let L = c .before .before .before .before .before in
     let s = L .before .args in
@@ -96,7 +96,7 @@ loop-again c =
       (
         ap (ofZ w32) (next c),
         subst (λ (z : ℤ). natAbs z ≤ (L .loop .i + 1) * 2949120) (sym (one-more (s .forward) (s .kind) (s .n) x (s .k) (L .loop .i)))
-            (grown (lineSum (s .forward) (s .kind) (s .n) (L .loop .i) x (s .k)) (term (s .forward) (s .kind) (s .n) (s .k) (L .loop .i)) (x (L .loop .i)) (L .loop .i) (L .loop .inv .1 .1) (abs-term (s .forward) (s .kind) (s .n) (s .k) (L .loop .i)) w),
+            (grown (outputSum (s .forward) (s .kind) (s .n) (L .loop .i) x (s .k)) (term (s .forward) (s .kind) (s .n) (s .k) (L .loop .i)) (x (L .loop .i)) (L .loop .i) (L .loop .inv .1 .1) (abs-term (s .forward) (s .kind) (s .n) (s .k) (L .loop .i)) w),
       ),
     )
 
@@ -105,7 +105,7 @@ returns c =
     let s = c .before .before .args in
     let e : c .before .loop .i ≡ s .count = omega arith in
     reads (c .before .loop .inv .1 .0) (c .before .loop .inv .1 .1) (omega arith)
-    ∙ ap (λ (m : ℕ). lineSum (s .forward) (s .kind) (s .n) m (input (s .s .now) (s .from) (s .step)) (s .k)) e
+    ∙ ap (λ (m : ℕ). outputSum (s .forward) (s .kind) (s .n) m (input (s .s .now) (s .from) (s .step)) (s .k)) e
 
 pub dot-spec : {M : Type 1} → statement M
 dot-spec =

@@ -7,7 +7,7 @@ use mir.Syntax.{w32}
 use mir.ValLaws.{toZ-ofZ}
 use Rattle.algebra.proofs.Lists.{Filled, fill-none, fill-first, filled}
 use Rattle.engine.specs.Lines.{input}
-use Rattle.engine.specs.Product.{lineSum}
+use Rattle.engine.specs.Product.{outputSum}
 use Rattle.meaning.proofs.Cases.{size-in}
 use Rattle.engine.proofs.Sums.{line-sums}
 use Rattle.engine.proofs.product.product.Statement.{statement}
@@ -15,7 +15,7 @@ use Rattle.engine.proofs.product.product.Tie as tie
 
 abbrev Inv-loop : tie.InvT-loop
 Inv-loop t n kind forward s from step count z₀ k₀ z k =
-    (k ≤ n) × Filled 0 k z z₀ (lineSum forward kind n count (input s from step))
+    (k ≤ n) × Filled 0 k z z₀ (outputSum forward kind n count (input s from step))
 
 abbrev μ-loop : tie.MeasureT-loop
 μ-loop t n kind forward s from step count z₀ k₀ z k = n - k
@@ -57,7 +57,7 @@ returns c =
     let a = s .args in
     let e : c .before .loop .k ≡ a .n = omega arith in
     let x = input (a .s .now) (a .from) (a .step) in
-    filled (s .pre .long) (subst (λ (k : ℕ). Filled 0 k (c .before .loop .z) (a .z .now) (lineSum (a .forward) (a .kind) (a .n) (a .count) x)) e (c .before .loop .inv .1))
+    filled (s .pre .long) (subst (λ (k : ℕ). Filled 0 k (c .before .loop .z) (a .z .now) (outputSum (a .forward) (a .kind) (a .n) (a .count) x)) e (c .before .loop .inv .1))
     ∙ line-sums (a .forward) (a .kind) (a .n) (a .count) x (s .pre .all)
 
 pub product-spec : {M : Type 1} → statement M
