@@ -3,8 +3,8 @@
 use crate::check::acceptance;
 use crate::check::line_refusal;
 use crate::check::refusal;
-use engine::product::entry;
-use engine::product::product;
+use engine::full::entry;
+use engine::full::product;
 use meaning::Answer;
 use meaning::is_kind;
 use meaning::is_size;

@@ -1,4 +1,4 @@
--- `product::product` meets its contract: the outputs before k are written. Assumes nothing.
+-- `full::product` meets its contract: the outputs before k are written. Assumes nothing.
 use borrow.Author.Needs.{needs}
 use native.Mathlib.Omega.{arith}
 use mathlib.Core.Path.{_≡_, _∙_, subst}
@@ -10,8 +10,8 @@ use Rattle.engine.specs.Lines.{input}
 use Rattle.engine.specs.Product.{outputSum}
 use Rattle.meaning.proofs.Cases.{size-in}
 use Rattle.engine.proofs.Sums.{line-sums}
-use Rattle.engine.proofs.product.product.Statement.{statement}
-use Rattle.engine.proofs.product.product.Tie as tie
+use Rattle.engine.proofs.full.product.Statement.{statement}
+use Rattle.engine.proofs.full.product.Tie as tie
 
 abbrev Inv-loop : tie.InvT-loop
 Inv-loop t n kind forward s from step count z₀ k₀ z k =

@@ -1,4 +1,4 @@
--- `product::stored` meets its contract: its place lies in the table. Assumes nothing.
+-- `full::stored` meets its contract: its place lies in the table. Assumes nothing.
 use borrow.Author.Needs.{needs}
 use mathlib.Core.Path.{_∙_}
 use native.Mathlib.Omega.{arith}
@@ -7,8 +7,8 @@ use lib.Arith.{digits-lt}
 use lib.ListN.{length}
 use mir.Syntax.{w16, w32}
 use mir.ValLaws.{toZ-ofZ}
-use Rattle.engine.proofs.product.stored.Statement.{statement}
-use Rattle.engine.proofs.product.stored.Tie as tie
+use Rattle.engine.proofs.full.stored.Statement.{statement}
+use Rattle.engine.proofs.full.stored.Tie as tie
 
 spot : (c : tie.Start) → c .args .i * c .args .n + c .args .j < length (c .args .t .now)
 spot c = omega (arith, digits-lt (c .pre .row) (c .pre .column), c .pre .table .long)

@@ -1,12 +1,12 @@
--- `product::factor` meets its contract: a row or a column of the weights. Assumes nothing.
+-- `full::factor` meets its contract: a row or a column of the weights. Assumes nothing.
 use borrow.Author.Needs.{needs}
 use mathlib.Core.Path.{_∙_, sym, ap}
 use mathlib.Core.Bool.{Bool, cond}
 use mir.Syntax.{w32}
 use mir.ValLaws.{toZ-ofZ}
 use Rattle.meaning.specs.Weights.{weight}
-use Rattle.engine.proofs.product.factor.Statement.{statement}
-use Rattle.engine.proofs.product.factor.Tie as tie
+use Rattle.engine.proofs.full.factor.Statement.{statement}
+use Rattle.engine.proofs.full.factor.Tie as tie
 
 entry-requires : tie.Need-entry-requires
 entry-requires c κs = (c .before .pre .0, c .before .pre .1)

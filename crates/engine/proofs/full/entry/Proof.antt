@@ -1,4 +1,4 @@
--- `product::entry` meets its contract: the weight of either kind from a stored one. Assumes nothing.
+-- `full::entry` meets its contract: the weight of either kind from a stored one. Assumes nothing.
 use borrow.Author.Needs.{needs}
 use mathlib.Core.Path.{sym, ap, _∙_, subst}
 use Prim.Native.Nat.{_≤_, _-_}
@@ -6,8 +6,8 @@ use lib.IntN.{ℤ, negℤ, natAbs}
 use mir.Syntax.{w32}
 use mir.ValLaws.{toZ-ofZ}
 use Rattle.meaning.proofs.TwoKinds.{dst, dct-odd, dct-even, abs-S}
-use Rattle.engine.proofs.product.entry.Statement.{statement}
-use Rattle.engine.proofs.product.entry.Tie as tie
+use Rattle.engine.proofs.full.entry.Statement.{statement}
+use Rattle.engine.proofs.full.entry.Tie as tie
 
 stored-requires : tie.Need-stored-requires
 stored-requires c κs = search needs

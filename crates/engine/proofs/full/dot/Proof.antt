@@ -1,4 +1,4 @@
--- `product::dot` meets its contract: the sum of the products before i. Assumes nothing.
+-- `full::dot` meets its contract: the sum of the products before i. Assumes nothing.
 use borrow.Author.Needs.{needs}
 use native.Mathlib.Omega.{arith}
 use mathlib.Core.Path.{_≡_, sym, ap, _∙_, subst}
@@ -12,8 +12,8 @@ use Rattle.engine.specs.Lines.{input}
 use Rattle.tables.specs.Term.{term}
 use Rattle.engine.specs.Product.{outputSum}
 use Rattle.engine.proofs.Sums.{grown, none-yet, one-more, reads, abs-term}
-use Rattle.engine.proofs.product.dot.Statement.{statement}
-use Rattle.engine.proofs.product.dot.Tie as tie
+use Rattle.engine.proofs.full.dot.Statement.{statement}
+use Rattle.engine.proofs.full.dot.Tie as tie
 
 abbrev Inv-loop : tie.InvT-loop
 Inv-loop t n kind forward s from step count k sum₀ i₀ sum i =
