@@ -130,6 +130,12 @@ fill-first {j} {a} {a₀} {f} z l p e =
 pub filled : {n : ℕ} {a a₀ : List ℤ} {f : ℕ → ℤ} → length a₀ ≡ n → Filled 0 n a a₀ f → a ≡ tabulate n f
 filled {n} {a} {f = f} l p = tabulated n a f (p .long ∙ l) (λ k h. ap (at a) (sym (zero-add k)) ∙ p .done k h)
 
+-- a loop over a list has filled all of it
+pub filled-to : {n j : ℕ} {a a₀ : List ℤ} {f : ℕ → ℤ} → length a₀ ≡ n → j ≤ n → n ≤ j → Filled 0 j a a₀ f → a ≡ tabulate n f
+filled-to {n} {j} {a} {a₀} {f} l g h p =
+    let e : j ≡ n = omega arith in
+    filled l (subst (λ (k : ℕ). Filled 0 k a a₀ f) e p)
+
 -- ---- a lent part from a on, of k numbers, comes back as ys into a list of which the front is done
 pub part-back : {A : Type 0} (D o ys : List A) (a k e : ℕ) → length D ≡ a → e ≡ a + k
     → take a (D ++ drop a o) ++ (ys ++ drop k (drop a (D ++ drop a o))) ≡ (D ++ ys) ++ drop e o
@@ -143,8 +149,11 @@ pub rows-none : (n : ℕ) (f : ℕ → ℕ → ℤ) (o : List ℤ) → Rows n 0 
 rows-none n f o = record { are = rw (zero-mul n, block-none n f) }
 
 module _ {n y : ℕ} {f : ℕ → ℕ → ℤ} {m o : List ℤ} (p : Rows n y f m o) where
+  pub rows-room : {h : ℕ} → y ≤ h → h * n ≤ length o → length m ≡ length o
+  rows-room l g = ap length (p .are) ∙ length-append (block n y f) (drop (y * n) o) ∙ omega (arith, block-length n y f, length-drop (y * n) o, mul-le-mul-right n l)
+
   pub rows-long : {h : ℕ} → y ≤ h → length o ≡ h * n → length m ≡ length o
-  rows-long l g = ap length (p .are) ∙ length-append (block n y f) (drop (y * n) o) ∙ omega (arith, block-length n y f, length-drop (y * n) o, mul-le-mul-right n l)
+  rows-long l g = rows-room l (omega arith)
 
   pub rows-next : {ys : List ℤ} → ys ≡ tabulate n (λ x. f x y) → Rows n (y + 1) f (take (y * n) m ++ (ys ++ drop (y * n + n - y * n) (drop (y * n) m))) o
   rows-next t =

@@ -43,6 +43,10 @@ cast {w} w′ p t = record { n = ofZ w′ (toZ w (p .n)); z = p .z; size = p .si
 abbrev pub shr : {w : Width} (p : MV w) (m : ℕ) → Ok w (p .size) → MV w
 shr {w} p m t = record { n = ofZ w (shrZ (toZ w (p .n)) m); z = shrZ (p .z) m; size = p .size; is = B.shrV (p .is) m (lit< t) }
 
+-- a word whose size is known otherwise
+abbrev pub sized : {w : Width} (p : MV w) {B : ℕ} → natAbs (p .z) ≤ B → MV w
+sized {w} p {B} h = record { n = p .n; z = p .z; size = B; is = record { val = p .is .val; abs = h } }
+
 -- ---- what the machine asks, and what is returned
 pub add-fits : {w : Width} (p q : MV w) → Ok w (p .size + q .size) → SFits w (toZ w (p .n) +ℤ toZ w (q .n))
 add-fits p q t = B.add-fits (p .is) (q .is) (lit< t)
@@ -58,5 +62,3 @@ cast-fits w′ p t = B.cast-fits (p .is) (lit< t)
 
 pub val : {w : Width} (p : MV w) → toZ w (p .n) ≡ p .z
 val p = p .is .val
-
--- ---- the same, with the size of the result known otherwise

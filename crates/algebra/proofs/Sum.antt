@@ -163,3 +163,37 @@ pub zero-sum : (n : ℕ) (f : ℕ → ℕ) → ((i : ℕ) → i < n → f i ≡ 
 unfolding sumℕ
 zero-sum zero f e = refl
 zero-sum (suc n) f e = omega (arith, zero-sum n f (λ i h. e i (omega arith)), e n (omega arith))
+
+-- ---- two at a time, the odd one first
+pub sum-pairs : (n : ℕ) (f : ℕ → ℤ) → sum n (λ k. f (2 * k + 1) +ℤ f (2 * k)) ≡ sum (2 * n) f
+unfolding sum
+sum-pairs zero f = refl
+sum-pairs (suc n) f =
+    ap (λ (z : ℤ). z +ℤ (f (2 * n + 1) +ℤ f (2 * n))) (sum-pairs n f)
+    ∙ ring (sum (2 * n) f ∷ f (2 * n + 1) ∷ f (2 * n) ∷ []) (ν 0 ⊕ (ν 1 ⊕ ν 2)) (ν 0 ⊕ ν 2 ⊕ ν 1) refl
+    ∙ sym (sum-next (2 * n + 1) f ∙ ap (λ (z : ℤ). z +ℤ f (2 * n + 1)) (sum-next (2 * n) f))
+    ∙ ap (λ (m : ℕ). sum m f) (two n)
+  where
+    two : (n : ℕ) → 2 * n + 1 + 1 ≡ 2 * suc n
+    two n = omega arith
+
+-- ---- the numbers after the first m are 0
+pub sum-rest : (m n : ℕ) (f : ℕ → ℤ) → m ≤ n → ((i : ℕ) → m ≤ i → i < n → f i ≡ pos 0) → sum n f ≡ sum m f
+sum-rest m n f l e =
+    let k = n - m in
+    let whole : n ≡ m + k = omega arith in
+    ap (λ (i : ℕ). sum i f) whole ∙ sum-split m k f
+    ∙ ap (λ (z : ℤ). sum m f +ℤ z) (sum-cong k (λ i. f (m + i)) (λ i. pos 0) (λ i h. e (m + i) (omega arith) (omega arith)) ∙ sum-none k)
+    ∙ +ℤ-idr (sum m f)
+
+pub sumℕ-rest : (m n : ℕ) (f : ℕ → ℕ) → m ≤ n → ((i : ℕ) → m ≤ i → i < n → f i ≡ 0) → sumℕ n f ≡ sumℕ m f
+sumℕ-rest m n f l e =
+    let k = n - m in
+    let whole : n ≡ m + k = omega arith in
+    ap (λ (i : ℕ). sumℕ i f) whole ∙ more k (λ i h g. e i h (omega arith))
+  where
+    more : (k : ℕ) → ((i : ℕ) → m ≤ i → i < m + k → f i ≡ 0) → sumℕ (m + k) f ≡ sumℕ m f
+    more zero z = ap (λ (i : ℕ). sumℕ i f) (add-zero m)
+    more (suc k) z =
+        let one : m + suc k ≡ m + k + 1 = omega arith in
+        ap (λ (i : ℕ). sumℕ i f) one ∙ sumℕ-next (m + k) f ∙ omega (arith, more k (λ i h g. z i h (omega arith)), z (m + k) (omega arith) (omega arith))

@@ -16,8 +16,8 @@ use Rattle.algebra.proofs.Word.{small}
 use Rattle.meaning.specs.Weights.{weight}
 use Rattle.meaning.specs.Line.{forwardSum, inverseSum, forwardLine, inverseLine}
 use Rattle.tables.specs.Term.{term}
-use Rattle.engine.specs.Lines.{line}
-use Rattle.engine.specs.Product.{lineSum}
+use Rattle.engine.specs.Lines.{lineOf}
+use Rattle.engine.specs.Product.{outputSum}
 use Rattle.meaning.proofs.Sizes.{weightSize}
 
 pub abs-term : (forward : Bool) (kind n k i : ℕ) → natAbs (term forward kind n k i) ≤ 90
@@ -34,16 +34,16 @@ pub reads : {bits : ℕ} {z : ℤ} {i : ℕ} → bits ≡ ofZ w32 z → natAbs z
 reads {z = z} {i = i} e h l = ap (toZ w32) e ∙ toZ-ofZ w32 z (small {B = 94371840} (omega arith) (omega arith))
 
 module _ (forward : Bool) (kind n : ℕ) (x : ℕ → ℤ) (k : ℕ) where
-  pub none-yet : lineSum forward kind n 0 x k ≡ pos 0
-  unfolding lineSum sum
+  pub none-yet : outputSum forward kind n 0 x k ≡ pos 0
+  unfolding outputSum sum
   none-yet = refl
 
-  pub one-more : (i : ℕ) → lineSum forward kind n (i + 1) x k ≡ lineSum forward kind n i x k +ℤ term forward kind n k i *ℤ x i
-  unfolding lineSum
+  pub one-more : (i : ℕ) → outputSum forward kind n (i + 1) x k ≡ outputSum forward kind n i x k +ℤ term forward kind n k i *ℤ x i
+  unfolding outputSum
   one-more i = sum-next i (λ i. term forward kind n k i *ℤ x i)
 
 -- a line is the list of its sums
-pub line-sums : (forward : Bool) (kind n count : ℕ) (x : ℕ → ℤ) → (forward ≡ true → count ≡ n) → tabulate n (lineSum forward kind n count x) ≡ line forward kind n count x
-unfolding lineSum forwardLine inverseLine forwardSum inverseSum
+pub line-sums : (forward : Bool) (kind n count : ℕ) (x : ℕ → ℤ) → (forward ≡ true → count ≡ n) → tabulate n (outputSum forward kind n count x) ≡ lineOf forward kind n count x
+unfolding outputSum forwardLine inverseLine forwardSum inverseSum
 line-sums true kind n count x e = ap (λ (m : ℕ). tabulate n (λ k. sum m (λ i. weight kind n k i *ℤ x i))) (e refl)
 line-sums false kind n count x e = refl

@@ -34,6 +34,6 @@ pub record Given (n kind : ℕ) (forward : Bool) (count from step : ℕ) (t s z 
   pub inside : Inside count from step s
   pub long : length z ≡ n
 
--- what it leaves
-abbrev pub line : Bool → ℕ → ℕ → ℕ → (ℕ → ℤ) → List ℤ
-line forward kind n count x = cond forward (forwardLine kind n x) (inverseLine kind n count x)
+-- what it leaves: the line in either direction
+abbrev pub lineOf : Bool → ℕ → ℕ → ℕ → (ℕ → ℤ) → List ℤ
+lineOf forward kind n count x = cond forward (forwardLine kind n x) (inverseLine kind n count x)

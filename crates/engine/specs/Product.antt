@@ -5,5 +5,5 @@ use lib.IntN.{ℤ, _*ℤ_}
 use Rattle.algebra.specs.Sum.{sum}
 use Rattle.tables.specs.Term.{term}
 
-unfoldable pub lineSum : Bool → ℕ → ℕ → ℕ → (ℕ → ℤ) → ℕ → ℤ
-lineSum forward kind n count x k = sum count (λ i. term forward kind n k i *ℤ x i)
+unfoldable pub outputSum : Bool → ℕ → ℕ → ℕ → (ℕ → ℤ) → ℕ → ℤ
+outputSum forward kind n count x k = sum count (λ i. term forward kind n k i *ℤ x i)

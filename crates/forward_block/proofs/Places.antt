@@ -2,24 +2,15 @@
 use mathlib.Core.Path.{_≡_, refl, sym, ap, _∙_, subst}
 use mathlib.Core.List.{List, _++_}
 use Prim.Native.Nat.{ℕ, _+_, _*_, _-_, _≤_, _<_}
-use native.Mathlib.Nat.{not-suc-le-zero}
+use native.Mathlib.Nat.{not-suc-le-zero, add-comm}
 use native.Mathlib.Decide.{ℕ-discrete}
 use native.Mathlib.Omega.{arith}
 use lib.ListN.{length, take, drop, length-append, length-take, length-drop, List·getD-append}
 use lib.Seq.{getD-append-add, getD-take, getD-drop, length-take-le}
-use lib.IntN.{ℤ, pos, natAbs}
-use Rattle.algebra.specs.Shift.{nearest}
+use lib.IntN.{ℤ, pos}
 use Rattle.algebra.specs.Lists.{at, tabulate}
-use Rattle.algebra.proofs.Lists.{Filled, row-in, part-same, tab-length, tab-at}
-use Rattle.row_sums.specs.Sums.{rowSum}
-use Rattle.forward_block.specs.Forward.{Sums, Line, Stage}
-
--- ---- a part from the start of a buffer, that was lent and came back as L
-pub front : {A : Type 0} (L Z P : List A) (n : ℕ) → length L ≡ n → Z ≡ L → take (n - 0) (Z ++ P) ≡ L
-front L Z P n l e = rw e (part-same n L P l)
-
-pub front-in : {A : Type 0} (L Z P : List A) (n : ℕ) → length L ≡ n → Z ≡ L → n ≤ length (Z ++ P)
-front-in L Z P n l e = rw e (omega (arith, length-append L P))
+use Rattle.algebra.proofs.Lists.{Filled, row-in, tab-length, tab-at}
+use Rattle.forward_block.specs.Stage.{Stage}
 
 -- ---- a part of k numbers from a on, that was lent and came back as f 0, f 1, ..
 pub part-in : (l : List ℤ) (a k : ℕ) → a + k ≤ length l → length (take (a + k - a) (drop a l)) ≡ k
@@ -56,18 +47,6 @@ part-filled l ys a k f h e =
         ap (at (take a l ++ (ys ++ drop (a + k - a) (drop a l)))) q ∙ past (k + j) ∙ ap (at (ys ++ drop (a + k - a) (drop a l))) v
         ∙ getD-append-add ys (drop (a + k - a) (drop a l)) j (pos 0)
         ∙ getD-drop (a + k - a) (drop a l) j (pos 0) ∙ getD-drop a l (a + k - a + j) (pos 0) ∙ ap (at l) u
-
--- ---- the sums of a line
-pub line-sums : {kept apart p step count shift : ℕ} (rows weights : List ℤ) → Line kept rows apart weights p step count shift
-    → Sums shift (tabulate kept (rowSum rows 0 apart weights p step count))
-line-sums {kept} {apart} {p} {step} {count} {shift} rows weights g =
-    let f = rowSum rows 0 apart weights p step count in
-    record {
-      some = g .some;
-      few = g .few;
-      small = λ x h. subst (λ (z : ℤ). natAbs z ≤ 67108864) (sym (tab-at kept f x (omega (arith, tab-length kept f)))) (g .small x (omega (arith, tab-length kept f)));
-      short = λ x h. subst (λ (z : ℤ). natAbs (nearest shift z) ≤ 32767) (sym (tab-at kept f x (omega (arith, tab-length kept f)))) (g .short x (omega (arith, tab-length kept f)));
-    }
 
 -- ---- lines
 module _ {kept wide : ℕ} {f : ℕ → ℕ → ℤ} where

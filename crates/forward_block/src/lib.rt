@@ -1,4 +1,7 @@
-// Internal: the work behind `transform::block::forward`, for calls that its tests have passed, so with a `requires`: the hunt
-// for refusal 9, then rows, then columns. Nothing but `transform` depends on it. Read specs/Forward, then forward:
-// `first_too_large` and `stages` are what `transform` calls.
-pub mod forward;
+// Internal: the work behind `transform::block::forward`, for calls that its tests have passed, so with a `requires`. Nothing but
+// `transform` depends on it. Read hunt, the hunt for refusal 9; shift, how far each stage shifts; specs/Stage, what a stage is
+// given and what it leaves; place, numbers in 16 bits; stages, both of them.
+pub mod hunt;
+mod place;
+mod shift;
+pub mod stages;

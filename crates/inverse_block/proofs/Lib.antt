@@ -1,4 +1,6 @@
 pub mod Tests
 pub mod Blocks
-pub mod Middles
-pub mod Residuals
+pub mod Alive
+pub mod Inside
+pub mod Railing
+pub mod Work

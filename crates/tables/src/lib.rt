@@ -1,6 +1,9 @@
 // The DST-VII weights, stored whole. A `const` array is built anew at each use, so each is handed out by value once for a
 // line or a block and lent from there. Read specs/Table, then the functions at the end of this file; the proof of each has the
 // checker test the fold rule over its whole table (proofs/Stored).
+pub mod stage;
+pub mod zipped;
+
 ghost use Rattle.tables.specs.Table.{Table};
 
 const WEIGHTS_4: [i16; 16] = [

@@ -13,7 +13,7 @@ use Rattle.algebra.specs.Lists.{at}
 use Rattle.meaning.specs.Shape.{isSize, isKind}
 use Rattle.meaning.specs.Taken.{TakenLine}
 use Rattle.meaning.proofs.Cases.{size-cases, kind-cases}
-use Rattle.engine.specs.Lines.{Spot, Given, input, line}
+use Rattle.engine.specs.Lines.{Spot, Given, input, lineOf}
 use Rattle.folding.specs.Lines as Folded
 use Rattle.folding.specs.Lines.{isShared, isSine}
 use Rattle.tables.specs.Table.{Table}
@@ -54,8 +54,8 @@ given {m = m} forward p e t =
     }
 
 -- number i of an input that stands at 0 and goes by 1
-pub in-order : (forward : Bool) (kind n : ℕ) (x : List ℤ) {z : List ℤ} → z ≡ line forward kind n n (input x 0 1) → z ≡ line forward kind n n (at x)
-in-order forward kind n x e = e ∙ (λ p. line forward kind n n (λ i. at x (same i p)))
+pub in-order : (forward : Bool) (kind n : ℕ) (x : List ℤ) {z : List ℤ} → z ≡ lineOf forward kind n n (input x 0 1) → z ≡ lineOf forward kind n n (at x)
+in-order forward kind n x e = e ∙ (λ p. lineOf forward kind n n (λ i. at x (same i p)))
   where
     same : (i : ℕ) → 0 + i * 1 ≡ i
     same i = omega arith

@@ -17,11 +17,13 @@ pub fn inverse(shape: Shape, coefficients: &[i16], residuals: &mut [i32]) -> Ans
     if number != 0 {
         return refusal(number, 0);
     }
-    let place = inverse_block::inverse::hunt(shape, coefficients);
+    let rows = inverse_block::live::rows(shape, coefficients);
+    let columns = inverse_block::live::columns(shape, rows, coefficients);
+    let place = inverse_block::hunt::hunt(shape, columns, rows, coefficients);
     if place < coefficients.len() {
         return refusal(8, place as u32);
     }
-    acceptance(inverse_block::inverse::stages(shape, coefficients, residuals))
+    acceptance(inverse_block::stages::stages(shape, rows, columns, coefficients, residuals))
 }
 
 /// The forward block: residuals to coefficients. Refusals 1 to 7 and 9.
@@ -32,10 +34,10 @@ pub fn forward(shape: Shape, residuals: &[i16], coefficients: &mut [i16]) -> Ans
     if number != 0 {
         return refusal(number, 0);
     }
-    let place = forward_block::forward::first_too_large(shape, residuals);
+    let place = forward_block::hunt::first_too_large(shape, residuals);
     if place < residuals.len() {
         return refusal(9, place as u32);
     }
-    forward_block::forward::stages(shape, residuals, coefficients);
+    forward_block::stages::stages(shape, residuals, coefficients);
     acceptance(0)
 }

@@ -3,8 +3,8 @@
 use crate::check::acceptance;
 use crate::check::line_refusal;
 use crate::check::refusal;
-use engine::product::entry;
-use engine::product::product;
+use engine::full::entry;
+use engine::full::product;
 use meaning::Answer;
 use meaning::is_kind;
 use meaning::is_size;
@@ -19,7 +19,7 @@ ghost use Rattle.algebra.specs.Lists.{at};
 ghost use Rattle.algebra.specs.Refusals.{numberOf};
 ghost use Rattle.meaning.specs.Weights.{weight};
 ghost use Rattle.meaning.specs.Answer.{Outcome, lineTests, forwardLineOutcome, inverseLineOutcome};
-ghost use Rattle.engine.specs.Lines.{Given, line};
+ghost use Rattle.engine.specs.Lines.{Given, lineOf};
 ghost use Rattle.transform.specs.Line.{isPlace, weightOrZero, lineOutcome};
 
 fn is_place(kind: u32, n: u32, i: u32, j: u32) -> bool
@@ -71,7 +71,7 @@ pub fn weight(kind: u32, n: u32, i: u32, j: u32) -> i32
 // All n inputs, on a table lent to it.
 fn run(t: &[i16], n: usize, kind: u32, forward: bool, x: &[i16], y: &mut [i32])
     requires { ⌜ Given n kind forward n 0 1 (now t) (now x) (now y) ⌝ }
-    ensures { λ _. ⌜ now (y .exit) ≡ line forward kind n n (at (now (x .entry))) ⌝ }
+    ensures { λ _. ⌜ now (y .exit) ≡ lineOf forward kind n n (at (now (x .entry))) ⌝ }
 {
     product(t, n, kind, forward, x, 0, 1, n, y);
 }
@@ -79,7 +79,7 @@ fn run(t: &[i16], n: usize, kind: u32, forward: bool, x: &[i16], y: &mut [i32])
 // A line that was accepted, by the full product: the one table of its size is lent to it.
 fn product_line(n: u32, kind: u32, forward: bool, x: &[i16], y: &mut [i32])
     requires { ⌜ numberOf (lineTests n kind (length (now x)) (length (now y))) ≡ 0 ⌝ }
-    ensures { λ _. ⌜ now (y .exit) ≡ line forward kind n n (at (now (x .entry))) ⌝ }
+    ensures { λ _. ⌜ now (y .exit) ≡ lineOf forward kind n n (at (now (x .entry))) ⌝ }
 {
     if n == 4 {
         let t = weights_4();
@@ -104,7 +104,7 @@ fn product_line(n: u32, kind: u32, forward: bool, x: &[i16], y: &mut [i32])
 // apart, so that neither has the other's numbers on its stack, nor the larger tables.
 fn folded_forward(n: u32, kind: u32, x: &[i16], y: &mut [i32])
     requires { ⌜ numberOf (lineTests n kind (length (now x)) (length (now y))) ≡ 0 ⌝ }
-    ensures { λ _. ⌜ now (y .exit) ≡ line true kind n n (at (now (x .entry))) ⌝ }
+    ensures { λ _. ⌜ now (y .exit) ≡ lineOf true kind n n (at (now (x .entry))) ⌝ }
 {
     if n == 8 {
         let t = weights_8();
@@ -116,7 +116,7 @@ fn folded_forward(n: u32, kind: u32, x: &[i16], y: &mut [i32])
 
 fn folded_inverse(n: u32, kind: u32, x: &[i16], y: &mut [i32])
     requires { ⌜ numberOf (lineTests n kind (length (now x)) (length (now y))) ≡ 0 ⌝ }
-    ensures { λ _. ⌜ now (y .exit) ≡ line false kind n n (at (now (x .entry))) ⌝ }
+    ensures { λ _. ⌜ now (y .exit) ≡ lineOf false kind n n (at (now (x .entry))) ⌝ }
 {
     if n == 8 {
         let t = weights_8();

@@ -5,7 +5,7 @@ use mathlib.Core.Path.{_≡_, sym, ap, _∙_}
 use mathlib.Core.Bool.{true, false}
 use mathlib.Core.List.{List, [], _∷_, _++_}
 use Prim.Native.Nat.{ℕ, _*_, _≤_}
-use native.Mathlib.Nat.{mul-le-mul}
+use native.Mathlib.Nat.{mul-comm, mul-le-mul, mul-le-mul-right}
 use borrow.Author.Tests.{lt-ltb, le-ltb}
 use lib.Dec.{ltb}
 use lib.ListN.{length}
@@ -18,6 +18,9 @@ use Rattle.meaning.specs.Inverse.{rails, inverseBlock, firstOutside, inverseOut
 use Rattle.meaning.proofs.Cases.{size-in}
 use Rattle.meaning.specs.Taken.{TakenBlock}
 use Rattle.meaning.proofs.Accepted.{block-taken}
+use Rattle.layout.specs.Live.{Live}
+use Rattle.inverse_block.specs.Part.{Part}
+use Rattle.inverse_block.proofs.Inside.{live-part, kept-part}
 use Rattle.transform.proofs.block.inverse.Statement.{statement}
 use Rattle.transform.proofs.block.inverse.Tie as tie
 
@@ -59,13 +62,33 @@ returns c =
     ap (λ (a : Answer). (a, s .args .residuals .now)) (c .refusal .ensures) ∙ ap (λ (n : ℕ). refuse s n 0) n
     ∙ sym (refused-first (eight s) (refuse s) (done s) (seven s) tt (λ e. c .before .if1 .taken (n ∙ e)))
 
+-- how much of the block is not zero
+live-rows : (c : tie.After-rows) → let s = c .before .before .before in Live (s .args .coefficients .now) (s .args .shape .width) (s .args .shape .height) (c .rows .result)
+live-rows c = c .rows .ensures
+
+turned : (c : tie.Else1) → let s = c .before .before in length (s .args .coefficients .now) ≡ s .args .shape .height * s .args .shape .width
+turned c = let s = c .before .before in taken c .long ∙ mul-comm (s .args .shape .width) (s .args .shape .height)
+
+live : (c : tie.After-columns) → let s = c .before .before .before .before in Part (s .args .shape .width) (s .args .shape .height) (c .columns .result) (c .before .rows .result) (s .args .coefficients .now)
+live c =
+    let s = c .before .before .before .before in
+    live-part (s .args .shape .width) (s .args .shape .height) (c .columns .result) (c .before .rows .result) (s .args .coefficients .now) (c .before .rows .ensures) (c .columns .ensures)
+
+rows-requires : tie.Need-rows-requires
+rows-requires c κs = (taken c .taken .height, turned c)
+
+columns-requires : tie.Need-columns-requires
+columns-requires c κs =
+    let s = c .before .before .before in
+    (taken (c .before) .taken .width, omega (arith, turned (c .before), mul-le-mul-right (s .args .shape .width) (live-rows c .within)))
+
 hunt-requires : tie.Need-hunt-requires
-hunt-requires c κs = taken c .long
+hunt-requires c κs = (taken (c .before .before) .long, live c)
 
 cast-refusal : tie.Need-cast-refusal
 cast-refusal c =
-    let s = c .before .before .before .before in
-    let w = taken (c .before .before) in
+    let s = c .before .before .before .before .before .before in
+    let w = taken (c .before .before .before .before) in
     let m : s .args .shape .width * s .args .shape .height ≤ 32 * 32 = mul-le-mul (size-in (s .args .shape .width) (w .taken .width)) (size-in (s .args .shape .height) (w .taken .height)) in
     omega (arith, c .if2 .taken, w .long)
 
@@ -74,14 +97,24 @@ refusal-requires-2 c κs = search needs
 
 returns-2 : tie.Need-returns-2
 returns-2 c =
-    let s = c .before .before .before .before .before in
-    let h = c .before .before .hunt .ensures .0 in
+    let s = c .before .before .before .before .before .before .before in
+    let h = c .before .before .hunt .ensures in
     let l : ltb (place s) (length (s .args .coefficients .now)) ≡ true = lt-ltb (place s) (length (s .args .coefficients .now)) (omega (arith, h, c .before .if2 .taken)) in
     ap (λ (a : Answer). (a, s .args .residuals .now)) (c .refusal2 .ensures) ∙ ap (λ (n : ℕ). refuse s 8 n) h
-    ∙ sym (past (c .before .before .before) ∙ rw l)
+    ∙ sym (past (c .before .before .before .before .before) ∙ rw l)
 
 stages-requires : tie.Need-stages-requires
-stages-requires c κs = (taken (c .before .before .before), c .before .before .hunt .ensures .1)
+stages-requires c κs =
+    let C = c .before .before .before in
+    let s = C .before .before .before .before in
+    let w = taken (C .before .before) in
+    record {
+      block = w;
+      size-rows = C .before .rows .ensures .size;
+      size-columns = C .columns .ensures .size;
+      live = live C;
+      kept = kept-part (s .args .shape) (s .args .coefficients .now) (w .long) (omega (arith, c .before .before .hunt .ensures, c .before .if2 .left));
+    }
 
 acceptance-requires : tie.Need-acceptance-requires
 acceptance-requires c κs = search needs
@@ -91,12 +124,12 @@ same-length c = search needs
 
 returns-3 : tie.Need-returns-3
 returns-3 c =
-    let s = c .before .before .before .before .before .before .before .before in
-    let h = c .before .before .before .before .before .hunt .ensures .0 in
+    let s = c .before .before .before .before .before .before .before .before .before .before in
+    let h = c .before .before .before .before .before .hunt .ensures in
     let l : ltb (place s) (length (s .args .coefficients .now)) ≡ false = le-ltb (place s) (length (s .args .coefficients .now)) (omega (arith, h, c .before .before .before .before .if2 .left)) in
     let e = c .before .before .stages .ensures in
     (λ i. (c .acceptance .ensures i, e .1 i)) ∙ ap (λ (n : ℕ). (accepted n, inverseBlock (planOf (s .args .shape)) (s .args .coefficients .now))) (e .0)
-    ∙ sym (past (c .before .before .before .before .before .before) ∙ rw l)
+    ∙ sym (past (c .before .before .before .before .before .before .before .before) ∙ rw l)
 
 pub inverse-spec : {M : Type 1} → statement M
 inverse-spec =
@@ -105,6 +138,8 @@ inverse-spec =
     block-refusal-requires
     refusal-requires
     returns
+    rows-requires
+    columns-requires
     hunt-requires
     cast-refusal
     refusal-requires-2

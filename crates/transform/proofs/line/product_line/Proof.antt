@@ -6,7 +6,7 @@ use lib.ListN.{length}
 use Rattle.algebra.specs.Lists.{at}
 use Rattle.meaning.specs.Taken.{TakenLine}
 use Rattle.meaning.proofs.Accepted.{line-taken}
-use Rattle.engine.specs.Lines.{line}
+use Rattle.engine.specs.Lines.{lineOf}
 use Rattle.transform.proofs.Lent.{given}
 use Rattle.meaning.proofs.Cases.{thirty-two}
 use Rattle.transform.proofs.line.product_line.Statement.{statement}
@@ -17,8 +17,8 @@ here s = line-taken (s .args .n) (s .args .kind) (length (s .args .x .now)) (len
 
 -- the line of the size that was tested for
 sized : (s : tie.Start) {m : ℕ} → s .args .n ≡ m
-    → line (s .args .forward) (s .args .kind) m m (at (s .args .x .now)) ≡ line (s .args .forward) (s .args .kind) (s .args .n) (s .args .n) (at (s .args .x .now))
-sized s e = ap (λ (n : ℕ). line (s .args .forward) (s .args .kind) n n (at (s .args .x .now))) (sym e)
+    → lineOf (s .args .forward) (s .args .kind) m m (at (s .args .x .now)) ≡ lineOf (s .args .forward) (s .args .kind) (s .args .n) (s .args .n) (at (s .args .x .now))
+sized s e = ap (λ (n : ℕ). lineOf (s .args .forward) (s .args .kind) n n (at (s .args .x .now))) (sym e)
 
 weights-4-requires : tie.Need-weights-4-requires
 weights-4-requires c κs = search needs

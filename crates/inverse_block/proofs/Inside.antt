@@ -1,0 +1,97 @@
+-- The hunt for 8 and the parts of a block: what is zero outside of a kept part is not found, and what is not found is zero.
+-- Assumes nothing.
+use mathlib.Core.Path.{_≡_, refl, sym, ap, _∙_, subst}
+use mathlib.Core.Bool.{Bool, true, false, not, _&&_}
+use mathlib.Core.List.{List}
+use Prim.Native.Nat.{ℕ, _+_, _*_, _≤_, _<_}
+use native.Mathlib.Nat.{mul-comm, zero-add, mul-le-mul-right}
+use native.Mathlib.Omega.{arith}
+use native.Mathlib.Decide.{decLt}
+use borrow.Author.Tests.{lt-ltb, le-ltb, eqb-true}
+use lib.Dec.{eqb, ltb}
+use lib.IntN.{ℤ, pos, natAbs}
+use lib.ListN.{length}
+use Rattle.algebra.specs.Lists.{at}
+use Rattle.algebra.proofs.Order.{abs-zero}
+use Rattle.algebra.proofs.Lists.{every-place, place-in, column-of, row-of}
+use Rattle.algebra.proofs.First.{first-before, first-past}
+use Rattle.meaning.specs.declared.Shape.{Shape}
+use Rattle.meaning.specs.Shape.{keptColumns, keptRows}
+use Rattle.meaning.specs.Plan.{planOf}
+use Rattle.meaning.specs.Inverse.{outside, firstOutside}
+use Rattle.meaning.proofs.Stages.{columns-in, rows-in}
+use Rattle.layout.specs.Live.{Live, LiveColumns}
+use Rattle.inverse_block.specs.Part.{outsideAt, Part}
+use Rattle.inverse_block.proofs.Tests.{kept-not}
+
+-- the live part, as it was found
+pub live-part : (w h columns rows : ℕ) (c : List ℤ) → Live c w h rows → LiveColumns c w rows columns → Part w h columns rows c
+live-part w h columns rows c r k =
+    record {
+      narrow = k .within;
+      low = r .within;
+      right = λ x y l g v. pick x y l g v (decLt y rows);
+      below = λ x y g l v. under x y g l v;
+    }
+  where
+    under : (x y : ℕ) → x < w → rows ≤ y → y < h → at c (x + y * w) ≡ pos 0
+    under x y g l v = r .clear (x + y * w) (omega (arith, mul-le-mul-right w l)) (place-in {x = x} {y = y} {w = w} {h = h} g v)
+
+    pick : (x y : ℕ) → columns ≤ x → x < w → y < h → Dec (y < rows) → at c (x + y * w) ≡ pos 0
+    pick x y l g v (yes q) = k .clear x y l g q
+    pick x y l g v (no n) = under x y g (omega arith) v
+
+zero-not : (z : ℤ) (b : Bool) → z ≡ pos 0 → not (eqb (natAbs z) 0) && b ≡ false
+zero-not z b e = rw e refl
+
+module _ (sh : Shape) (c : List ℤ) (long : length c ≡ sh .width * sh .height) where
+  abbrev w : ℕ
+  w = sh .width
+
+  abbrev h : ℕ
+  h = sh .height
+
+  -- a part that lies within the kept part
+  pub none-outside : {columns rows : ℕ} → Part w h columns rows c → columns ≤ keptColumns sh → rows ≤ keptRows sh → length c ≡ firstOutside (planOf sh) c
+  none-outside {columns} {rows} p k r =
+      sym (first-past (outside (planOf sh)) c 0
+      (λ i l. subst (λ (j : ℕ). outside (planOf sh) j (at c i) ≡ false) (sym (zero-add i)) (every-place w h (λ i. outside (planOf sh) i (at c i) ≡ false) one i (omega (arith, long, mul-comm w h))))
+      ∙ zero-add (length c))
+    where
+      one : (x y : ℕ) → x < w → y < h → outside (planOf sh) (x + y * w) (at c (x + y * w)) ≡ false
+      one x y g v = rw (column-of {x = x} {w = w} y g, row-of {x = x} {w = w} y g) (pick (decLt x columns) (decLt y rows))
+        where
+          pick : Dec (x < columns) → Dec (y < rows) → outsideAt (keptColumns sh) (keptRows sh) x y (at c (x + y * w)) ≡ false
+          pick (yes a) (yes b) = kept-not (keptColumns sh) (keptRows sh) x y (at c (x + y * w)) (omega arith) (omega arith)
+          pick (no a) b = zero-not (at c (x + y * w)) _ (p .right x y (omega arith) g v)
+          pick (yes a) (no b) = zero-not (at c (x + y * w)) _ (p .below x y g (omega arith) v)
+
+  -- nothing was found
+  pub kept-part : length c ≤ firstOutside (planOf sh) c → Part w h (keptColumns sh) (keptRows sh) c
+  kept-part l =
+      record {
+        narrow = columns-in sh;
+        low = rows-in sh;
+        right = λ x y k g v. out x y g v (rw (le-ltb x (keptColumns sh) k) refl);
+        below = λ x y g k v. out x y g v (rw (le-ltb y (keptRows sh) k) (both (ltb x (keptColumns sh))));
+      }
+    where
+      both : (b : Bool) → b && false ≡ false
+      both true = refl
+      both false = refl
+
+      zero : (z : ℤ) (b : Bool) → b ≡ false → not (eqb (natAbs z) 0) && not b ≡ false → z ≡ pos 0
+      zero z b e f = abs-zero z (eqb-true (natAbs z) 0 (test (eqb (natAbs z) 0) (subst (λ (b : Bool). not (eqb (natAbs z) 0) && not b ≡ false) e f)))
+        where
+          test : (t : Bool) → not t && true ≡ false → t ≡ true
+          test true q = refl
+          test false q = absurd (let z : _≡_ {A = ℕ} 0 1 = cc in omega arith)
+
+      out : (x y : ℕ) → x < w → y < h → ltb x (keptColumns sh) && ltb y (keptRows sh) ≡ false → at c (x + y * w) ≡ pos 0
+      out x y g v e =
+          let k = x + y * w in
+          let m : k < length c = omega (arith, long, mul-comm w h, place-in {x = x} {y = y} {w = w} {h = h} g v) in
+          let b : 0 + k < firstOutside (planOf sh) c = omega arith in
+          let f : outside (planOf sh) (0 + k) (at c k) ≡ false = first-before (outside (planOf sh)) c 0 k m b in
+          let f′ : outside (planOf sh) k (at c k) ≡ false = subst (λ (j : ℕ). outside (planOf sh) j (at c k) ≡ false) (zero-add k) f in
+          zero (at c k) (ltb x (keptColumns sh) && ltb y (keptRows sh)) e (rw (column-of {x = x} {w = w} y g, row-of {x = x} {w = w} y g) at f′)

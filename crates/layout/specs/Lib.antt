@@ -1,0 +1,2 @@
+pub mod Zip
+pub mod Live

@@ -1,0 +1,4 @@
+// Internal: what stands around the lines of a block, for calls that were tested. `zip` has rows of a block zipped, two by two, as
+// lines read them; `live` has how much of a block is not zero. Read specs/Zip and specs/Live.
+pub mod live;
+pub mod zip;
