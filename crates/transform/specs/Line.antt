@@ -10,7 +10,7 @@ use Rattle.algebra.specs.Lists.{at}
 use Rattle.meaning.specs.Weights.{weight}
 use Rattle.meaning.specs.Shape.{isSize, isKind}
 use Rattle.meaning.specs.Answer.{Outcome, outcome, accepted, lineTests}
-use Rattle.engine.specs.Lines.{line}
+use Rattle.engine.specs.Lines.{lineOf}
 
 -- row i and column j of a matrix that there is
 abbrev pub isPlace : ℕ → ℕ → ℕ → ℕ → Bool
@@ -22,4 +22,4 @@ weightOrZero kind n i j = cond (isPlace kind n i j) (weight kind n i j) (pos 0)
 
 -- forwardLineOutcome or inverseLineOutcome
 abbrev pub lineOutcome : Bool → ℕ → ℕ → List ℤ → List ℤ → Outcome
-lineOutcome forward n kind x y = outcome (lineTests n kind (length x) (length y)) y (accepted 0, line forward kind n n (at x))
+lineOutcome forward n kind x y = outcome (lineTests n kind (length x) (length y)) y (accepted 0, lineOf forward kind n (at x))

@@ -10,6 +10,7 @@ use hoengtila_harness::random::{seed, Random, SEED_VARIABLE};
 use hoengtila_harness::wrong::{Wrong, NO_DEPTH, NO_KIND, NO_SIZE};
 
 const SIZES: [i64; 4] = [4, 8, 16, 32];
+const KINDS: [i64; 3] = [0, 1, 2];
 const SIXTEEN_BITS: [i64; 2] = [-32768, 32767];
 
 /// What the file needs of the definitions' own files.
@@ -218,7 +219,7 @@ fn held(random: &mut Random, count: usize) -> Vec<i64> {
 /// The k-th shape of its sides: kinds and depths take turns.
 fn shape_in_turn(k: usize, width: i64, height: i64) -> Shape {
     let k = k as i64;
-    Shape::new(width, height, 1 + k % 2, 1 + k / 2 % 2, 8 + k % 5)
+    Shape::new(width, height, k % 3, k / 3 % 3, 8 + k % 5)
 }
 
 /// Zero in every place that is not kept.
@@ -244,7 +245,7 @@ fn refused_line(t: &mut Theorems, direction: Direction, number: usize) {
     let random = &mut t.random;
     let wrong = Wrong::first(random, number);
     let n = wrong.pick(random, 1, &SIZES, &NO_SIZE);
-    let kind = wrong.pick(random, 3, &[1, 2], &NO_KIND);
+    let kind = wrong.pick(random, 3, &KINDS, &NO_KIND);
     let length = if n <= 64 { n.max(1) } else { 4 };
     let input = wrong.length(random, 6, length);
     let output = wrong.length(random, 7, length);
@@ -263,8 +264,8 @@ fn refused_block(t: &mut Theorems, direction: Direction, number: usize) {
     let shape = Shape::new(
         width,
         height,
-        wrong.pick(random, 3, &[1, 2], &NO_KIND),
-        wrong.pick(random, 4, &[1, 2], &NO_KIND),
+        wrong.pick(random, 3, &KINDS, &NO_KIND),
+        wrong.pick(random, 4, &KINDS, &NO_KIND),
         wrong.pick(random, 5, &[8, 9, 10, 11, 12], &NO_DEPTH),
     );
     let area = if width.max(height) <= 64 {
@@ -290,7 +291,10 @@ fn lone_bad_number(t: &mut Theorems, direction: Direction, shape: &Shape) {
         Forward => t.random.below(area),
         Inverse => {
             clear_outside(shape, &mut input);
-            let outside = |&p: &usize| p as i64 % shape.width > 15 || p as i64 / shape.width > 15;
+            let outside = |&p: &usize| {
+                p as i64 % shape.width >= shape.kept_columns()
+                    || p as i64 / shape.width >= shape.kept_rows()
+            };
             let places: Vec<usize> = (0..area).filter(outside).collect();
             t.random.choose(&places)
         }
@@ -307,8 +311,9 @@ fn lone_bad_number(t: &mut Theorems, direction: Direction, shape: &Shape) {
 
 fn weights(t: &mut Theorems) {
     for n in SIZES {
-        weights_case(t, 1, n);
-        weights_case(t, 2, n);
+        for kind in KINDS {
+            weights_case(t, kind, n);
+        }
     }
 }
 
@@ -338,7 +343,7 @@ fn lines(t: &mut Theorems, direction: Direction) {
         for k in 0..count {
             let x = numbers(&mut t.random, n, SIXTEEN_BITS);
             let held = held(&mut t.random, n);
-            line_case(t, direction, n as i64, 1 + k % 2, &x, &held);
+            line_case(t, direction, n as i64, k % 3, &x, &held);
         }
     }
 }
