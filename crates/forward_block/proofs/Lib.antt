@@ -1,2 +1,5 @@
 pub mod Places
+pub mod OneLine
+pub mod TwoStages
+pub mod RoomsFor
 pub mod Ends

@@ -16,11 +16,6 @@ use Rattle.forward_block.specs.Stage.{Stage}
 pub part-in : (l : List ℤ) (a k : ℕ) → a + k ≤ length l → length (take (a + k - a) (drop a l)) ≡ k
 part-in l a k h = simp (length-take, length-drop) (omega arith)
 
-pub part-at : (l : List ℤ) (a k x : ℕ) → x < k → at (take (a + k - a) (drop a l)) x ≡ at l (x + a)
-part-at l a k x h =
-    let n : a + k - a ≡ k = omega arith in
-    rw n (getD-take k (drop a l) x (pos 0) h ∙ getD-drop a l x (pos 0) ∙ ap (at l) (add-comm a x))
-
 pub part-filled : (l ys : List ℤ) (a k : ℕ) (f : ℕ → ℤ) → a + k ≤ length l → ys ≡ tabulate (length (take (a + k - a) (drop a l))) f
     → Filled a k (take a l ++ (ys ++ drop (a + k - a) (drop a l))) l f
 part-filled l ys a k f h e =

@@ -1,14 +1,18 @@
--- Document 01, "Blocks", "Forward": what the stages are given, and rows of values in the first places of the rows of a buffer.
+-- Document 01, "Blocks", "Forward": what the stages are given, and rows of rounded sums in the first places of the rows of a buffer.
 use mathlib.Core.Path.{_≡_}
 use mathlib.Core.List.{List}
-use Prim.Native.Nat.{ℕ, _+_, _*_, _-_, _^_, _<_, _≤_}
+use Prim.Native.Nat.{ℕ, _+_, _*_, _-_, _/_, _^_, _<_, _≤_}
 use lib.ListN.{length}
 use lib.IntN.{ℤ}
 use mir.Syntax.{w16}
 use mir.Val.{SFits}
+use Rattle.algebra.specs.Shift.{nearest}
 use Rattle.algebra.specs.Lists.{at}
 use Rattle.meaning.specs.declared.Shape.{Shape}
+use Rattle.meaning.specs.Weights.{weight}
+use Rattle.meaning.specs.Shape.{keptColumns, keptRows}
 use Rattle.meaning.specs.Taken.{Taken, NoneAbove}
+use Rattle.product.specs.Product.{Laid, lineSum, Lines}
 
 -- residuals that tests 1 to 6 and 9 let pass
 pub record Residuals (sh : Shape) (r : List ℤ) : Type 0 where
@@ -16,13 +20,19 @@ pub record Residuals (sh : Shape) (r : List ℤ) : Type 0 where
   pub long : length r ≡ sh .width * sh .height
   pub small : NoneAbove (2 ^ sh .depth - 1) r
 
--- `rows` rows of `columns` values, each row `pitch` behind the one before it, which fit 16 bits, and rows of w in `room` numbers
-pub record Values (pitch columns rows w : ℕ) (e : List ℤ) (room : ℕ) : Type 0 where
-  pub narrow : columns ≤ w
-  pub within : columns ≤ pitch
-  pub there : rows * pitch ≤ length e
-  pub held : rows * w ≤ room
-  pub fits : (x y : ℕ) → x < columns → y < rows → SFits w16 (at e (x + y * pitch))
+-- output x of line y, rounded
+abbrev pub lineValue : ℕ → List ℤ → ℕ → ℕ → List ℤ → ℕ → ℕ → ℕ → ℕ → ℤ
+lineValue pairs a step gap b apart shift x y = nearest shift (lineSum a (step * y) gap b apart pairs x)
+
+-- `some` lines of `kept` outputs, none of which leaves 16 bits, and rows of `wide` for them in `room` numbers
+pub record Put (pairs : ℕ) (a : List ℤ) (step gap : ℕ) (b : List ℤ) (apart kept some wide shift room : ℕ) : Type 0 where
+  pub lines : Lines some kept pairs a step gap b apart
+  pub few : kept ≤ 32
+  pub narrow : kept ≤ wide
+  pub held : some * wide ≤ room
+  pub low : 0 < shift
+  pub high : shift ≤ 20
+  pub fits : (x y : ℕ) → x < kept → y < some → SFits w16 (lineValue pairs a step gap b apart shift x y)
 
 -- f x y stands in each of the first `kept` columns of `some` rows; all else is as it was
 pub record Stage (kept wide some : ℕ) (f : ℕ → ℕ → ℤ) (a a₀ : List ℤ) : Type 0 where
@@ -30,3 +40,15 @@ pub record Stage (kept wide some : ℕ) (f : ℕ → ℕ → ℤ) (a a₀ : List
   pub done : (x y : ℕ) → x < kept → y < some → at a (x + y * wide) ≡ f x y
   pub beside : (x y : ℕ) → kept ≤ x → x < wide → y < some → at a (x + y * wide) ≡ at a₀ (x + y * wide)
   pub below : (k : ℕ) → some * wide ≤ k → at a k ≡ at a₀ k
+
+-- the weights of a stage: of `outputs` outputs, the kept ones among them, and of all n inputs
+pub record Outputs (kind n kept outputs : ℕ) (t : List ℤ) : Type 0 where
+  pub enough : kept ≤ outputs
+  pub few : outputs ≤ 32
+  pub laid : Laid outputs (n / 2) 2 (2 * outputs) (λ i j. weight kind n j i) t
+
+-- those of both stages, and room for the pairs of rows between them
+pub record Rooms (sh : Shape) (across : ℕ) (t : List ℤ) (tall : ℕ) (u : List ℤ) (room : ℕ) : Type 0 where
+  pub along : Outputs (sh .horizontal) (sh .width) (keptColumns sh) across t
+  pub down : Outputs (sh .vertical) (sh .height) (keptRows sh) tall u
+  pub between : sh .height * keptColumns sh ≤ room

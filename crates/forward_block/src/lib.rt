@@ -1,5 +1,7 @@
 // Internal: the work behind `transform::block::forward`, for calls that its tests have passed, so with a `requires`. Nothing but
-// `transform` depends on it. Read hunt, the hunt for refusal 9; specs/Stage and place, which puts coefficients in their places;
-// stages, both of them.
+// `transform` depends on it. Read hunt, the hunt for refusal 9; shift, how far each stage shifts; specs/Stage, what a stage is
+// given and what it leaves; place, numbers in 16 bits; stages, both of them.
 pub mod hunt;
 mod place;
+mod shift;
+pub mod stages;

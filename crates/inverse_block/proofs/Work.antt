@@ -26,15 +26,13 @@ use Rattle.product.specs.Product.{spot, Laid, lineSum, shifted, Lines}
 use Rattle.product.proofs.Laid.{laid-less, lines-given, lines-are}
 use Rattle.tables.specs.Stage.{Weights}
 use Rattle.layout.specs.Zip.{Rows}
+use Rattle.layout.proofs.Zipping.{size-even}
 use Rattle.inverse_block.specs.Part.{Given, Room}
 use Rattle.inverse_block.specs.Settled.{railsOf}
 use Rattle.inverse_block.proofs.Blocks.{block-map, block-count}
 use Rattle.inverse_block.proofs.Alive.{column-is, mid, middle-is, rail, row-is, rails-are}
 
--- a size is even, and known by the numbers that it lies between
-pub size-even : (n : ℕ) → isSize n ≡ true → (4 ≤ n) × (2 * (n / 2) ≡ n)
-size-even = size-cases (λ n. (4 ≤ n) × (2 * (n / 2) ≡ n)) (omega arith, refl) (omega arith, refl) (omega arith, refl) (omega arith, refl)
-
+-- a size is known by the numbers that it lies between
 pub four : (n : ℕ) → isSize n ≡ true → n ≤ 4 → 2 * 2 ≡ n
 four = size-cases (λ n. n ≤ 4 → 2 * 2 ≡ n) (λ h. refl) (λ h. absurd (omega arith)) (λ h. absurd (omega arith)) (λ h. absurd (omega arith))
 

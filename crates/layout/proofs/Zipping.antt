@@ -1,5 +1,6 @@
 -- Two numbers at a time, and rows of pairs that are laid as lines read them. Assumes nothing.
 use mathlib.Core.Path.{_≡_, refl, sym, ap, _∙_, subst}
+use mathlib.Core.Bool.{true}
 use mathlib.Core.List.{List, _++_}
 use Prim.Native.Nat.{ℕ, _+_, _*_, _/_, _%_, _≤_, _<_}
 use native.Mathlib.Nat.{add-mul}
@@ -8,8 +9,14 @@ use lib.ListN.{length, set, drop, length-set, length-append, List·getD-append}
 use lib.IntN.{ℤ, pos}
 use Rattle.algebra.specs.Lists.{at, block}
 use Rattle.algebra.proofs.Lists.{Filled, fill-first, Rows, block-at, block-length, place-in, rows-room}
+use Rattle.meaning.specs.Shape.{isSize}
+use Rattle.meaning.proofs.Cases.{size-cases}
 use Rattle.product.specs.Product.{spot, Laid}
 use Rattle.layout.specs.Zip.{zippedAt}
+
+-- a size is even
+pub size-even : (n : ℕ) → isSize n ≡ true → (4 ≤ n) × (2 * (n / 2) ≡ n)
+size-even = size-cases (λ n. (4 ≤ n) × (2 * (n / 2) ≡ n)) (omega arith, refl) (omega arith, refl) (omega arith, refl) (omega arith, refl)
 
 -- a pair more
 pub fill-pair : (x : ℕ) {z z₀ : List ℤ} {f : ℕ → ℤ} (a b : ℤ) → 2 * x + 1 < length z₀ → Filled 0 (2 * x) z z₀ f → a ≡ f (2 * x) → b ≡ f (2 * x + 1)

@@ -3,8 +3,6 @@
 ghost use mathlib.Core.Path.{_≡_};
 ghost use Prim.Native.Nat.{ℕ, _+_, _*_, _/_, _%_, _≤_, _<_};
 ghost use lib.ListN.{length};
-ghost use mir.Syntax.{w16};
-ghost use mir.Val.{SFits};
 ghost use Rattle.algebra.specs.Lists.{at, tabulate};
 ghost use Rattle.product.specs.Product.{Laid};
 ghost use Rattle.layout.specs.Zip.{Rows, zippedAt};
@@ -33,33 +31,6 @@ pub fn zip(c: &[i16], w: usize, pairs: usize, n: usize, z: &mut [i16])
         let o = k * m;
         let e = o + m;
         zip_row(c, 2 * k * w, w, n, &mut z[o..e]);
-        k += 1;
-    }
-}
-
-// The same of 32-bit numbers that are known to fit 16 bits.
-fn zip_short_row(c: &[i32], a: usize, w: usize, n: usize, z: &mut [i16])
-    requires { ⌜ ((n ≤ w) × ((a + w + n ≤ length (now c)) × (length (now z) ≡ 2 * n))) × ((x : ℕ) → x < w + n → SFits w16 (at (now c) (a + x))) ⌝ }
-    ensures { λ _. ⌜ now (z .exit) ≡ tabulate (2 * n) (zippedAt (now (c .entry)) a w) ⌝ }
-{
-    let mut x = 0;
-    while x < n {
-        z[2 * x] = c[a + x] as i16;
-        z[2 * x + 1] = c[a + w + x] as i16;
-        x += 1;
-    }
-}
-
-pub fn zip_short(c: &[i32], w: usize, pairs: usize, n: usize, z: &mut [i16])
-    requires { ⌜ Rows pairs n w (now c) (now z) × ((k : ℕ) → k < 2 * pairs * w → SFits w16 (at (now c) k)) ⌝ }
-    ensures { λ _. ⌜ Laid n pairs 2 (2 * n) (λ i x. at (now (c .entry)) (x + i * w)) (now (z .exit)) ⌝ }
-{
-    let m = 2 * n;
-    let mut k = 0;
-    while k < pairs {
-        let o = k * m;
-        let e = o + m;
-        zip_short_row(c, 2 * k * w, w, n, &mut z[o..e]);
         k += 1;
     }
 }

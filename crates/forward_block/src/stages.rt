@@ -1,0 +1,233 @@
+// Both stages of a forward block. Along a row the inputs of a line are its residuals; down the columns they are weights, and the
+// weights are the rows between the stages, zipped: output y of every column is one line. What stands between the stages is
+// written where the coefficients will stand.
+use crate::place::clear_beyond;
+use crate::place::narrow;
+use crate::shift::column_shift;
+use crate::shift::row_shift;
+use layout::zip::zip;
+use meaning::Shape;
+use meaning::kept_columns;
+use meaning::kept_rows;
+use product::half;
+use product::lines;
+use tables::stage::weights_128;
+use tables::stage::weights_512;
+use tables::stage::weights_1024;
+ghost use mathlib.Core.Path.{_≡_};
+ghost use mathlib.Core.Bool.{true};
+ghost use Prim.Native.Nat.{_*_, _/_, _≤_, min};
+ghost use lib.ListN.{length};
+ghost use Rattle.meaning.specs.Shape.{isSize, keptColumns, keptRows};
+ghost use Rattle.meaning.specs.Forward.{forwardBlock};
+ghost use Rattle.forward_block.specs.Stage.{Residuals, lineValue, Put, Stage, Rooms};
+
+// Lines in 16 bits, each in the first places of its row. The sums of one line stand in a list of this function's own: of one that
+// was lent the compiler would not know that it is apart from inputs and weights, and lose the pairs (docs/DECISIONS.md).
+fn put_lines(
+    pairs: usize,
+    a: &[i16],
+    step: usize,
+    gap: usize,
+    b: &[i16],
+    apart: usize,
+    kept: usize,
+    some: usize,
+    wide: usize,
+    shift: u32,
+    out: &mut [i16],
+)
+    requires { ⌜ Put pairs (now a) step gap (now b) apart kept some wide shift (length (now out)) ⌝ }
+    ensures { λ _. ⌜ Stage kept wide some (lineValue pairs (now (a .entry)) step gap (now (b .entry)) apart shift) (now (out .exit)) (now (out .entry)) ⌝ }
+{
+    let half = half(shift);
+    let end = a.len();
+    let mut e = [0i32; 32];
+    let mut y = 0;
+    while y < some {
+        let o = step * y;
+        let q = y * wide;
+        let f = q + kept;
+        lines(
+            pairs,
+            apart,
+            &a[o..end],
+            step,
+            gap,
+            b,
+            kept,
+            1,
+            half,
+            shift,
+            &mut e,
+        );
+        narrow(&e, &mut out[q..f]);
+        y += 1;
+    }
+}
+
+// Lines of n inputs. The number of pairs is a literal at each call: what it is used for is unrolled.
+fn stage(
+    n: usize,
+    a: &[i16],
+    step: usize,
+    gap: usize,
+    b: &[i16],
+    apart: usize,
+    kept: usize,
+    some: usize,
+    wide: usize,
+    shift: u32,
+    out: &mut [i16],
+)
+    requires { ⌜ (isSize n ≡ true) × Put (n / 2) (now a) step gap (now b) apart kept some wide shift (length (now out)) ⌝ }
+    ensures { λ _. ⌜ Stage kept wide some (lineValue (n / 2) (now (a .entry)) step gap (now (b .entry)) apart shift) (now (out .exit)) (now (out .entry)) ⌝ }
+{
+    if n == 4 {
+        put_lines(2, a, step, gap, b, apart, kept, some, wide, shift, out);
+    } else if n == 8 {
+        put_lines(4, a, step, gap, b, apart, kept, some, wide, shift, out);
+    } else if n == 16 {
+        put_lines(8, a, step, gap, b, apart, kept, some, wide, shift, out);
+    } else {
+        put_lines(16, a, step, gap, b, apart, kept, some, wide, shift, out);
+    }
+}
+
+// "Rows first", the kept columns of them; "then columns", the kept rows of them. In lent rooms, whatever their lengths are: `along`
+// has the weights of `across` outputs, `down` those of `tall`.
+fn worked(
+    shape: Shape,
+    residuals: &[i16],
+    along: &[i16],
+    across: usize,
+    down: &[i16],
+    tall: usize,
+    z: &mut [i16],
+    coefficients: &mut [i16],
+)
+    requires { ⌜ Residuals shape (now residuals) × (Rooms shape across (now along) tall (now down) (length (now z)) × (length (now coefficients) ≡ shape .width * shape .height)) ⌝ }
+    ensures { λ _. ⌜ now (coefficients .exit) ≡ forwardBlock shape (now (residuals .entry)) ⌝ }
+{
+    let w = shape.width as usize;
+    let h = shape.height as usize;
+    let columns = kept_columns(shape);
+    let rows = kept_rows(shape);
+    let p = row_shift(shape);
+    let q = column_shift(shape);
+    stage(
+        w,
+        residuals,
+        w,
+        2,
+        along,
+        2 * across,
+        columns,
+        h,
+        columns,
+        p,
+        coefficients,
+    );
+    zip(coefficients, columns, h / 2, columns, z);
+    clear_beyond(rows * columns, coefficients);
+    stage(
+        h,
+        down,
+        2,
+        2 * tall,
+        z,
+        2 * columns,
+        columns,
+        rows,
+        w,
+        q,
+        coefficients,
+    );
+}
+
+// Blocks of up to 8 by 8: rooms have to be zeroed, and those of `large` would take as long as a small block does.
+fn small(shape: Shape, residuals: &[i16], coefficients: &mut [i16])
+    requires { ⌜ Residuals shape (now residuals) × ((length (now coefficients) ≡ shape .width * shape .height) × ((shape .width ≤ 8) × (shape .height ≤ 8))) ⌝ }
+    ensures { λ _. ⌜ now (coefficients .exit) ≡ forwardBlock shape (now (residuals .entry)) ⌝ }
+{
+    let w = shape.width as usize;
+    let h = shape.height as usize;
+    let along = weights_128(shape.horizontal, true, w);
+    let down = weights_128(shape.vertical, true, h);
+    let mut z = [0i16; 64];
+    worked(shape, residuals, &along, w, &down, h, &mut z, coefficients);
+}
+
+fn least(a: usize, b: usize) -> usize
+    ensures { λ r. ⌜ r ≡ min a b ⌝ }
+{
+    if a < b { a } else { b }
+}
+
+// Where no more than 16 columns and rows are kept.
+fn large(shape: Shape, residuals: &[i16], coefficients: &mut [i16])
+    requires { ⌜ Residuals shape (now residuals) × ((length (now coefficients) ≡ shape .width * shape .height) × ((keptColumns shape ≤ 16) × (keptRows shape ≤ 16))) ⌝ }
+    ensures { λ _. ⌜ now (coefficients .exit) ≡ forwardBlock shape (now (residuals .entry)) ⌝ }
+{
+    let w = shape.width as usize;
+    let h = shape.height as usize;
+    let along = weights_512(shape.horizontal, true, w);
+    let down = weights_512(shape.vertical, true, h);
+    let across = least(w, 16);
+    let tall = least(h, 16);
+    let mut z = [0i16; 512];
+    worked(
+        shape,
+        residuals,
+        &along,
+        across,
+        &down,
+        tall,
+        &mut z,
+        coefficients,
+    );
+}
+
+fn largest(shape: Shape, residuals: &[i16], coefficients: &mut [i16])
+    requires { ⌜ Residuals shape (now residuals) × (length (now coefficients) ≡ shape .width * shape .height) ⌝ }
+    ensures { λ _. ⌜ now (coefficients .exit) ≡ forwardBlock shape (now (residuals .entry)) ⌝ }
+{
+    let w = shape.width as usize;
+    let h = shape.height as usize;
+    let along = weights_1024(shape.horizontal, true, w);
+    let down = weights_1024(shape.vertical, true, h);
+    let mut z = [0i16; 1024];
+    worked(shape, residuals, &along, w, &down, h, &mut z, coefficients);
+}
+
+// A block of up to 8 by 8, then one of which no more than 16 columns and rows are kept, then all others.
+fn is_small(shape: Shape) -> bool
+    ensures { λ r. ⌜ (r ≡ true → (shape .width ≤ 8) × (shape .height ≤ 8)) ⌝ }
+{
+    if 8 < shape.width {
+        return false;
+    }
+    shape.height <= 8
+}
+
+fn is_large(shape: Shape) -> bool
+    ensures { λ r. ⌜ (r ≡ true → (keptColumns shape ≤ 16) × (keptRows shape ≤ 16)) ⌝ }
+{
+    if 16 < kept_columns(shape) {
+        return false;
+    }
+    kept_rows(shape) <= 16
+}
+
+pub fn stages(shape: Shape, residuals: &[i16], coefficients: &mut [i16])
+    requires { ⌜ Residuals shape (now residuals) × (length (now coefficients) ≡ shape .width * shape .height) ⌝ }
+    ensures { λ _. ⌜ now (coefficients .exit) ≡ forwardBlock shape (now (residuals .entry)) ⌝ }
+{
+    if is_small(shape) {
+        small(shape, residuals, coefficients);
+    } else if is_large(shape) {
+        large(shape, residuals, coefficients);
+    } else {
+        largest(shape, residuals, coefficients);
+    }
+}
