@@ -36,7 +36,7 @@ returns c =
     ∙ sym (refused-first [] (given-back s) (done s) (tests s) tt (λ e. c .before .if1 .taken (c .before .before .line-refusal .ensures ∙ e)))
 
 full-requires : tie.Need-full-requires
-full-requires c κs = line-taken _ _ _ _ (c .before .before .before .pre)
+full-requires c κs = line-taken _ _ _ _ (sym (c .before .before .line-refusal .ensures) ∙ c .before .if1 .left)
 
 acceptance-requires : tie.Need-acceptance-requires
 acceptance-requires c κs = search needs
