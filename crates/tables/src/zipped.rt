@@ -67,7 +67,7 @@ const COSINE_4: [i16; 16] = [
 
 // DCT-II, inverse.
 const INVERSE_0_4: [i16; 16] = [
-    64, // inputs 0 and 1 of 4
+    64, // inputs 0 and 1 of 4, DCT-II inverse
     83,
     64,
     36,
@@ -75,7 +75,7 @@ const INVERSE_0_4: [i16; 16] = [
     -36,
     64,
     -83,
-    64, // inputs 2 and 3 of 4
+    64, // inputs 2 and 3 of 4, DCT-II inverse
     36,
     -64,
     -83,
@@ -87,7 +87,7 @@ const INVERSE_0_4: [i16; 16] = [
 
 // DCT-II, forward.
 const FORWARD_0_4: [i16; 16] = [
-    64, // inputs 0 and 1 of 4
+    64, // inputs 0 and 1 of 4, DCT-II forward
     64,
     83,
     36,
@@ -95,7 +95,7 @@ const FORWARD_0_4: [i16; 16] = [
     -64,
     36,
     -83,
-    64, // inputs 2 and 3 of 4
+    64, // inputs 2 and 3 of 4, DCT-II forward
     64,
     -36,
     -83,
@@ -311,7 +311,7 @@ const COSINE_8: [i16; 64] = [
 
 // DCT-II, inverse.
 const INVERSE_0_8: [i16; 64] = [
-    64, // inputs 0 and 1 of 8
+    64, // inputs 0 and 1 of 8, DCT-II inverse
     89,
     64,
     75,
@@ -327,7 +327,7 @@ const INVERSE_0_8: [i16; 64] = [
     -75,
     64,
     -89,
-    83, // inputs 2 and 3 of 8
+    83, // inputs 2 and 3 of 8, DCT-II inverse
     75,
     36,
     -18,
@@ -343,7 +343,7 @@ const INVERSE_0_8: [i16; 64] = [
     18,
     83,
     -75,
-    64, // inputs 4 and 5 of 8
+    64, // inputs 4 and 5 of 8, DCT-II inverse
     50,
     -64,
     -89,
@@ -359,7 +359,7 @@ const INVERSE_0_8: [i16; 64] = [
     89,
     64,
     -50,
-    36, // inputs 6 and 7 of 8
+    36, // inputs 6 and 7 of 8, DCT-II inverse
     18,
     -83,
     -50,
@@ -379,7 +379,7 @@ const INVERSE_0_8: [i16; 64] = [
 
 // DCT-II, forward.
 const FORWARD_0_8: [i16; 64] = [
-    64, // inputs 0 and 1 of 8
+    64, // inputs 0 and 1 of 8, DCT-II forward
     64,
     89,
     75,
@@ -395,7 +395,7 @@ const FORWARD_0_8: [i16; 64] = [
     -83,
     18,
     -50,
-    64, // inputs 2 and 3 of 8
+    64, // inputs 2 and 3 of 8, DCT-II forward
     64,
     50,
     18,
@@ -411,7 +411,7 @@ const FORWARD_0_8: [i16; 64] = [
     -36,
     75,
     -89,
-    64, // inputs 4 and 5 of 8
+    64, // inputs 4 and 5 of 8, DCT-II forward
     64,
     -18,
     -50,
@@ -427,7 +427,7 @@ const FORWARD_0_8: [i16; 64] = [
     83,
     89,
     -75,
-    64, // inputs 6 and 7 of 8
+    64, // inputs 6 and 7 of 8, DCT-II forward
     64,
     -75,
     -89,
@@ -1227,7 +1227,7 @@ const COSINE_16: [i16; 256] = [
 
 // DCT-II, inverse.
 const INVERSE_0_16: [i16; 256] = [
-    64, // inputs 0 and 1 of 16
+    64, // inputs 0 and 1 of 16, DCT-II inverse
     90,
     64,
     87,
@@ -1259,7 +1259,7 @@ const INVERSE_0_16: [i16; 256] = [
     -87,
     64,
     -90,
-    89, // inputs 2 and 3 of 16
+    89, // inputs 2 and 3 of 16, DCT-II inverse
     87,
     75,
     57,
@@ -1291,7 +1291,7 @@ const INVERSE_0_16: [i16; 256] = [
     -57,
     89,
     -87,
-    83, // inputs 4 and 5 of 16
+    83, // inputs 4 and 5 of 16, DCT-II inverse
     80,
     36,
     9,
@@ -1323,7 +1323,7 @@ const INVERSE_0_16: [i16; 256] = [
     -9,
     83,
     -80,
-    75, // inputs 6 and 7 of 16
+    75, // inputs 6 and 7 of 16, DCT-II inverse
     70,
     -18,
     -43,
@@ -1355,7 +1355,7 @@ const INVERSE_0_16: [i16; 256] = [
     43,
     75,
     -70,
-    64, // inputs 8 and 9 of 16
+    64, // inputs 8 and 9 of 16, DCT-II inverse
     57,
     -64,
     -80,
@@ -1387,7 +1387,7 @@ const INVERSE_0_16: [i16; 256] = [
     80,
     64,
     -57,
-    50, // inputs 10 and 11 of 16
+    50, // inputs 10 and 11 of 16, DCT-II inverse
     43,
     -89,
     -90,
@@ -1419,7 +1419,7 @@ const INVERSE_0_16: [i16; 256] = [
     90,
     50,
     -43,
-    36, // inputs 12 and 13 of 16
+    36, // inputs 12 and 13 of 16, DCT-II inverse
     25,
     -83,
     -70,
@@ -1451,7 +1451,7 @@ const INVERSE_0_16: [i16; 256] = [
     70,
     36,
     -25,
-    18, // inputs 14 and 15 of 16
+    18, // inputs 14 and 15 of 16, DCT-II inverse
     9,
     -50,
     -25,
@@ -1487,7 +1487,7 @@ const INVERSE_0_16: [i16; 256] = [
 
 // DCT-II, forward.
 const FORWARD_0_16: [i16; 256] = [
-    64, // inputs 0 and 1 of 16
+    64, // inputs 0 and 1 of 16, DCT-II forward
     64,
     90,
     87,
@@ -1519,7 +1519,7 @@ const FORWARD_0_16: [i16; 256] = [
     -50,
     9,
     -25,
-    64, // inputs 2 and 3 of 16
+    64, // inputs 2 and 3 of 16, DCT-II forward
     64,
     80,
     70,
@@ -1551,7 +1551,7 @@ const FORWARD_0_16: [i16; 256] = [
     -89,
     43,
     -57,
-    64, // inputs 4 and 5 of 16
+    64, // inputs 4 and 5 of 16, DCT-II forward
     64,
     57,
     43,
@@ -1583,7 +1583,7 @@ const FORWARD_0_16: [i16; 256] = [
     -75,
     70,
     -80,
-    64, // inputs 6 and 7 of 16
+    64, // inputs 6 and 7 of 16, DCT-II forward
     64,
     25,
     9,
@@ -1615,7 +1615,7 @@ const FORWARD_0_16: [i16; 256] = [
     -18,
     87,
     -90,
-    64, // inputs 8 and 9 of 16
+    64, // inputs 8 and 9 of 16, DCT-II forward
     64,
     -9,
     -25,
@@ -1647,7 +1647,7 @@ const FORWARD_0_16: [i16; 256] = [
     50,
     90,
     -87,
-    64, // inputs 10 and 11 of 16
+    64, // inputs 10 and 11 of 16, DCT-II forward
     64,
     -43,
     -57,
@@ -1679,7 +1679,7 @@ const FORWARD_0_16: [i16; 256] = [
     89,
     80,
     -70,
-    64, // inputs 12 and 13 of 16
+    64, // inputs 12 and 13 of 16, DCT-II forward
     64,
     -70,
     -80,
@@ -1711,7 +1711,7 @@ const FORWARD_0_16: [i16; 256] = [
     75,
     57,
     -43,
-    64, // inputs 14 and 15 of 16
+    64, // inputs 14 and 15 of 16, DCT-II forward
     64,
     -87,
     -90,
@@ -4831,7 +4831,7 @@ const COSINE_32: [i16; 1024] = [
 
 // DCT-II, inverse.
 const INVERSE_0_32: [i16; 1024] = [
-    64, // inputs 0 and 1 of 32
+    64, // inputs 0 and 1 of 32, DCT-II inverse
     90,
     64,
     90,
@@ -4895,7 +4895,7 @@ const INVERSE_0_32: [i16; 1024] = [
     -90,
     64,
     -90,
-    90, // inputs 2 and 3 of 32
+    90, // inputs 2 and 3 of 32, DCT-II inverse
     90,
     87,
     82,
@@ -4959,7 +4959,7 @@ const INVERSE_0_32: [i16; 1024] = [
     -82,
     90,
     -90,
-    89, // inputs 4 and 5 of 32
+    89, // inputs 4 and 5 of 32, DCT-II inverse
     88,
     75,
     67,
@@ -5023,7 +5023,7 @@ const INVERSE_0_32: [i16; 1024] = [
     -67,
     89,
     -88,
-    87, // inputs 6 and 7 of 32
+    87, // inputs 6 and 7 of 32, DCT-II inverse
     85,
     57,
     46,
@@ -5087,7 +5087,7 @@ const INVERSE_0_32: [i16; 1024] = [
     -46,
     87,
     -85,
-    83, // inputs 8 and 9 of 32
+    83, // inputs 8 and 9 of 32, DCT-II inverse
     82,
     36,
     22,
@@ -5151,7 +5151,7 @@ const INVERSE_0_32: [i16; 1024] = [
     -22,
     83,
     -82,
-    80, // inputs 10 and 11 of 32
+    80, // inputs 10 and 11 of 32, DCT-II inverse
     78,
     9,
     -4,
@@ -5215,7 +5215,7 @@ const INVERSE_0_32: [i16; 1024] = [
     4,
     80,
     -78,
-    75, // inputs 12 and 13 of 32
+    75, // inputs 12 and 13 of 32, DCT-II inverse
     73,
     -18,
     -31,
@@ -5279,7 +5279,7 @@ const INVERSE_0_32: [i16; 1024] = [
     31,
     75,
     -73,
-    70, // inputs 14 and 15 of 32
+    70, // inputs 14 and 15 of 32, DCT-II inverse
     67,
     -43,
     -54,
@@ -5343,7 +5343,7 @@ const INVERSE_0_32: [i16; 1024] = [
     54,
     70,
     -67,
-    64, // inputs 16 and 17 of 32
+    64, // inputs 16 and 17 of 32, DCT-II inverse
     61,
     -64,
     -73,
@@ -5407,7 +5407,7 @@ const INVERSE_0_32: [i16; 1024] = [
     73,
     64,
     -61,
-    57, // inputs 18 and 19 of 32
+    57, // inputs 18 and 19 of 32, DCT-II inverse
     54,
     -80,
     -85,
@@ -5471,7 +5471,7 @@ const INVERSE_0_32: [i16; 1024] = [
     85,
     57,
     -54,
-    50, // inputs 20 and 21 of 32
+    50, // inputs 20 and 21 of 32, DCT-II inverse
     46,
     -89,
     -90,
@@ -5535,7 +5535,7 @@ const INVERSE_0_32: [i16; 1024] = [
     90,
     50,
     -46,
-    43, // inputs 22 and 23 of 32
+    43, // inputs 22 and 23 of 32, DCT-II inverse
     38,
     -90,
     -88,
@@ -5599,7 +5599,7 @@ const INVERSE_0_32: [i16; 1024] = [
     88,
     43,
     -38,
-    36, // inputs 24 and 25 of 32
+    36, // inputs 24 and 25 of 32, DCT-II inverse
     31,
     -83,
     -78,
@@ -5663,7 +5663,7 @@ const INVERSE_0_32: [i16; 1024] = [
     78,
     36,
     -31,
-    25, // inputs 26 and 27 of 32
+    25, // inputs 26 and 27 of 32, DCT-II inverse
     22,
     -70,
     -61,
@@ -5727,7 +5727,7 @@ const INVERSE_0_32: [i16; 1024] = [
     61,
     25,
     -22,
-    18, // inputs 28 and 29 of 32
+    18, // inputs 28 and 29 of 32, DCT-II inverse
     13,
     -50,
     -38,
@@ -5791,7 +5791,7 @@ const INVERSE_0_32: [i16; 1024] = [
     38,
     18,
     -13,
-    9, // inputs 30 and 31 of 32
+    9, // inputs 30 and 31 of 32, DCT-II inverse
     4,
     -25,
     -13,
@@ -5859,7 +5859,7 @@ const INVERSE_0_32: [i16; 1024] = [
 
 // DCT-II, forward.
 const FORWARD_0_32: [i16; 1024] = [
-    64, // inputs 0 and 1 of 32
+    64, // inputs 0 and 1 of 32, DCT-II forward
     64,
     90,
     90,
@@ -5923,7 +5923,7 @@ const FORWARD_0_32: [i16; 1024] = [
     -25,
     4,
     -13,
-    64, // inputs 2 and 3 of 32
+    64, // inputs 2 and 3 of 32, DCT-II forward
     64,
     88,
     85,
@@ -5987,7 +5987,7 @@ const FORWARD_0_32: [i16; 1024] = [
     -57,
     22,
     -31,
-    64, // inputs 4 and 5 of 32
+    64, // inputs 4 and 5 of 32, DCT-II forward
     64,
     82,
     78,
@@ -6051,7 +6051,7 @@ const FORWARD_0_32: [i16; 1024] = [
     -80,
     38,
     -46,
-    64, // inputs 6 and 7 of 32
+    64, // inputs 6 and 7 of 32, DCT-II forward
     64,
     73,
     67,
@@ -6115,7 +6115,7 @@ const FORWARD_0_32: [i16; 1024] = [
     -90,
     54,
     -61,
-    64, // inputs 8 and 9 of 32
+    64, // inputs 8 and 9 of 32, DCT-II forward
     64,
     61,
     54,
@@ -6179,7 +6179,7 @@ const FORWARD_0_32: [i16; 1024] = [
     -87,
     67,
     -73,
-    64, // inputs 10 and 11 of 32
+    64, // inputs 10 and 11 of 32, DCT-II forward
     64,
     46,
     38,
@@ -6243,7 +6243,7 @@ const FORWARD_0_32: [i16; 1024] = [
     -70,
     78,
     -82,
-    64, // inputs 12 and 13 of 32
+    64, // inputs 12 and 13 of 32, DCT-II forward
     64,
     31,
     22,
@@ -6307,7 +6307,7 @@ const FORWARD_0_32: [i16; 1024] = [
     -43,
     85,
     -88,
-    64, // inputs 14 and 15 of 32
+    64, // inputs 14 and 15 of 32, DCT-II forward
     64,
     13,
     4,
@@ -6371,7 +6371,7 @@ const FORWARD_0_32: [i16; 1024] = [
     -9,
     90,
     -90,
-    64, // inputs 16 and 17 of 32
+    64, // inputs 16 and 17 of 32, DCT-II forward
     64,
     -4,
     -13,
@@ -6435,7 +6435,7 @@ const FORWARD_0_32: [i16; 1024] = [
     25,
     90,
     -90,
-    64, // inputs 18 and 19 of 32
+    64, // inputs 18 and 19 of 32, DCT-II forward
     64,
     -22,
     -31,
@@ -6499,7 +6499,7 @@ const FORWARD_0_32: [i16; 1024] = [
     57,
     88,
     -85,
-    64, // inputs 20 and 21 of 32
+    64, // inputs 20 and 21 of 32, DCT-II forward
     64,
     -38,
     -46,
@@ -6563,7 +6563,7 @@ const FORWARD_0_32: [i16; 1024] = [
     80,
     82,
     -78,
-    64, // inputs 22 and 23 of 32
+    64, // inputs 22 and 23 of 32, DCT-II forward
     64,
     -54,
     -61,
@@ -6627,7 +6627,7 @@ const FORWARD_0_32: [i16; 1024] = [
     90,
     73,
     -67,
-    64, // inputs 24 and 25 of 32
+    64, // inputs 24 and 25 of 32, DCT-II forward
     64,
     -67,
     -73,
@@ -6691,7 +6691,7 @@ const FORWARD_0_32: [i16; 1024] = [
     87,
     61,
     -54,
-    64, // inputs 26 and 27 of 32
+    64, // inputs 26 and 27 of 32, DCT-II forward
     64,
     -78,
     -82,
@@ -6755,7 +6755,7 @@ const FORWARD_0_32: [i16; 1024] = [
     70,
     46,
     -38,
-    64, // inputs 28 and 29 of 32
+    64, // inputs 28 and 29 of 32, DCT-II forward
     64,
     -85,
     -88,
@@ -6819,7 +6819,7 @@ const FORWARD_0_32: [i16; 1024] = [
     43,
     31,
     -22,
-    64, // inputs 30 and 31 of 32
+    64, // inputs 30 and 31 of 32, DCT-II forward
     64,
     -90,
     -90,

@@ -21,9 +21,9 @@ use lib.IntN.{ℤ, pos, negsuc}
 use Rattle.algebra.specs.Sum.{sum, sumℕ}
 use Rattle.algebra.specs.Lists.{tabulate, block}
 use Rattle.algebra.specs.First.{firstAt}
-use Rattle.meaning.specs.Weights.{first, fold, S, C, weight}
+use Rattle.meaning.specs.Weights.{first, fold, S, C, cosines, turn, dct2, weight}
 use Rattle.meaning.specs.Line.{forwardSum, inverseSum, forwardLine, inverseLine}
-use Rattle.meaning.specs.Shape.{isSize, isKind, isDepth, keptColumns, keptRows}
+use Rattle.meaning.specs.Shape.{isSize, isKind, isDepth, kept, keptColumns, keptRows}
 use Rattle.meaning.specs.Plan.{shortRange}
 use Rattle.meaning.specs.Answer.{forwardLineOutcome, inverseLineOutcome}
 use Rattle.meaning.specs.Inverse.{columnSum, middle, middleAt, rails, rowSum, residual, inverseBlock, inverseOutcome}
@@ -31,11 +31,12 @@ use Rattle.meaning.specs.Forward.{rowValue, columnValue, coefficient, forwardBl
 ";
 
 /// The definitions that the checker opens only where a proof names them.
-const WEIGHTS: &str = "first fold S C weight tabulate block";
+const WEIGHTS: &str = "first fold S C cosines turn dct2 weight tabulate block";
 const MIDDLE: &str = "shortRange";
-const LINE: &str = "first fold S C weight sum tabulate isSize isKind \
+const LINE: &str = "first fold S C cosines turn dct2 weight sum tabulate isSize isKind \
     forwardSum inverseSum forwardLine inverseLine";
-const BLOCK: &str = "first fold S C weight sum sumℕ tabulate block firstAt isSize isKind isDepth keptColumns keptRows \
+const BLOCK: &str = "first fold S C cosines turn dct2 weight sum sumℕ tabulate block firstAt \
+    isSize isKind isDepth kept keptColumns keptRows \
     shortRange forwardSum inverseSum columnSum middleAt rails rowSum residual inverseBlock \
     rowValue columnValue coefficient forwardBlock";
 
