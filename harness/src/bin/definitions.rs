@@ -258,15 +258,16 @@ fn refused_line(t: &mut Theorems, direction: Direction, number: usize) {
 fn refused_block(t: &mut Theorems, direction: Direction, number: usize) {
     let random = &mut t.random;
     let wrong = Wrong::first(random, number);
-    // 8 needs a side with places outside the kept part
+    // 8 needs a side with places outside the kept part, so one of 32 that is not of kind 0
     let width = wrong.pick(random, 1, &[if number == 8 { 32 } else { 8 }, 4], &NO_SIZE);
     let tall = number == 8 && width < 32;
     let height = wrong.pick(random, 2, &[if tall { 32 } else { 4 }], &NO_SIZE);
+    let kinds = if number == 8 { &KINDS[1..] } else { &KINDS };
     let shape = Shape::new(
         width,
         height,
-        wrong.pick(random, 3, &KINDS, &NO_KIND),
-        wrong.pick(random, 4, &KINDS, &NO_KIND),
+        wrong.pick(random, 3, kinds, &NO_KIND),
+        wrong.pick(random, 4, kinds, &NO_KIND),
         wrong.pick(random, 5, &[8, 9, 10, 11, 12], &NO_DEPTH),
     );
     let area = if width.max(height) <= 64 {
@@ -409,8 +410,10 @@ fn refused_blocks(t: &mut Theorems, direction: Direction) {
             refused_block(t, direction, number);
         }
     }
-    for (k, (width, height)) in [(32, 4), (4, 32), (32, 8)].into_iter().enumerate() {
-        lone_bad_number(t, direction, &shape_in_turn(k, width, height));
+    // with places outside the kept part: a side of 32 that is not of kind 0
+    for (width, height, horizontal, vertical) in [(32, 4, 1, 0), (4, 32, 0, 2), (32, 8, 2, 1)] {
+        let shape = Shape::new(width, height, horizontal, vertical, 8 + vertical);
+        lone_bad_number(t, direction, &shape);
     }
 }
 
