@@ -4,7 +4,7 @@
 
 #include "hoengtila.h"
 
-enum { DST_VII = 1, DCT_VIII = 2 };
+enum { DCT_II = 0, DST_VII = 1, DCT_VIII = 2 };
 enum { LONGEST = 32, KEPT = 16, LARGEST = LONGEST * LONGEST };
 
 /* An inverse block takes coefficients and gives residuals, a forward block the reverse, as the library's calls do. The
@@ -12,16 +12,20 @@ enum { LONGEST = 32, KEPT = 16, LARGEST = LONGEST * LONGEST };
 typedef void inverse_block(hoengtila_shape shape, const int16_t *coefficients, int32_t *residuals);
 typedef void forward_block(hoengtila_shape shape, const int16_t *residuals, int16_t *coefficients);
 
-inverse_block reference_inverse, triple_inverse, rows_inverse, folded_inverse, butterfly_inverse;
-forward_block reference_forward, triple_forward, rows_forward, folded_forward, butterfly_forward;
+inverse_block reference_inverse, triple_inverse, rows_inverse, folded_inverse, butterfly_inverse, halves_inverse;
+forward_block reference_forward, triple_forward, rows_forward, folded_forward, butterfly_forward, halves_forward;
 
 /* Each baseline makes its tables of the weights once. */
-void reference_prepare(void), triple_prepare(void), rows_prepare(void), folded_prepare(void);
+void reference_prepare(void), triple_prepare(void), rows_prepare(void), folded_prepare(void), halves_prepare(void);
 
 int weight(int kind, int n, int i, int j);
 int log2_of(int n);
 
+/* of kinds 1 and 2; of any kind; of a shape's columns and rows */
 static inline int kept(int n) { return n < KEPT ? n : KEPT; }
+static inline int kept_of(uint32_t kind, uint32_t n) { return kind == DCT_II ? (int)n : kept((int)n); }
+static inline int columns_of(hoengtila_shape s) { return kept_of(s.horizontal, s.width); }
+static inline int rows_of(hoengtila_shape s) { return kept_of(s.vertical, s.height); }
 
 /* "The middle value is (e+64)>>7, clipped to -32768..32767"; the other three roundings take a shift */
 static inline int16_t middle_of(int32_t e) {

@@ -14,9 +14,9 @@ static int32_t sums[LARGEST];
 
 typedef hoengtila_answer line_call(uint32_t n, uint32_t kind, const int16_t *x, size_t x_len, int32_t *y, size_t y_len);
 
-static const char *const block_names[] = {"library", "reference", "triple", "rows", "folded", "butterfly"};
-static inverse_block *const inverses[] = {0, reference_inverse, triple_inverse, rows_inverse, folded_inverse, butterfly_inverse};
-static forward_block *const forwards[] = {0, reference_forward, triple_forward, rows_forward, folded_forward, butterfly_forward};
+static const char *const block_names[] = {"library", "reference", "triple", "rows", "folded", "butterfly", "halves"};
+static inverse_block *const inverses[] = {0, reference_inverse, triple_inverse, rows_inverse, folded_inverse, butterfly_inverse, halves_inverse};
+static forward_block *const forwards[] = {0, reference_forward, triple_forward, rows_forward, folded_forward, butterfly_forward, halves_forward};
 static const char *const line_names[] = {"fast", "product"};
 static line_call *const inverse_lines[] = {hoengtila_line_inverse, hoengtila_line_inverse_product};
 static line_call *const forward_lines[] = {hoengtila_line_forward, hoengtila_line_forward_product};
@@ -26,6 +26,7 @@ void prepare(void) {
     triple_prepare();
     rows_prepare();
     folded_prepare();
+    halves_prepare();
 }
 
 const char *implementation_name(int i) { return block_names[i]; }
@@ -39,11 +40,15 @@ static hoengtila_shape shape_of(uint32_t width, uint32_t height, uint32_t kind) 
 static int make_blocks(bench_case *cases, int forward) {
     static const uint32_t sizes[][2] = {{4, 4}, {8, 8}, {16, 16}, {32, 32}, {32, 8}};
     static const char *const fills[] = {"dense", "corner", "one"};
+    static const char *const dct2_fills[] = {"dct2-dense", "dct2-corner", "dct2-one"};
     int count = 0;
     for (int s = 0; s < 5; s++)
         for (int f = 0; f < 3; f++)
             cases[count++] = (bench_case){0, forward, shape_of(sizes[s][0], sizes[s][1], DST_VII), fills[f]};
     cases[count++] = (bench_case){0, forward, shape_of(16, 16, DCT_VIII), "dct8"};
+    for (int s = 0; s < 5; s++)
+        for (int f = 0; f < 3; f++)
+            cases[count++] = (bench_case){0, forward, shape_of(sizes[s][0], sizes[s][1], DCT_II), dct2_fills[f]};
     return count;
 }
 
@@ -51,6 +56,8 @@ static int make_lines(bench_case *cases, int forward) {
     int count = 0;
     for (uint32_t n = 4; n <= LONGEST; n *= 2)
         cases[count++] = (bench_case){1, forward, shape_of(n, 1, DST_VII), "dense"};
+    for (uint32_t n = 4; n <= LONGEST; n *= 2)
+        cases[count++] = (bench_case){1, forward, shape_of(n, 1, DCT_II), "dct2-dense"};
     return count;
 }
 
@@ -63,6 +70,12 @@ int make_cases(bench_case *cases) {
 
 int implementations_of(const bench_case *c) { return c->line ? 2 : IMPLEMENTATIONS; }
 
+/* The library and the reference have all kinds, the halves kind 0 alone, and the others kinds 1 and 2. */
+int has_kinds(int i, hoengtila_shape s) {
+    if (i < 2) return 1;
+    return i == IMPLEMENTATIONS - 1 ? s.horizontal == DCT_II && s.vertical == DCT_II : s.horizontal != DCT_II && s.vertical != DCT_II;
+}
+
 const char *case_name(const bench_case *c, int i, char *name) {
     const char *direction = c->forward ? "forward" : "inverse";
     if (c->line) sprintf(name, "%s-line %u %s %s", direction, c->shape.width, c->fill, line_names[i]);
@@ -72,9 +85,9 @@ const char *case_name(const bench_case *c, int i, char *name) {
 
 /* "dense": every number that may be other than 0 is; "corner": the first four columns and rows; "one": the first. */
 static int filled(const bench_case *c, uint32_t x, uint32_t y) {
-    if (!strcmp(c->fill, "one")) return x == 0 && y == 0;
-    if (!strcmp(c->fill, "corner")) return x < 4 && y < 4;
-    return c->forward || c->line || (x < KEPT && y < KEPT);
+    if (strstr(c->fill, "one")) return x == 0 && y == 0;
+    if (strstr(c->fill, "corner")) return x < 4 && y < 4;
+    return c->forward || c->line || ((int)x < columns_of(c->shape) && (int)y < rows_of(c->shape));
 }
 
 void fill_case(const bench_case *c) {

@@ -57,10 +57,12 @@ function aims(m,    k, f) {
     for (k = 1; k <= 2; k++) aim(m, "inverse " large[k] " dense", "library", "best of C", "at most", 1.4)
     for (f = 2; f <= 3; f++) for (k = 1; k <= 3; k++) aim(m, "inverse " large[k] " " fill[f], "reference", "library", "at least", 4)
     for (k = 1; k <= 2; k++) for (f = 1; f <= 3; f++) aim(m, "inverse " small[k] " " fill[f], "reference", "library", "at least", 1)
+    for (k = 1; k <= 2; k++) aim(m, "inverse " small[k] " dct2-dense", "halves", "library", "at least", 1)
+    for (k = 1; k <= 2; k++) aim(m, "inverse " large[k] " dct2-dense", "halves", "library", "at least", k)
 }
 
 END {
-    BASELINES = split("reference triple rows folded butterfly", baseline)
+    BASELINES = split("reference triple rows folded butterfly halves", baseline)
     split("16x16 32x32 32x8", large)
     split("4x4 8x8", small)
     split("dense corner one", fill)

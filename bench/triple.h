@@ -13,7 +13,7 @@
 static int16_t tables[3][4][LARGEST]; /* by kind and size, row by row */
 
 static void fill_tables(void) {
-    for (int kind = DST_VII; kind <= DCT_VIII; kind++)
+    for (int kind = DCT_II; kind <= DCT_VIII; kind++)
         for (int n = 4; n <= LONGEST; n *= 2)
             for (int k = 0; k < n * n; k++) tables[kind][log2_of(n) - 2][k] = (int16_t)weight(kind, n, k / n, k % n);
 }
@@ -65,15 +65,15 @@ static void (*volatile const columns_out[])(const int *, int16_t *, int, int, in
 
 static inline void inverse(hoengtila_shape s, const int16_t *coefficients, int32_t *residuals) {
     int w = (int)s.width, h = (int)s.height, across = log2_of(w) - 2, down = log2_of(h) - 2, middle[LARGEST];
-    columns_in[down](coefficients, middle, 7, kept(w), w, kept(h), -32768, 32767, tables[s.vertical][down]);
-    rows_in[across](middle, residuals, residual_shift(s), h, h, kept(w), INT_MIN, INT_MAX, tables[s.horizontal][across]);
+    columns_in[down](coefficients, middle, 7, columns_of(s), w, rows_of(s), -32768, 32767, tables[s.vertical][down]);
+    rows_in[across](middle, residuals, residual_shift(s), h, h, columns_of(s), INT_MIN, INT_MAX, tables[s.horizontal][across]);
 }
 
 static inline void forward(hoengtila_shape s, const int16_t *residuals, int16_t *coefficients) {
     int w = (int)s.width, h = (int)s.height, across = log2_of(w) - 2, down = log2_of(h) - 2, middle[LARGEST];
-    rows_out[across](residuals, middle, row_shift(s), h, h, kept(w), tables[s.horizontal][across]);
-    if (w > KEPT || h > KEPT) memset(coefficients, 0, sizeof *coefficients * (size_t)(w * h));
-    columns_out[down](middle, coefficients, column_shift(s), kept(w), w, kept(h), tables[s.vertical][down]);
+    rows_out[across](residuals, middle, row_shift(s), h, h, columns_of(s), tables[s.horizontal][across]);
+    if (columns_of(s) < w || rows_of(s) < h) memset(coefficients, 0, sizeof *coefficients * (size_t)(w * h));
+    columns_out[down](middle, coefficients, column_shift(s), columns_of(s), w, rows_of(s), tables[s.vertical][down]);
 }
 
 #endif

@@ -1,4 +1,4 @@
-/* The weights, by the scope's fold rule from the first rows. */
+/* The weights: kinds 1 and 2 by the scope's fold rule from the first rows, kind 0 by H.266's numbers of its odd rows. */
 #include "bench.h"
 
 #include <stdlib.h>
@@ -15,7 +15,21 @@ static int dst_weight(int n, int i, int j) {
     return m == 0 ? 0 : sign * first_row(n)[m - 1];
 }
 
+/* the first weights of the odd rows of 2, 4, 8, 16 and 32 points, one after the other: those of n from n / 2 - 1 on */
+static const int odd_rows[] = {64, 83, 36, 89, 75, 50, 18, 90, 87, 80, 70, 57, 43, 25, 9, 90,
+                               90, 88, 85, 82, 78, 73, 67, 61, 54, 46, 38, 31, 22, 13, 4};
+
+/* an even row is a row of half the points and then the same backwards */
+static int dct_weight(int n, int i, int j) {
+    if (n == 1) return 64;
+    if (i % 2 == 0) return dct_weight(n / 2, i / 2, j < n - 1 - j ? j : n - 1 - j);
+    int turn = i * (2 * j + 1) % (4 * n), near = turn < 4 * n - turn ? turn : 4 * n - turn;
+    int number = odd_rows[n / 2 - 1 + (near < 2 * n - near ? near : 2 * n - near) / 2];
+    return near > n ? -number : number;
+}
+
 int weight(int kind, int n, int i, int j) {
+    if (kind == DCT_II) return dct_weight(n, i, j);
     if (kind == DST_VII) return dst_weight(n, i, j);
     return (i % 2 ? -1 : 1) * dst_weight(n, i, n - 1 - j);
 }

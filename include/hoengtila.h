@@ -1,4 +1,4 @@
-/* Hoengtila: DST-VII and DCT-VIII of VVC (H.266), forward and inverse, for C and C++ callers.
+/* Hoengtila: DCT-II, DST-VII and DCT-VIII of VVC (H.266), forward and inverse, for C and C++ callers.
  *
  * Every function takes any numbers and any lengths. What the caller owes: each pointer points to as many elements as the
  * length after it says (a length of 0 takes any pointer that is not null), and no output overlaps an input.
@@ -8,12 +8,13 @@
  *
  *   1  the width, or a line's length, is not 4, 8, 16 or 32
  *   2  the height is not one of those
- *   3  the horizontal kind, or a line's kind, is not 1 (DST-VII) or 2 (DCT-VIII)
- *   4  the vertical kind is not 1 or 2
+ *   3  the horizontal kind, or a line's kind, is not 0 (DCT-II), 1 (DST-VII) or 2 (DCT-VIII)
+ *   4  the vertical kind is not 0, 1 or 2
  *   5  the depth is outside 8..12
  *   6  the input's length is not width * height (line: n)
  *   7  the output's length is not width * height (line: n; writing a picture: it is too short)
- *   8  inverse block: a coefficient other than 0 outside the kept part (the first 16 columns and rows); place of the first
+ *   8  inverse block: a coefficient other than 0 outside the kept part (the first 16 columns and rows, all of
+ *      them in a direction of kind 0); place of the first
  *   9  forward block: a residual of size above 2^depth - 1; place of the first
  *  23  writing a picture: a residual outside -32768..32767
  *  24  reading a picture: the header is not that of such a graymap, or has sizes that 1 or 2 would refuse
@@ -43,7 +44,7 @@ extern "C" {
 typedef struct {
     uint32_t width;
     uint32_t height;
-    uint32_t horizontal; /* kind of the rows: 1 DST-VII, 2 DCT-VIII */
+    uint32_t horizontal; /* kind of the rows: 0 DCT-II, 1 DST-VII, 2 DCT-VIII */
     uint32_t vertical;   /* kind of the columns */
     uint32_t depth;      /* bits of a sample, 8..12 */
 } hoengtila_shape;

@@ -106,6 +106,17 @@ fn accepted() -> Vec<Case> {
                 whole_case(),
             ],
         ),
+        case(
+            "kind_0",
+            &[
+                shape(4, 4, 0, 0, 10),
+                inverse_of_64(),
+                data(TAG_RESIDUALS, &rising),
+                shape(32, 4, 0, 2, 8),
+                data(TAG_COEFFICIENTS, &alone(128, 31, 999)),
+                data(TAG_RESIDUALS, &wide),
+            ],
+        ),
     ]
 }
 
@@ -117,7 +128,7 @@ fn refused_fields() -> Vec<(&'static str, Vec<u8>, Vec<u8>)> {
         ("01", none(), shape(5, 4, 1, 1, 10)),
         ("02", none(), shape(4, 64, 1, 1, 10)),
         ("03", none(), shape(4, 4, 3, 1, 10)),
-        ("04", none(), shape(4, 4, 1, 0, 10)),
+        ("04", none(), shape(4, 4, 0, 4, 10)),
         ("05", none(), shape(4, 4, 1, 1, 13)),
         ("06", four(), data(TAG_COEFFICIENTS, &[0; 15])),
         (

@@ -4,7 +4,7 @@
 //! The archive is linked where the build is told where it stands (`build.rs`). Each function is `#[inline]`, so that a
 //! program that calls none of them needs no archive.
 
-/// What a block is: its sides, a kind for each direction (1 DST-VII, 2 DCT-VIII), and its bit depth.
+/// What a block is: its sides, a kind for each direction (0 DCT-II, 1 DST-VII, 2 DCT-VIII), and its bit depth.
 #[repr(C)]
 #[derive(Clone, Copy, Debug, PartialEq, Eq)]
 pub struct Shape {

@@ -2,6 +2,7 @@
 
 use crate::folding;
 use crate::library::Shape;
+use crate::model::call;
 use crate::model::weights::weight;
 use crate::random::Random;
 
@@ -220,7 +221,8 @@ pub fn block(random: &mut Random, layout: Layout, shape: &Shape, ends: Ends) -> 
             )
         }
         One => {
-            let place = (random.below(w.min(16)), random.below(h.min(16)));
+            let [columns, rows] = kept(shape);
+            let place = (random.below(columns), random.below(rows));
             let number = telling(random, ends);
             grid(w, h, |x, y| if (x, y) == place { number } else { 0 })
         }
@@ -234,7 +236,17 @@ pub fn grid(w: usize, h: usize, at: impl Fn(usize, usize) -> i64) -> Vec<i64> {
 
 /// Whether the inverse takes a number other than 0 at this place.
 pub fn is_kept(shape: &Shape, place: usize) -> bool {
-    place % (shape.width as usize) < 16 && place / (shape.width as usize) < 16
+    let ([columns, rows], w) = (kept(shape), shape.width as usize);
+    place % w < columns && place / w < rows
+}
+
+/// How many columns and rows are kept.
+fn kept(shape: &Shape) -> [usize; 2] {
+    let of = |kind: u32, n: u32| call::kept(kind.into(), n.into()) as usize;
+    [
+        of(shape.horizontal, shape.width),
+        of(shape.vertical, shape.height),
+    ]
 }
 
 /// Zero in every place that is not kept.
@@ -252,19 +264,20 @@ const AT_THE_RAILS: [i64; 2] = [32767 * 128 - 64, -32767 * 128 - 65];
 /// Coefficients whose kept columns each have a sum about an end of what a middle value may be.
 pub fn block_about_the_rails(random: &mut Random, shape: &Shape) -> Vec<i64> {
     let [w, h] = [shape.width as usize, shape.height as usize];
-    let column = |_| column_about_the_rails(random, shape.vertical, h);
-    let columns: Vec<Vec<i64>> = (0..w.min(16)).map(column).collect();
+    let [columns, rows] = kept(shape);
+    let column = |_| column_about_the_rails(random, shape.vertical, h, rows);
+    let all: Vec<Vec<i64>> = (0..columns).map(column).collect();
     grid(
         w,
         h,
-        |x, y| if x < 16 && y < 16 { columns[x][y] } else { 0 },
+        |x, y| if x < columns && y < rows { all[x][y] } else { 0 },
     )
 }
 
-fn column_about_the_rails(random: &mut Random, kind: u32, h: usize) -> Vec<i64> {
+fn column_about_the_rails(random: &mut Random, kind: u32, h: usize, rows: usize) -> Vec<i64> {
     let sum = random.choose(&AT_THE_RAILS) + random.between(-200, 200);
     let y = random.below(h);
-    let weights: Vec<i64> = (0..h.min(16))
+    let weights: Vec<i64> = (0..rows)
         .map(|i| weight(kind.into(), h, i, y))
         .collect();
     let total: i64 = weights.iter().map(|w| w.abs()).sum();

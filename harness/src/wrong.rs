@@ -4,7 +4,7 @@ use crate::random::Random;
 
 /// Numbers that no size, kind or depth is; a caller can hand over any of 32 bits.
 pub const NO_SIZE: [i64; 8] = [0, 1, 2, 5, 24, 64, 65_536, 4_294_967_295];
-pub const NO_KIND: [i64; 4] = [0, 3, 257, 4_294_967_295];
+pub const NO_KIND: [i64; 4] = [3, 4, 256, 4_294_967_295];
 pub const NO_DEPTH: [i64; 6] = [0, 7, 13, 255, 65_544, 4_294_967_295];
 
 /// Which tests of the table of numbers apply to a call.

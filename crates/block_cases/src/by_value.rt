@@ -68,17 +68,23 @@ fn each(r: [u32; 3]) {
     forward(-256, 255, r);
 }
 
+fn pairs(depth: u32) {
+    each([0, 0, depth]);
+    each([0, 1, depth]);
+    each([0, 2, depth]);
+    each([1, 0, depth]);
+    each([1, 1, depth]);
+    each([1, 2, depth]);
+    each([2, 0, depth]);
+    each([2, 1, depth]);
+    each([2, 2, depth]);
+}
+
 // Every pair of kinds at two depths, and one refusal each of 3, 4 and 5: kinds, horizontal first, and depth.
 pub fn all() {
-    each([1, 1, 8]);
-    each([1, 2, 8]);
-    each([2, 1, 8]);
-    each([2, 2, 8]);
-    each([1, 1, 12]);
-    each([1, 2, 12]);
-    each([2, 1, 12]);
-    each([2, 2, 12]);
-    each([0, 3, 7]);
+    pairs(8);
+    pairs(12);
+    each([4, 3, 7]);
     each([1, 3, 7]);
     each([1, 2, 13]);
 }

@@ -22,12 +22,13 @@ fn rows(is_forward: bool, number: i16, other: i16, table: &[[u32; 9]]) {
     }
 }
 
-// Items 7 to 10; 4, 5 and the second half of 8 are among the worst cases.
+// Items 7 to 10, and kind 0 beside 8; 4, 5 and the second half of 8 are among the worst cases.
 pub fn items() {
     row(false, 32767, 21063, tables::ITEM_7);
     row(false, 32767, 21064, tables::ITEM_7);
     row(false, 32767, 21066, tables::ITEM_7);
     row(false, 64, 0, tables::ITEM_8);
+    row(false, 64, 0, tables::FLAT);
     row(false, 1000, 0, tables::ITEM_9);
     row(false, 0, 1000, tables::ITEM_9);
     row(false, 0, 0, tables::ITEM_10);

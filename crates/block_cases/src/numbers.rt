@@ -28,27 +28,27 @@ pub fn only(place: usize, number: i16, next: usize, other: i16) -> [i16; 1024] {
     a
 }
 
-// The number at place k of rows of w: the two by turns in each row and column of the first `kept`, and 0 elsewhere.
-fn by_turns(k: usize, w: usize, kept: usize, even: i16, odd: i16) -> i16 {
+// The number at place k of rows of w: the two by turns in each of the first columns and rows, and 0 elsewhere.
+fn by_turns(k: usize, w: usize, columns: usize, rows: usize, even: i16, odd: i16) -> i16 {
     if w == 0 {
         return 0;
     }
     let x = k % w;
     let y = k / w;
-    if kept <= x {
+    if columns <= x {
         return 0;
     }
-    if kept <= y {
+    if rows <= y {
         return 0;
     }
     if x % 2 == y % 2 { even } else { odd }
 }
 
-pub fn filled(w: u32, kept: usize, even: i16, odd: i16) -> [i16; 1024] {
+pub fn filled(w: u32, columns: usize, rows: usize, even: i16, odd: i16) -> [i16; 1024] {
     let mut a = zeros();
     let mut k: usize = 0;
     while k < 1024 {
-        a[k] = by_turns(k, w as usize, kept, even, odd);
+        a[k] = by_turns(k, w as usize, columns, rows, even, odd);
         k += 1;
     }
     a
@@ -60,7 +60,7 @@ pub fn mark(k: usize) -> i32 {
 }
 
 pub fn marks() -> [i16; 1024] {
-    filled(1024, 1024, 1234, -4321)
+    filled(1024, 1024, 1024, 1234, -4321)
 }
 
 pub fn wide(v: i16) -> i32 {

@@ -22,17 +22,17 @@ pub record Residuals (sh : Shape) (r : List ℤ) : Type 0 where
 
 -- output x of line y, rounded
 abbrev pub lineValue : ℕ → List ℤ → ℕ → ℕ → List ℤ → ℕ → ℕ → ℕ → ℕ → ℤ
-lineValue pairs a step gap b kept shift x y = nearest shift (lineSum a (step * y) gap b (2 * kept) pairs x)
+lineValue pairs a step gap b apart shift x y = nearest shift (lineSum a (step * y) gap b apart pairs x)
 
 -- `some` lines of `kept` outputs, none of which leaves 16 bits, and rows of `wide` for them in `room` numbers
-pub record Put (pairs : ℕ) (a : List ℤ) (step gap : ℕ) (b : List ℤ) (kept some wide shift room : ℕ) : Type 0 where
-  pub lines : Lines some kept pairs a step gap b (2 * kept)
+pub record Put (pairs : ℕ) (a : List ℤ) (step gap : ℕ) (b : List ℤ) (apart kept some wide shift room : ℕ) : Type 0 where
+  pub lines : Lines some kept pairs a step gap b apart
   pub few : kept ≤ 32
   pub narrow : kept ≤ wide
   pub held : some * wide ≤ room
   pub low : 0 < shift
   pub high : shift ≤ 20
-  pub fits : (x y : ℕ) → x < kept → y < some → SFits w16 (lineValue pairs a step gap b kept shift x y)
+  pub fits : (x y : ℕ) → x < kept → y < some → SFits w16 (lineValue pairs a step gap b apart shift x y)
 
 -- f x y stands in each of the first `kept` columns of `some` rows; all else is as it was
 pub record Stage (kept wide some : ℕ) (f : ℕ → ℕ → ℤ) (a a₀ : List ℤ) : Type 0 where
@@ -41,8 +41,14 @@ pub record Stage (kept wide some : ℕ) (f : ℕ → ℕ → ℤ) (a a₀ : List
   pub beside : (x y : ℕ) → kept ≤ x → x < wide → y < some → at a (x + y * wide) ≡ at a₀ (x + y * wide)
   pub below : (k : ℕ) → some * wide ≤ k → at a k ≡ at a₀ k
 
--- the weights of both stages, those of the kept outputs, and room for the pairs of rows between the stages
-pub record Rooms (sh : Shape) (t u : List ℤ) (room : ℕ) : Type 0 where
-  pub along : Laid (keptColumns sh) (sh .width / 2) 2 (2 * keptColumns sh) (λ i x. weight (sh .horizontal) (sh .width) x i) t
-  pub down : Laid (keptRows sh) (sh .height / 2) 2 (2 * keptRows sh) (λ i y. weight (sh .vertical) (sh .height) y i) u
+-- the weights of a stage: of `outputs` outputs, the kept ones among them, and of all n inputs
+pub record Outputs (kind n kept outputs : ℕ) (t : List ℤ) : Type 0 where
+  pub enough : kept ≤ outputs
+  pub few : outputs ≤ 32
+  pub laid : Laid outputs (n / 2) 2 (2 * outputs) (λ i j. weight kind n j i) t
+
+-- those of both stages, and room for the pairs of rows between them
+pub record Rooms (sh : Shape) (across : ℕ) (t : List ℤ) (tall : ℕ) (u : List ℤ) (room : ℕ) : Type 0 where
+  pub along : Outputs (sh .horizontal) (sh .width) (keptColumns sh) across t
+  pub down : Outputs (sh .vertical) (sh .height) (keptRows sh) tall u
   pub between : sh .height * keptColumns sh ≤ room

@@ -13,11 +13,12 @@ use product::half;
 use product::lines;
 use tables::stage::weights_128;
 use tables::stage::weights_512;
+use tables::stage::weights_1024;
 ghost use mathlib.Core.Path.{_≡_};
 ghost use mathlib.Core.Bool.{true};
-ghost use Prim.Native.Nat.{_*_, _/_, _≤_};
+ghost use Prim.Native.Nat.{_*_, _/_, _≤_, min};
 ghost use lib.ListN.{length};
-ghost use Rattle.meaning.specs.Shape.{isSize};
+ghost use Rattle.meaning.specs.Shape.{isSize, keptColumns, keptRows};
 ghost use Rattle.meaning.specs.Forward.{forwardBlock};
 ghost use Rattle.forward_block.specs.Stage.{Residuals, lineValue, Put, Stage, Rooms};
 
@@ -29,14 +30,15 @@ fn put_lines(
     step: usize,
     gap: usize,
     b: &[i16],
+    apart: usize,
     kept: usize,
     some: usize,
     wide: usize,
     shift: u32,
     out: &mut [i16],
 )
-    requires { ⌜ Put pairs (now a) step gap (now b) kept some wide shift (length (now out)) ⌝ }
-    ensures { λ _. ⌜ Stage kept wide some (lineValue pairs (now (a .entry)) step gap (now (b .entry)) kept shift) (now (out .exit)) (now (out .entry)) ⌝ }
+    requires { ⌜ Put pairs (now a) step gap (now b) apart kept some wide shift (length (now out)) ⌝ }
+    ensures { λ _. ⌜ Stage kept wide some (lineValue pairs (now (a .entry)) step gap (now (b .entry)) apart shift) (now (out .exit)) (now (out .entry)) ⌝ }
 {
     let half = half(shift);
     let end = a.len();
@@ -48,7 +50,7 @@ fn put_lines(
         let f = q + kept;
         lines(
             pairs,
-            2 * kept,
+            apart,
             &a[o..end],
             step,
             gap,
@@ -71,36 +73,40 @@ fn stage(
     step: usize,
     gap: usize,
     b: &[i16],
+    apart: usize,
     kept: usize,
     some: usize,
     wide: usize,
     shift: u32,
     out: &mut [i16],
 )
-    requires { ⌜ (isSize n ≡ true) × Put (n / 2) (now a) step gap (now b) kept some wide shift (length (now out)) ⌝ }
-    ensures { λ _. ⌜ Stage kept wide some (lineValue (n / 2) (now (a .entry)) step gap (now (b .entry)) kept shift) (now (out .exit)) (now (out .entry)) ⌝ }
+    requires { ⌜ (isSize n ≡ true) × Put (n / 2) (now a) step gap (now b) apart kept some wide shift (length (now out)) ⌝ }
+    ensures { λ _. ⌜ Stage kept wide some (lineValue (n / 2) (now (a .entry)) step gap (now (b .entry)) apart shift) (now (out .exit)) (now (out .entry)) ⌝ }
 {
     if n == 4 {
-        put_lines(2, a, step, gap, b, kept, some, wide, shift, out);
+        put_lines(2, a, step, gap, b, apart, kept, some, wide, shift, out);
     } else if n == 8 {
-        put_lines(4, a, step, gap, b, kept, some, wide, shift, out);
+        put_lines(4, a, step, gap, b, apart, kept, some, wide, shift, out);
     } else if n == 16 {
-        put_lines(8, a, step, gap, b, kept, some, wide, shift, out);
+        put_lines(8, a, step, gap, b, apart, kept, some, wide, shift, out);
     } else {
-        put_lines(16, a, step, gap, b, kept, some, wide, shift, out);
+        put_lines(16, a, step, gap, b, apart, kept, some, wide, shift, out);
     }
 }
 
-// "Rows first", the kept columns of them; "then columns", the kept rows of them. In lent rooms, whatever their lengths are.
+// "Rows first", the kept columns of them; "then columns", the kept rows of them. In lent rooms, whatever their lengths are: `along`
+// has the weights of `across` outputs, `down` those of `tall`.
 fn worked(
     shape: Shape,
     residuals: &[i16],
     along: &[i16],
+    across: usize,
     down: &[i16],
+    tall: usize,
     z: &mut [i16],
     coefficients: &mut [i16],
 )
-    requires { ⌜ Residuals shape (now residuals) × (Rooms shape (now along) (now down) (length (now z)) × (length (now coefficients) ≡ shape .width * shape .height)) ⌝ }
+    requires { ⌜ Residuals shape (now residuals) × (Rooms shape across (now along) tall (now down) (length (now z)) × (length (now coefficients) ≡ shape .width * shape .height)) ⌝ }
     ensures { λ _. ⌜ now (coefficients .exit) ≡ forwardBlock shape (now (residuals .entry)) ⌝ }
 {
     let w = shape.width as usize;
@@ -115,6 +121,7 @@ fn worked(
         w,
         2,
         along,
+        2 * across,
         columns,
         h,
         columns,
@@ -123,7 +130,19 @@ fn worked(
     );
     zip(coefficients, columns, h / 2, columns, z);
     clear_beyond(rows * columns, coefficients);
-    stage(h, down, 2, 2 * rows, z, columns, rows, w, q, coefficients);
+    stage(
+        h,
+        down,
+        2,
+        2 * tall,
+        z,
+        2 * columns,
+        columns,
+        rows,
+        w,
+        q,
+        coefficients,
+    );
 }
 
 // Blocks of up to 8 by 8: rooms have to be zeroed, and those of `large` would take as long as a small block does.
@@ -131,31 +150,84 @@ fn small(shape: Shape, residuals: &[i16], coefficients: &mut [i16])
     requires { ⌜ Residuals shape (now residuals) × ((length (now coefficients) ≡ shape .width * shape .height) × ((shape .width ≤ 8) × (shape .height ≤ 8))) ⌝ }
     ensures { λ _. ⌜ now (coefficients .exit) ≡ forwardBlock shape (now (residuals .entry)) ⌝ }
 {
-    let along = weights_128(shape.horizontal, true, shape.width as usize);
-    let down = weights_128(shape.vertical, true, shape.height as usize);
+    let w = shape.width as usize;
+    let h = shape.height as usize;
+    let along = weights_128(shape.horizontal, true, w);
+    let down = weights_128(shape.vertical, true, h);
     let mut z = [0i16; 64];
-    worked(shape, residuals, &along, &down, &mut z, coefficients);
+    worked(shape, residuals, &along, w, &down, h, &mut z, coefficients);
 }
 
+fn least(a: usize, b: usize) -> usize
+    ensures { λ r. ⌜ r ≡ min a b ⌝ }
+{
+    if a < b { a } else { b }
+}
+
+// Where no more than 16 columns and rows are kept.
 fn large(shape: Shape, residuals: &[i16], coefficients: &mut [i16])
+    requires { ⌜ Residuals shape (now residuals) × ((length (now coefficients) ≡ shape .width * shape .height) × ((keptColumns shape ≤ 16) × (keptRows shape ≤ 16))) ⌝ }
+    ensures { λ _. ⌜ now (coefficients .exit) ≡ forwardBlock shape (now (residuals .entry)) ⌝ }
+{
+    let w = shape.width as usize;
+    let h = shape.height as usize;
+    let along = weights_512(shape.horizontal, true, w);
+    let down = weights_512(shape.vertical, true, h);
+    let across = least(w, 16);
+    let tall = least(h, 16);
+    let mut z = [0i16; 512];
+    worked(
+        shape,
+        residuals,
+        &along,
+        across,
+        &down,
+        tall,
+        &mut z,
+        coefficients,
+    );
+}
+
+fn largest(shape: Shape, residuals: &[i16], coefficients: &mut [i16])
     requires { ⌜ Residuals shape (now residuals) × (length (now coefficients) ≡ shape .width * shape .height) ⌝ }
     ensures { λ _. ⌜ now (coefficients .exit) ≡ forwardBlock shape (now (residuals .entry)) ⌝ }
 {
-    let along = weights_512(shape.horizontal, true, shape.width as usize);
-    let down = weights_512(shape.vertical, true, shape.height as usize);
-    let mut z = [0i16; 512];
-    worked(shape, residuals, &along, &down, &mut z, coefficients);
+    let w = shape.width as usize;
+    let h = shape.height as usize;
+    let along = weights_1024(shape.horizontal, true, w);
+    let down = weights_1024(shape.vertical, true, h);
+    let mut z = [0i16; 1024];
+    worked(shape, residuals, &along, w, &down, h, &mut z, coefficients);
+}
+
+// A block of up to 8 by 8, then one of which no more than 16 columns and rows are kept, then all others.
+fn is_small(shape: Shape) -> bool
+    ensures { λ r. ⌜ (r ≡ true → (shape .width ≤ 8) × (shape .height ≤ 8)) ⌝ }
+{
+    if 8 < shape.width {
+        return false;
+    }
+    shape.height <= 8
+}
+
+fn is_large(shape: Shape) -> bool
+    ensures { λ r. ⌜ (r ≡ true → (keptColumns shape ≤ 16) × (keptRows shape ≤ 16)) ⌝ }
+{
+    if 16 < kept_columns(shape) {
+        return false;
+    }
+    kept_rows(shape) <= 16
 }
 
 pub fn stages(shape: Shape, residuals: &[i16], coefficients: &mut [i16])
     requires { ⌜ Residuals shape (now residuals) × (length (now coefficients) ≡ shape .width * shape .height) ⌝ }
     ensures { λ _. ⌜ now (coefficients .exit) ≡ forwardBlock shape (now (residuals .entry)) ⌝ }
 {
-    if 8 < shape.width {
-        large(shape, residuals, coefficients);
-    } else if 8 < shape.height {
+    if is_small(shape) {
+        small(shape, residuals, coefficients);
+    } else if is_large(shape) {
         large(shape, residuals, coefficients);
     } else {
-        small(shape, residuals, coefficients);
+        largest(shape, residuals, coefficients);
     }
 }

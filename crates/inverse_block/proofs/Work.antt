@@ -4,10 +4,9 @@ use mathlib.Core.Path.{_≡_, refl, sym, ap, _∙_, subst}
 use mathlib.Core.Bool.{true, false}
 use mathlib.Core.Logic.{inl, inr}
 use mathlib.Core.List.{List, [], _++_, append-nil}
-use Prim.Native.Nat.{ℕ, _+_, _*_, _-_, _/_, _^_, _≤_, _<_, min}
-use native.Mathlib.Nat.{mul-comm, mul-le-mul-right, mul-le-mul-left, mul-assoc}
+use Prim.Native.Nat.{ℕ, _+_, _*_, _-_, _/_, _^_, _≤_, _<_}
+use native.Mathlib.Nat.{mul-comm, mul-le-mul, mul-le-mul-right, mul-assoc}
 use native.Mathlib.Omega.{arith}
-use native.Mathlib.Decide.{decLt}
 use lib.IntN.{ℤ, pos, _*ℤ_}
 use lib.ListN.{length, drop, length-append, length-drop, drop-of-length-le, List·getD-append}
 use Rattle.algebra.specs.Sum.{sum, sumℕ}
@@ -21,15 +20,14 @@ use Rattle.meaning.specs.Shape.{isSize}
 use Rattle.meaning.specs.Weights.{weight}
 use Rattle.meaning.specs.Plan.{Plan, planOf, shortRange}
 use Rattle.meaning.specs.Inverse.{columnSum, rounded, middle, railed, count, rails, rowSum, residual, inverseBlock}
-use Rattle.meaning.proofs.Cases.{size-cases}
+use Rattle.meaning.proofs.Cases.{size-cases, size-in}
 use Rattle.meaning.proofs.Sizes.{weightSize}
-use Rattle.meaning.proofs.KeptPart.{columns-some, rows-some}
 use Rattle.product.specs.Product.{spot, Laid, lineSum, shifted, Lines}
 use Rattle.product.proofs.Laid.{laid-less, lines-given, lines-are}
 use Rattle.tables.specs.Stage.{Weights}
 use Rattle.layout.specs.Zip.{Rows}
 use Rattle.layout.proofs.Zipping.{size-even}
-use Rattle.inverse_block.specs.Part.{Given}
+use Rattle.inverse_block.specs.Part.{Given, Room}
 use Rattle.inverse_block.specs.Settled.{railsOf}
 use Rattle.inverse_block.proofs.Blocks.{block-map, block-count}
 use Rattle.inverse_block.proofs.Alive.{column-is, mid, middle-is, rail, row-is, rails-are}
@@ -43,6 +41,17 @@ eight = size-cases (λ n. 4 < n → n ≤ 8 → 2 * 4 ≡ n) (λ h g. absurd (om
 
 pub sixteen : (n : ℕ) → isSize n ≡ true → 8 < n → n ≤ 16 → 2 * 8 ≡ n
 sixteen = size-cases (λ n. 8 < n → n ≤ 16 → 2 * 8 ≡ n) (λ h g. absurd (omega arith)) (λ h g. absurd (omega arith)) (λ h g. refl) (λ h g. absurd (omega arith))
+
+pub thirty-two : (n : ℕ) → isSize n ≡ true → 16 < n → 2 * 16 ≡ n
+thirty-two = size-cases (λ n. 16 < n → 2 * 16 ≡ n) (λ h. absurd (omega arith)) (λ h. absurd (omega arith)) (λ h. absurd (omega arith)) (λ h. refl)
+
+-- a size that is not above h, of which h fit in 128
+pub few : (n : ℕ) → isSize n ≡ true → (h : ℕ) → n ≤ h → n * h ≤ 128 → n ≤ 8
+few = size-cases (λ n. (h : ℕ) → n ≤ h → n * h ≤ 128 → n ≤ 8) (λ h l k. omega arith) (λ h l k. omega arith) (λ h l k. absurd (omega arith)) (λ h l k. absurd (omega arith))
+
+-- as many inputs as there are, and their weights by pairs
+by-pairs : (pairs n m : ℕ) → 2 * pairs ≡ n → pairs * (2 * m) ≡ n * m
+by-pairs pairs n m e = omega (arith, ap (λ (n : ℕ). n * m) e, mul-assoc 2 pairs m, mul-assoc pairs 2 m, mul-comm 2 pairs)
 
 module _ {sh : Shape} {rows columns : ℕ} {c r : List ℤ} (g : Given sh rows columns c r) where
   abbrev w : ℕ
@@ -65,20 +74,21 @@ module _ {sh : Shape} {rows columns : ℕ} {c r : List ℤ} (g : Given sh rows c
   even-columns = size-even columns (g .size-columns)
 
   -- ---- down the columns
-  pub zip-given : {z : List ℤ} → rows * columns ≤ length z → Rows (rows / 2) columns w c z
-  zip-given {z} room =
+  pub zip-given : {room : ℕ} {z : List ℤ} → Room room sh rows columns → length z ≡ room → Rows (rows / 2) columns w c z
+  zip-given {room} {z} fits long =
       let e = even-rows in
       let k = even-columns in
+      let l : rows * columns ≤ length z = omega (arith, fits .between, mul-le-mul-right columns (g .live .low)) in
       record {
         some = omega arith;
         wide = omega arith;
         narrow = g .live .narrow;
         there = subst (λ (n : ℕ). n * w ≤ length c) (sym (e .1)) (omega (arith, g .block .long, mul-comm w h, mul-le-mul-right w (g .live .low)));
-        room = subst (λ (n : ℕ). n ≤ length z) (turned (rows / 2) (e .1)) room;
+        room = subst (λ (n : ℕ). n ≤ length z) (turned (rows / 2) (e .1)) l;
       }
     where
       turned : (m : ℕ) → 2 * m ≡ rows → rows * columns ≡ m * (2 * columns)
-      turned m e = ap (λ (n : ℕ). n * columns) (sym e) ∙ omega (arith, mul-assoc 2 m columns, mul-assoc m 2 columns, mul-comm 2 m)
+      turned m e = sym (by-pairs m rows columns e)
 
   abbrev down : ℕ → ℕ → ℤ
   down i x = at c (x + i * w)
@@ -86,16 +96,17 @@ module _ {sh : Shape} {rows columns : ℕ} {c r : List ℤ} (g : Given sh rows c
   abbrev weightDown : ℕ → ℕ → ℤ
   weightDown i y = weight (sh .vertical) h i y
 
-  module _ {room : ℕ} {u z : List ℤ} (pairs : ℕ) (e : 2 * pairs ≡ rows) (fits : pairs * (2 * h) ≤ room)
-      (weights : Weights room h false (sh .vertical) h u) (zipped : Laid columns (rows / 2) 2 (2 * columns) down z) where
+  module _ {room : ℕ} {u z : List ℤ} (fits : Room room sh rows columns)
+      (weights : Weights room h false (sh .vertical) h u) (zipped : Laid columns (rows / 2) 2 (2 * columns) down z)
+      (pairs : ℕ) (e : 2 * pairs ≡ rows) where
     here : Laid columns pairs 2 (2 * columns) down z
     here = laid-less (omega arith) (omega arith) (λ i j _ _. refl) zipped
 
     there : Laid h pairs 2 (2 * h) weightDown u
-    there = weights pairs (omega (arith, g .live .low)) fits
+    there = weights pairs (omega (arith, g .live .low)) (omega (arith, fits .down, by-pairs pairs rows h e))
 
-    pub down-given : pairs ≤ 16 → Lines h columns pairs u 2 (2 * h) z (2 * columns)
-    down-given few = lines-given there here (omega (arith, even-rows)) few (λ i j l. inr (weightSize (sh .vertical) h i l))
+    pub down-given : Lines h columns pairs u 2 (2 * h) z (2 * columns)
+    down-given = lines-given there here (omega (arith, even-rows)) (omega (arith, size-in rows (g .size-rows))) (λ i j l. inr (weightSize (sh .vertical) h i l))
 
     pub down-is : block columns h (λ x y. shifted (pos 64) 7 (lineSum u (2 * y) (2 * h) z (2 * columns) pairs x)) ≡ block columns h (λ x y. rounded (columnSum p c x y))
     down-is =
@@ -133,14 +144,28 @@ module _ {sh : Shape} {rows columns : ℕ} {c r : List ℤ} (g : Given sh rows c
   block-long = block-length w h (residual p c) ∙ mul-comm h w ∙ sym (g .block .room)
 
   -- ---- along the rows: middle values at the front of a list
+  pub record Between (m : List ℤ) : Type 0 where
+    pub long : h * columns ≤ length m
+    pub same : (k : ℕ) → k < h * columns → at m k ≡ at middles k
+
+  pub between : (l rest : List ℤ) → l ≡ middles → Between (l ++ rest)
+  between l rest e =
+      record {
+        long = omega (arith, length-append l rest, longer);
+        same = λ k i. List·getD-append l rest (pos 0) k (omega (arith, longer)) ∙ ap (λ (l : List ℤ). at l k) e;
+      }
+    where
+      longer : length l ≡ h * columns
+      longer = ap length e ∙ middles-long
+
   abbrev weightAlong : ℕ → ℕ → ℤ
   weightAlong i x = weight (sh .horizontal) w i x
 
   abbrev middleOf : ℕ → ℕ → ℤ
   middleOf i y = mid p keeps c columns rows (g .live) (g .kept) i y
 
-  module _ {room : ℕ} (m : List ℤ) {t : List ℤ} (pairs : ℕ) (e : 2 * pairs ≡ columns) (fits : pairs * (2 * w) ≤ room)
-      (weights : Weights room w false (sh .horizontal) w t) (long : h * columns ≤ length m) (same : (k : ℕ) → k < h * columns → at m k ≡ at middles k) where
+  module _ {room : ℕ} {m t : List ℤ} (fits : Room room sh rows columns)
+      (weights : Weights room w false (sh .horizontal) w t) (between : Between m) (pairs : ℕ) (e : 2 * pairs ≡ columns) where
     place : (i y : ℕ) → columns * y + spot 2 i ≡ i + y * columns
     place i y = omega (arith, mul-comm columns y)
 
@@ -150,15 +175,15 @@ module _ {sh : Shape} {rows columns : ℕ} {c r : List ℤ} (g : Given sh rows c
     rows-laid : Laid h pairs columns 2 middleOf m
     rows-laid =
         record {
-          held = λ i y k v. omega (arith, inside i y k v, long);
-          right = λ i y k v. same (columns * y + spot 2 i) (inside i y k v) ∙ ap (at middles) (place i y) ∙ middle-at i y (omega arith) v;
+          held = λ i y k v. omega (arith, inside i y k v, between .long);
+          right = λ i y k v. between .same (columns * y + spot 2 i) (inside i y k v) ∙ ap (at middles) (place i y) ∙ middle-at i y (omega arith) v;
         }
 
     along-laid : Laid w pairs 2 (2 * w) weightAlong t
-    along-laid = weights pairs (omega (arith, g .live .narrow)) fits
+    along-laid = weights pairs (omega (arith, g .live .narrow)) (omega (arith, fits .along, by-pairs pairs columns w e))
 
-    pub along-given : pairs ≤ 16 → Lines h w pairs m columns 2 t (2 * w)
-    along-given few = lines-given rows-laid along-laid (omega (arith, even-columns)) few (λ i j l. inl (weightSize (sh .horizontal) w i j))
+    pub along-given : Lines h w pairs m columns 2 t (2 * w)
+    along-given = lines-given rows-laid along-laid (omega (arith, even-columns)) (omega (arith, size-in columns (g .size-columns))) (λ i j l. inl (weightSize (sh .horizontal) w i j))
 
     -- the block, where the list that it was written to has no more room
     pub along-is : {half : ℤ} (o : List ℤ) → half ≡ pos (2 ^ (20 - sh .depth - 1)) → length o ≡ w * h
@@ -177,13 +202,7 @@ module _ {sh : Shape} {rows columns : ℕ} {c r : List ℤ} (g : Given sh rows c
 pub room-full : (n a : ℕ) (l z : List ℤ) → length l ≡ a → length z ≡ n → a ≤ n → n ≡ length (l ++ drop (a - 0) z)
 room-full n a l z e f k = sym (length-append l (drop (a - 0) z) ∙ omega (arith, length-drop (a - 0) z))
 
-pub front-long : (l rest : List ℤ) (a : ℕ) → length l ≡ a → a ≤ length (l ++ rest)
-front-long l rest a e = omega (arith, length-append l rest)
-
-pub front-at : (l rest l′ : List ℤ) (a : ℕ) → length l ≡ a → l ≡ l′ → (k : ℕ) → k < a → at (l ++ rest) k ≡ at l′ k
-front-at l rest l′ a e q k h = List·getD-append l rest (pos 0) k (omega arith) ∙ ap (λ (l : List ℤ). at l k) q
-
--- ---- other parts of the same block: all of it, and no more than 16 columns and rows
+-- ---- all of the block
 pub whole : {sh : Shape} {rows columns : ℕ} {c r : List ℤ} → Given sh rows columns c r → Given sh (sh .height) (sh .width) c r
 whole {sh} g =
     record {
@@ -194,33 +213,12 @@ whole {sh} g =
       kept = g .kept;
     }
 
-sixteen-size : (n : ℕ) → isSize n ≡ true → isSize (min n 16) ≡ true
-unfolding isSize
-sixteen-size = size-cases (λ n. isSize (min n 16) ≡ true) refl refl refl refl
-
-pub capped : {sh : Shape} {rows columns : ℕ} {c r : List ℤ} → Given sh rows columns c r → Given sh (min rows 16) (min columns 16) c r
-capped {sh} {rows} {columns} {c} g =
-    record {
-      block = g .block;
-      size-rows = sixteen-size rows (g .size-rows);
-      size-columns = sixteen-size columns (g .size-columns);
-      live = record {
-        narrow = omega (arith, g .live .narrow);
-        low = omega (arith, g .live .low);
-        right = λ x y l k v. right x y l k v (decLt x columns);
-        below = λ x y k l v. below x y k l v (decLt y rows);
-      };
-      kept = g .kept;
-    }
-  where
-    right : (x y : ℕ) → min columns 16 ≤ x → x < sh .width → y < sh .height → Dec (x < columns) → at c (x + y * sh .width) ≡ pos 0
-    right x y l k v (yes a) = g .kept .right x y (omega (arith, columns-some sh (g .block .taken))) k v
-    right x y l k v (no a) = g .live .right x y (omega arith) k v
-
-    below : (x y : ℕ) → x < sh .width → min rows 16 ≤ y → y < sh .height → Dec (y < rows) → at c (x + y * sh .width) ≡ pos 0
-    below x y k l v (yes a) = g .kept .below x y k (omega (arith, rows-some sh (g .block .taken))) v
-    below x y k l v (no a) = g .live .below x y k (omega arith) v
-
--- a size that is not above h, of which h fit in 128
-pub few : (n : ℕ) → isSize n ≡ true → (h : ℕ) → n ≤ h → h * n ≤ 128 → n ≤ 8
-few = size-cases (λ n. (h : ℕ) → n ≤ h → h * n ≤ 128 → n ≤ 8) (λ h l k. omega arith) (λ h l k. omega arith) (λ h l k. absurd (omega arith)) (λ h l k. absurd (omega arith))
+-- room for the largest
+pub all-rooms : {sh : Shape} {rows columns : ℕ} {c r : List ℤ} → Given sh rows columns c r → Room 1024 sh rows columns
+all-rooms {sh} {rows} {columns} g =
+    let w = size-in (sh .width) (g .block .taken .width) in
+    let h = size-in (sh .height) (g .block .taken .height) in
+    let a : rows * sh .height ≤ 32 * 32 = mul-le-mul (size-in rows (g .size-rows)) h in
+    let b : columns * sh .width ≤ 32 * 32 = mul-le-mul (size-in columns (g .size-columns)) w in
+    let d : sh .height * columns ≤ 32 * 32 = mul-le-mul h (size-in columns (g .size-columns)) in
+    record { down = a; along = b; between = d }

@@ -28,3 +28,9 @@ pub record Given (sh : Shape) (rows columns : ℕ) (c r : List ℤ) : Type 0 whe
   pub size-columns : isSize columns ≡ true
   pub live : Part (sh .width) (sh .height) columns rows c
   pub kept : Part (sh .width) (sh .height) (keptColumns sh) (keptRows sh) c
+
+-- every list that a stage needs has room in `room` numbers: the weights down and along, and what stands between the stages
+pub record Room (room : ℕ) (sh : Shape) (rows columns : ℕ) : Type 0 where
+  pub down : rows * sh .height ≤ room
+  pub along : columns * sh .width ≤ room
+  pub between : sh .height * columns ≤ room

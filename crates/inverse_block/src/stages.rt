@@ -1,6 +1,8 @@
 // Both stages of an inverse block, over the part of it that is not zero. Down the columns the inputs of a line are weights and its
 // weights are the block's rows, zipped: output y of every column is one line. Along a row the inputs are its middle values. The
 // first stage writes rounded sums where the residuals will stand; each line of residuals is then written into its own stretch.
+// What lines read stands in arrays of the function that names their number of pairs: what is lent might overlap the output, as far
+// as the compiler knows, and it then takes one number at a time (docs/DECISIONS.md). So the two rooms have a function each.
 use crate::live::is_small;
 use crate::settle::settle;
 use layout::zip::zip;
@@ -8,83 +10,87 @@ use meaning::Shape;
 use product::half;
 use product::lines;
 use tables::stage::weights_128;
-use tables::stage::weights_512;
+use tables::stage::weights_1024;
 ghost use mathlib.Core.Path.{_≡_};
-ghost use Prim.Native.Nat.{_*_, _≤_, min};
+ghost use Prim.Native.Nat.{_*_, _≤_};
 ghost use Rattle.meaning.specs.Plan.{planOf};
 ghost use Rattle.meaning.specs.Inverse.{rails, inverseBlock};
-ghost use Rattle.inverse_block.specs.Part.{Given};
+ghost use Rattle.inverse_block.specs.Part.{Given, Room};
 
 // Where every list that a stage needs has room in 128 numbers: buffers have to be zeroed, and those of `large` would take as long
 // as a small block does.
 fn small(shape: Shape, rows: usize, columns: usize, c: &[i16], r: &mut [i32]) -> u32
-    requires { ⌜ Given shape rows columns (now c) (now r) × ((rows ≤ 8) × ((columns ≤ 8) × ((rows * shape .height ≤ 128) × ((columns * shape .width ≤ 128) × (shape .height * columns ≤ 128))))) ⌝ }
+    requires { ⌜ Given shape rows columns (now c) (now r) × Room 128 shape rows columns ⌝ }
     ensures { λ n. ⌜ (n ≡ rails (planOf shape) (now (c .entry))) × (now (r .exit) ≡ inverseBlock (planOf shape) (now (c .entry))) ⌝ }
 {
     let w = shape.width as usize;
     let h = shape.height as usize;
     let area = h * columns;
+    let wide = 2 * columns;
+    let tall = 2 * h;
+    let full = 2 * w;
     let mut z = [0i16; 128];
     let mut m = [0i16; 128];
     zip(c, w, rows / 2, columns, &mut z);
-    let u = weights_128(shape.vertical, false, h);
+    let down = weights_128(shape.vertical, false, h);
     if rows <= 4 {
-        lines(2, 2 * columns, &u, 2, 2 * h, &z, columns, h, 64, 7, r);
+        lines(2, wide, &down, 2, tall, &z, columns, h, 64, 7, r);
     } else {
-        lines(4, 2 * columns, &u, 2, 2 * h, &z, columns, h, 64, 7, r);
+        lines(4, wide, &down, 2, tall, &z, columns, h, 64, 7, r);
     }
     let rails = settle(&r[0..area], &mut m[0..area]);
     let last = 20 - shape.depth;
     let half = half(last);
-    let t = weights_128(shape.horizontal, false, w);
+    let along = weights_128(shape.horizontal, false, w);
     if columns <= 4 {
-        lines(2, 2 * w, &m, columns, 2, &t, w, h, half, last, r);
+        lines(2, full, &m, columns, 2, &along, w, h, half, last, r);
     } else {
-        lines(4, 2 * w, &m, columns, 2, &t, w, h, half, last, r);
+        lines(4, full, &m, columns, 2, &along, w, h, half, last, r);
     }
     rails
 }
 
 fn large(shape: Shape, rows: usize, columns: usize, c: &[i16], r: &mut [i32]) -> u32
-    requires { ⌜ Given shape rows columns (now c) (now r) × ((rows ≤ 16) × (columns ≤ 16)) ⌝ }
+    requires { ⌜ Given shape rows columns (now c) (now r) ⌝ }
     ensures { λ n. ⌜ (n ≡ rails (planOf shape) (now (c .entry))) × (now (r .exit) ≡ inverseBlock (planOf shape) (now (c .entry))) ⌝ }
 {
     let w = shape.width as usize;
     let h = shape.height as usize;
     let area = h * columns;
-    let mut z = [0i16; 512];
-    let mut m = [0i16; 512];
+    let wide = 2 * columns;
+    let tall = 2 * h;
+    let full = 2 * w;
+    let mut z = [0i16; 1024];
+    let mut m = [0i16; 1024];
     zip(c, w, rows / 2, columns, &mut z);
-    let down = weights_512(shape.vertical, false, h);
+    let down = weights_1024(shape.vertical, false, h);
     if rows <= 4 {
-        lines(2, 2 * columns, &down, 2, 2 * h, &z, columns, h, 64, 7, r);
+        lines(2, wide, &down, 2, tall, &z, columns, h, 64, 7, r);
     } else if rows <= 8 {
-        lines(4, 2 * columns, &down, 2, 2 * h, &z, columns, h, 64, 7, r);
+        lines(4, wide, &down, 2, tall, &z, columns, h, 64, 7, r);
+    } else if rows <= 16 {
+        lines(8, wide, &down, 2, tall, &z, columns, h, 64, 7, r);
     } else {
-        lines(8, 2 * columns, &down, 2, 2 * h, &z, columns, h, 64, 7, r);
+        lines(16, wide, &down, 2, tall, &z, columns, h, 64, 7, r);
     }
     let rails = settle(&r[0..area], &mut m[0..area]);
     let last = 20 - shape.depth;
     let half = half(last);
-    let along = weights_512(shape.horizontal, false, w);
+    let along = weights_1024(shape.horizontal, false, w);
     if columns <= 4 {
-        lines(2, 2 * w, &m, columns, 2, &along, w, h, half, last, r);
+        lines(2, full, &m, columns, 2, &along, w, h, half, last, r);
     } else if columns <= 8 {
-        lines(4, 2 * w, &m, columns, 2, &along, w, h, half, last, r);
+        lines(4, full, &m, columns, 2, &along, w, h, half, last, r);
+    } else if columns <= 16 {
+        lines(8, full, &m, columns, 2, &along, w, h, half, last, r);
     } else {
-        lines(8, 2 * w, &m, columns, 2, &along, w, h, half, last, r);
+        lines(16, full, &m, columns, 2, &along, w, h, half, last, r);
     }
     rails
 }
 
-fn least(a: usize, b: usize) -> usize
-    ensures { λ r. ⌜ r ≡ min a b ⌝ }
-{
-    if a < b { a } else { b }
-}
-
-// Hands back the rail count. No more than 16 columns and rows are kept, of 32. Neither `small` nor `large` is called from one
-// place alone: the compiler would move it into its caller then, and lose the pairs (docs/DECISIONS.md).
+// Hands back the rail count. Neither `small` nor `large` is called from one place alone: the compiler would move it into its caller
+// then, and lose the pairs (docs/DECISIONS.md).
 pub fn stages(shape: Shape, rows: usize, columns: usize, c: &[i16], r: &mut [i32]) -> u32
     requires { ⌜ Given shape rows columns (now c) (now r) ⌝ }
     ensures { λ n. ⌜ (n ≡ rails (planOf shape) (now (c .entry))) × (now (r .exit) ≡ inverseBlock (planOf shape) (now (c .entry))) ⌝ }
@@ -94,8 +100,6 @@ pub fn stages(shape: Shape, rows: usize, columns: usize, c: &[i16], r: &mut [i32
     if is_small(shape) {
         return small(shape, h, w, c, r);
     }
-    let rows = least(rows, 16);
-    let columns = least(columns, 16);
     if 128 < h * rows {
         return large(shape, rows, columns, c, r);
     }

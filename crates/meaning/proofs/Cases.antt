@@ -35,9 +35,11 @@ module _ (P : ℕ → Type 0) where
       (λ h. or-cases (eqb n 8) (eqb n 16 || eqb n 32) h (at-number n 8 p8)
       (λ h. or-cases (eqb n 16) (eqb n 32) h (at-number n 16 p16) (at-number n 32 p32)))
 
-  pub kind-cases : P 1 → P 2 → (kind : ℕ) → isKind kind ≡ true → P kind
+  pub kind-cases : P 1 → P 2 → P 0 → (kind : ℕ) → isKind kind ≡ true → P kind
   unfolding isKind
-  kind-cases p1 p2 kind h = or-cases (eqb kind 1) (eqb kind 2) h (at-number kind 1 p1) (at-number kind 2 p2)
+  kind-cases p1 p2 p0 kind h =
+      or-cases (eqb kind 1) (eqb kind 2 || eqb kind 0) h (at-number kind 1 p1)
+      (λ h. or-cases (eqb kind 2) (eqb kind 0) h (at-number kind 2 p2) (at-number kind 0 p0))
 
 pub depth-cases : (d : ℕ) → isDepth d ≡ true → (8 ≤ d) × (d ≤ 12)
 unfolding isDepth
@@ -45,11 +47,11 @@ depth-cases d h =
     let both = and-cases (leb 8 d) (leb d 12) h in
     (leb-true 8 d (both .0), leb-true d 12 (both .1))
 
--- both kinds at all four sizes
-pub line-cases : (P : ℕ → ℕ → Type 0) → P 1 4 → P 1 8 → P 1 16 → P 1 32 → P 2 4 → P 2 8 → P 2 16 → P 2 32
+-- all kinds at all four sizes
+pub line-cases : (P : ℕ → ℕ → Type 0) → P 1 4 → P 1 8 → P 1 16 → P 1 32 → P 2 4 → P 2 8 → P 2 16 → P 2 32 → P 0 4 → P 0 8 → P 0 16 → P 0 32
     → (kind n : ℕ) → isKind kind ≡ true → isSize n ≡ true → P kind n
-line-cases P s4 s8 s16 s32 c4 c8 c16 c32 kind n k s =
-    kind-cases (λ m. P m n) (size-cases (P 1) s4 s8 s16 s32 n s) (size-cases (P 2) c4 c8 c16 c32 n s) kind k
+line-cases P s4 s8 s16 s32 c4 c8 c16 c32 d4 d8 d16 d32 kind n k s =
+    kind-cases (λ m. P m n) (size-cases (P 1) s4 s8 s16 s32 n s) (size-cases (P 2) c4 c8 c16 c32 n s) (size-cases (P 0) d4 d8 d16 d32 n s) kind k
 
 -- no size is above 32
 pub size-in : (n : ℕ) → isSize n ≡ true → n ≤ 32

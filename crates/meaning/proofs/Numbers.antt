@@ -1,8 +1,9 @@
 -- "Numbers on both sides", those of lines and blocks: one table, `items`, and one theorem, `items-hold`. What each entry
--- says is `Says`. Items 5, 9 and 10, which are not marked P, stand in it too, with calls that tell the low end and the order of the lengths.
+-- says is `Says`. Items 5, 9 and 10, which are not marked P, stand in it too, with calls that tell the low end and the order of the
+-- lengths, and the numbers of kind 0.
 use mathlib.Core.Path.{_≡_, refl}
 use mathlib.Core.List.{List, [], _∷_}
-use Prim.Native.Nat.{ℕ, _*_}
+use Prim.Native.Nat.{ℕ, _+_, _*_, _/_}
 use lib.IntN.{ℤ, pos, negsuc}
 use lib.ListN.{length, replicate, set}
 use Rattle.algebra.specs.Sum.{sum, sumℕ}
@@ -10,20 +11,22 @@ use Rattle.algebra.specs.Lists.{at, tabulate, block}
 use Rattle.algebra.specs.First.{firstAt}
 use Rattle.meaning.specs.declared.Shape.{Shape}
 use Rattle.meaning.specs.declared.Answer.{Answer}
-use Rattle.meaning.specs.Weights.{first, fold, S, C, weight}
+use Rattle.meaning.specs.Weights.{first, fold, S, C, cosines, turn, dct2, weight}
 use Rattle.meaning.specs.Line.{forwardSum, inverseSum, forwardLine}
-use Rattle.meaning.specs.Shape.{isSize, isKind, isDepth, keptColumns, keptRows}
+use Rattle.meaning.specs.Shape.{isSize, isKind, isDepth, kept, keptColumns, keptRows}
 use Rattle.meaning.specs.Plan.{shortRange}
 use Rattle.meaning.specs.Answer.{Outcome, refused, accepted, forwardLineOutcome}
 use Rattle.meaning.specs.Inverse.{columnSum, rounded, middleAt, rails, rowSum, residual, inverseBlock, inverseOutcome}
 use Rattle.meaning.specs.Forward.{rowValue, columnValue, coefficient, forwardBlock, forwardOutcome}
-use Rattle.meaning.proofs.Sharing.{published4}
+use Rattle.meaning.proofs.Sharing.{published4, cosines4}
 
 pub data Item : Type 0 where
   -- a line of x gives y
   lineGives : ℕ → List ℤ → List ℤ → Item
   -- the weights of a kind at n points, row by row
   weights : ℕ → ℕ → List ℤ → Item
+  -- the first weights of the odd rows of kind 0 at n points
+  odds : ℕ → List ℤ → Item
   -- the middle rounding of e
   rounding : ℤ → ℤ → Item
   -- a forward block's first coefficient
@@ -51,6 +54,7 @@ front o = (o .0, at (o .1) 0)
 abbrev pub Says : Item → Type 0
 Says (lineGives kind x y) = forwardLineOutcome (length x) kind x (held (length x)) ≡ (accepted 0, y)
 Says (weights kind n t) = block n n (λ j i. weight kind n i j) ≡ t
+Says (odds n t) = tabulate (n / 2) (λ i. weight 0 n (2 * i + 1) 0) ≡ t
 Says (rounding e m) = rounded e ≡ m
 Says (starts sh r z) = front (forwardOutcome sh r (held (area sh))) ≡ (accepted 0, z)
 Says (counts sh c n) = inverseOutcome sh c (held (area sh)) .0 ≡ accepted n
@@ -60,9 +64,13 @@ Says (inverseRefused sh c out number place) = inverseOutcome sh c (held out) ≡
 Says (forwardRefused sh r out number place) = forwardOutcome sh r (held out) ≡ (refused number place, held out)
 
 -- ---- the calls
+abbrev pub mixed : ℕ → ℕ → ℕ → ℕ → ℕ → Shape
+mixed horizontal vertical width height depth =
+    record { width = width; height = height; horizontal = horizontal; vertical = vertical; depth = depth }
+
 -- kind 1 twice
 abbrev pub sized : ℕ → ℕ → ℕ → Shape
-sized width height depth = record { width = width; height = height; horizontal = 1; vertical = 1; depth = depth }
+sized = mixed 1 1
 
 abbrev pub all : ℕ → ℤ → List ℤ
 all n z = replicate n z
@@ -110,6 +118,20 @@ items =
     ∷ counts (sized 4 4 10) (column (pos 0) (negsuc 32766) (negsuc 21066) (pos 0)) 1
     -- both lengths wrong: the input's is told
     ∷ inverseRefused (sized 4 4 10) (all 15 (pos 0)) 15 6 0
+    -- kind 0: lines, H.266's weights, blocks, and what is kept of either direction
+    ∷ lineGives 0 (all 4 (pos 1)) (pos 256 ∷ pos 0 ∷ pos 0 ∷ pos 0 ∷ [])
+    ∷ weights 0 4 cosines4
+    ∷ odds 4 (pos 83 ∷ pos 36 ∷ [])
+    ∷ odds 8 (pos 89 ∷ pos 75 ∷ pos 50 ∷ pos 18 ∷ [])
+    ∷ odds 16 (pos 90 ∷ pos 87 ∷ pos 80 ∷ pos 70 ∷ pos 57 ∷ pos 43 ∷ pos 25 ∷ pos 9 ∷ [])
+    ∷ odds 32 (pos 90 ∷ pos 90 ∷ pos 88 ∷ pos 85 ∷ pos 82 ∷ pos 78 ∷ pos 73 ∷ pos 67 ∷ pos 61 ∷ pos 54 ∷ pos 46 ∷ pos 38 ∷ pos 31 ∷ pos 22 ∷ pos 13 ∷ pos 4 ∷ [])
+    ∷ gives (mixed 0 0 4 4 10) (alone 16 0 (pos 64)) 0 (all 16 (pos 2))
+    ∷ takes (mixed 0 0 32 32 10) (alone 1024 1023 (pos 1))
+    ∷ takes (mixed 0 1 32 32 10) (alone 1024 511 (pos 1))
+    ∷ inverseRefused (mixed 0 1 32 32 10) (alone 1024 512 (pos 1)) 1024 8 512
+    ∷ inverseRefused (mixed 2 0 32 32 10) (alone 1024 1008 (pos 1)) 1024 8 1008
+    ∷ inverseRefused (mixed 3 0 4 4 10) (all 16 (pos 0)) 16 3 0
+    ∷ inverseRefused (mixed 0 3 4 4 10) (all 16 (pos 0)) 16 4 0
     ∷ []
 
 -- what a list of items says, all of it
@@ -119,7 +141,8 @@ pub data Hold : List Item → Type 0 where
   _and_ : {i : Item} {is : List Item} → Says i → Hold is → Hold (i ∷ is)
 
 pub items-hold : Hold items
-unfolding sum sumℕ tabulate block firstAt first fold S C weight forwardSum inverseSum forwardLine isSize isKind isDepth keptColumns keptRows shortRange columnSum middleAt rails rowSum residual inverseBlock rowValue columnValue coefficient forwardBlock
+unfolding sum sumℕ tabulate block firstAt first fold S C cosines turn dct2 weight forwardSum inverseSum forwardLine isSize isKind isDepth kept keptColumns keptRows shortRange columnSum middleAt rails rowSum residual inverseBlock rowValue columnValue coefficient forwardBlock
 items-hold =
     refl and refl and refl and refl and refl and refl and refl and refl and refl and refl and refl and refl and refl
+    and refl and refl and refl and refl and refl and refl and refl and refl and refl and refl and refl and refl and refl
     and refl and refl and refl and refl and refl and refl and refl and refl and none

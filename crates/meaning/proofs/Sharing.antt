@@ -44,3 +44,11 @@ published4 =
 pub C4 : (i j : ℕ) → i < 4 → j < 4 → at published4 (i * 4 + j) ≡ C 4 i j
 unfolding C S fold first
 C4 = table-at 4 (C 4) published4 tt refl
+
+-- H.266's DCT-II at 4 points: "64 64 64 64 / 83 36 -36 -83 / 64 -64 -64 64 / 36 -83 83 -36"
+abbrev pub cosines4 : List ℤ
+cosines4 =
+    pos 64 ∷ pos 64 ∷ pos 64 ∷ pos 64 ∷
+    pos 83 ∷ pos 36 ∷ negsuc 35 ∷ negsuc 82 ∷
+    pos 64 ∷ negsuc 63 ∷ negsuc 63 ∷ pos 64 ∷
+    pos 36 ∷ negsuc 82 ∷ pos 83 ∷ negsuc 35 ∷ []

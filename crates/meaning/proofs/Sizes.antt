@@ -2,11 +2,11 @@
 -- so no sum of a line over inputs of size M is above 64 n M (`forwardSum-in`, `inverseSum-in`), and no partial sum, its first
 -- k terms, is (`forward-part`, `inverse-part`). Over 16-bit inputs each partial sum fits 32 bits (`forward-part-fits`, and
 -- `inverseSum-fits`, since an inverse sum is one over its first `count` inputs). "Biggest row sums of sizes: 242, 475, 935,
--- 1858" is `rowLargest`.
+-- 1858" is `rowLargest`; a row of kind 0 reaches 64 n, 2048 at 32 points.
 use mathlib.Core.Path.{_≡_, refl, subst}
 use mathlib.Core.Bool.{Bool, true, false, cond, _&&_}
 use mathlib.Core.List.{List, [], _∷_}
-use Prim.Native.Nat.{ℕ, zero, suc, _+_, _*_, _-_, _%_, _≤_, _<_, min, zero-le}
+use Prim.Native.Nat.{ℕ, zero, suc, _+_, _*_, _-_, _/_, _%_, _≤_, _<_, min, zero-le}
 use native.Mathlib.Nat.{le-refl, le-trans}
 use native.Mathlib.Omega.{arith}
 use lib.Dec.{T, eqb, leb, leb→le}
@@ -18,7 +18,7 @@ use Rattle.algebra.specs.Sum.{sum, sumℕ}
 use Rattle.algebra.proofs.Order.{abs-neg, within, fits-in}
 use Rattle.algebra.proofs.Sum.{sumℕ-le, abs-part}
 use Rattle.algebra.proofs.Table.{allTo, allTo-at, and-left, and-right}
-use Rattle.meaning.specs.Weights.{first, signed, fold, S, C, weight}
+use Rattle.meaning.specs.Weights.{first, signed, fold, S, C, cosines, turn, dct2, weight}
 use Rattle.meaning.specs.Line.{forwardSum, inverseSum}
 use Rattle.meaning.specs.Shape.{isSize, isKind}
 use Rattle.meaning.proofs.Cases.{line-cases, size-in, pick}
@@ -30,9 +30,16 @@ rowSize kind n i = sumℕ n (λ j. natAbs (weight kind n i j))
 abbrev pub columnSize : ℕ → ℕ → ℕ → ℕ → ℕ
 columnSize kind n count j = sumℕ count (λ i. natAbs (weight kind n i j))
 
--- "Biggest row sums of sizes: 242, 475, 935, 1858"
-abbrev pub largest : ℕ → ℕ
-largest n = cond (eqb n 4) 242 (cond (eqb n 8) 475 (cond (eqb n 16) 935 1858))
+-- "Biggest row sums of sizes: 242, 475, 935, 1858", and so of columns
+abbrev largestOf : ℕ → ℕ
+largestOf n = cond (eqb n 4) 242 (cond (eqb n 8) 475 (cond (eqb n 16) 935 1858))
+
+-- those of kind 0: row 0 has 64 at every place, and every column the same sizes in another order
+abbrev pub largestRow : ℕ → ℕ → ℕ
+largestRow kind n = cond (eqb kind 0) (64 * n) (largestOf n)
+
+abbrev pub largestColumn : ℕ → ℕ → ℕ
+largestColumn kind n = cond (eqb kind 0) (cond (eqb n 4) 247 (cond (eqb n 8) 479 (cond (eqb n 16) 940 1862))) (largestOf n)
 
 -- ---- every partial sum of a line, of any kind and any size, for weights of size at most W in all and inputs of size at most M
 module _ (kind n : ℕ) (x : ℕ → ℤ) (W M : ℕ) where
@@ -48,38 +55,50 @@ pub short : (n : ℕ) {z : ℕ} → isSize n ≡ true → z ≤ 64 * n * 32768 �
 short n s h = omega (arith, size-in n s)
 
 -- ---- one test of a kind and a size, carried to each row and column
-abbrev sizesTo : ℕ → ℕ → ℕ → Bool
-sizesTo bound kind n = allTo n (λ i. leb (rowSize kind n i) bound && leb (columnSize kind n n i) bound)
+abbrev sizesTo : ℕ → ℕ → ℕ → ℕ → Bool
+sizesTo rows columns kind n = allTo n (λ i. leb (rowSize kind n i) rows && leb (columnSize kind n n i) columns)
 
-record Sizes (bound kind n i : ℕ) : Type 0 where
-  row : rowSize kind n i ≤ bound
-  column : columnSize kind n n i ≤ bound
+record Sizes (rows columns kind n i : ℕ) : Type 0 where
+  row : rowSize kind n i ≤ rows
+  column : columnSize kind n n i ≤ columns
 
-sizes-at : (bound kind n : ℕ) → T (sizesTo bound kind n) → (i : ℕ) → i < n → Sizes bound kind n i
-sizes-at bound kind n t i h =
-    let row = leb (rowSize kind n i) bound in
-    let column = leb (columnSize kind n n i) bound in
-    let both = allTo-at n (λ i. leb (rowSize kind n i) bound && leb (columnSize kind n n i) bound) t i h in
+sizes-at : (rows columns kind n : ℕ) → T (sizesTo rows columns kind n) → (i : ℕ) → i < n → Sizes rows columns kind n i
+sizes-at rows columns kind n t i h =
+    let row = leb (rowSize kind n i) rows in
+    let column = leb (columnSize kind n n i) columns in
+    let both = allTo-at n (λ i. leb (rowSize kind n i) rows && leb (columnSize kind n n i) columns) t i h in
     record {
-      row = leb→le (rowSize kind n i) bound (and-left row column both);
-      column = leb→le (columnSize kind n n i) bound (and-right row column both);
+      row = leb→le (rowSize kind n i) rows (and-left row column both);
+      column = leb→le (columnSize kind n n i) columns (and-right row column both);
     }
 
 module _ (kind n : ℕ) (k : isKind kind ≡ true) (s : isSize n ≡ true) where
-  tested : T (sizesTo (64 * n) kind n)
-  unfolding sumℕ weight S C fold first
-  tested = line-cases (λ kind n. T (sizesTo (64 * n) kind n)) tt tt tt tt tt tt tt tt kind n k s
-
-  largest-tested : T (sizesTo (largest n) kind n)
-  unfolding sumℕ weight S C fold first
-  largest-tested = line-cases (λ kind n. T (sizesTo (largest n) kind n)) tt tt tt tt tt tt tt tt kind n k s
+  tested : T (sizesTo (largestRow kind n) (largestColumn kind n) kind n)
+  unfolding sumℕ weight S C dct2 fold first turn cosines
+  tested = line-cases (λ kind n. T (sizesTo (largestRow kind n) (largestColumn kind n) kind n)) tt tt tt tt tt tt tt tt tt tt tt tt kind n k s
 
   -- ---- of weights
+  -- no row and no column is larger, and the first row is as large
+  pub rowLargest : (i : ℕ) → i < n → rowSize kind n i ≤ largestRow kind n
+  rowLargest i h = sizes-at (largestRow kind n) (largestColumn kind n) kind n tested i h .row
+
+  pub columnLargest : (j : ℕ) → j < n → columnSize kind n n j ≤ largestColumn kind n
+  columnLargest j h = sizes-at (largestRow kind n) (largestColumn kind n) kind n tested j h .column
+
+  pub largestReached : rowSize kind n 0 ≡ largestRow kind n
+  unfolding sumℕ weight S C dct2 fold first turn cosines
+  largestReached = line-cases (λ kind n. rowSize kind n 0 ≡ largestRow kind n) refl refl refl refl refl refl refl refl refl refl refl refl kind n k s
+
+  inside : T (leb (largestRow kind n) (64 * n) && leb (largestColumn kind n) (64 * n))
+  inside = line-cases (λ kind n. T (leb (largestRow kind n) (64 * n) && leb (largestColumn kind n) (64 * n))) tt tt tt tt tt tt tt tt tt tt tt tt kind n k s
+
   pub rowSizes : (i : ℕ) → i < n → rowSize kind n i ≤ 64 * n
-  rowSizes i h = sizes-at (64 * n) kind n tested i h .row
+  rowSizes i h =
+      le-trans (rowLargest i h) (leb→le (largestRow kind n) (64 * n) (and-left (leb (largestRow kind n) (64 * n)) (leb (largestColumn kind n) (64 * n)) inside))
 
   pub columnSizes : (j : ℕ) → j < n → columnSize kind n n j ≤ 64 * n
-  columnSizes j h = sizes-at (64 * n) kind n tested j h .column
+  columnSizes j h =
+      le-trans (columnLargest j h) (leb→le (largestColumn kind n) (64 * n) (and-right (leb (largestRow kind n) (64 * n)) (leb (largestColumn kind n) (64 * n)) inside))
 
   -- of the first `count` rows
   kept : (count j : ℕ) → count ≤ n → columnSize kind n count j ≤ columnSize kind n n j
@@ -90,19 +109,8 @@ module _ (kind n : ℕ) (k : isKind kind ≡ true) (s : isSize n ≡ true) where
   pub columnSizesKept : (count j : ℕ) → count ≤ n → j < n → columnSize kind n count j ≤ 64 * n
   columnSizesKept count j c h = le-trans (kept count j c) (columnSizes j h)
 
-  -- no row and no column is larger, and the first row is as large
-  pub rowLargest : (i : ℕ) → i < n → rowSize kind n i ≤ largest n
-  rowLargest i h = sizes-at (largest n) kind n largest-tested i h .row
-
-  pub columnLargest : (j : ℕ) → j < n → columnSize kind n n j ≤ largest n
-  columnLargest j h = sizes-at (largest n) kind n largest-tested j h .column
-
-  pub columnLargestKept : (count j : ℕ) → count ≤ n → j < n → columnSize kind n count j ≤ largest n
+  pub columnLargestKept : (count j : ℕ) → count ≤ n → j < n → columnSize kind n count j ≤ largestColumn kind n
   columnLargestKept count j c h = le-trans (kept count j c) (columnLargest j h)
-
-  pub largestReached : rowSize kind n 0 ≡ largest n
-  unfolding sumℕ weight S C fold first
-  largestReached = line-cases (λ kind n. rowSize kind n 0 ≡ largest n) refl refl refl refl refl refl refl refl kind n k s
 
   -- ---- of sums: what inputs of size M give
   module _ (x : ℕ → ℤ) (M : ℕ) where
@@ -172,8 +180,18 @@ C-size : (n i j : ℕ) → natAbs (C n i j) ≤ 90
 unfolding C
 C-size n i j = rw abs-signed (S-size n i (n - 1 - j))
 
+turn-size : (m : ℕ) → natAbs (turn m) ≤ 90
+unfolding turn cosines
+turn-size m =
+    let k = min m (128 - m) in
+    rw abs-signed (all-low 90 cosines tt (min k (64 - k)))
+
+pub dct2-size : (n i j : ℕ) → natAbs (dct2 n i j) ≤ 90
+unfolding dct2
+dct2-size n i j = turn-size ((i * (2 * j + 1) * (32 / n)) % 128)
+
 pub weightSize : (kind n i j : ℕ) → natAbs (weight kind n i j) ≤ 90
 unfolding weight
 weightSize kind n i j =
     let Low : ℤ → Type 0 = λ z. natAbs z ≤ 90 in
-    pick Low (eqb kind 1) (S-size n i j) (pick Low (eqb kind 2) (C-size n i j) zero-le)
+    pick Low (eqb kind 1) (S-size n i j) (pick Low (eqb kind 2) (C-size n i j) (pick Low (eqb kind 0) (dct2-size n i j) zero-le))

@@ -29,6 +29,7 @@ use Rattle.meaning.specs.Taken.{Taken, Sized, NoneAbove}
 use Rattle.meaning.specs.Inverse.{columnSum, rounded, middleAt, rowSum, residual}
 use Rattle.meaning.specs.Forward.{log2, rowShift, columnShift, rowValue, columnValue, coefficient}
 use Rattle.meaning.proofs.Cases.{size-cases, size-in, depth-cases, pick}
+use Rattle.meaning.proofs.KeptPart.{kept-in}
 use Rattle.meaning.proofs.Sizes.{short, forwardSum-in, forwardSum-short, forward-part-fits}
 use Rattle.meaning.proofs.PlanSizes.{Around, down-sizes, along-sizes, column-part, columnSum-size, rounded-size, middle-within, middle-size, row-part, rowSum-size, residual-size}
 
@@ -36,11 +37,11 @@ use Rattle.meaning.proofs.PlanSizes.{Around, down-sizes, along-sizes, c
 module _ (sh : Shape) where
   pub columns-in : keptColumns sh ≤ sh .width
   unfolding keptColumns
-  columns-in = omega arith
+  columns-in = kept-in (sh .horizontal) (sh .width)
 
   pub rows-in : keptRows sh ≤ sh .height
   unfolding keptRows
-  rows-in = omega arith
+  rows-in = kept-in (sh .vertical) (sh .height)
 
   pub taken-sized : Taken sh → Sized (planOf sh)
   taken-sized t = record { width = t .width; height = t .height; horizontal = t .horizontal; vertical = t .vertical; columns = columns-in; rows = rows-in }

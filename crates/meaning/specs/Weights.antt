@@ -1,7 +1,7 @@
--- Document 01, "The weights": the first rows, the fold rule, and the two kinds.
+-- Document 01, "The weights": the first rows, the fold rule, and the kinds 1 and 2. Document 02, Wish 1: kind 0, "H.266's weights".
 use mathlib.Core.Bool.{Bool, true, false, cond}
 use mathlib.Core.List.{List, [], _∷_}
-use Prim.Native.Nat.{ℕ, _+_, _*_, _-_, _%_, min}
+use Prim.Native.Nat.{ℕ, _+_, _*_, _-_, _/_, _%_, min}
 use lib.Dec.{ltb, eqb}
 use lib.IntN.{ℤ, pos, negℤ}
 use lib.ListN.{getD}
@@ -33,6 +33,19 @@ S n i j = let l = 2 * n + 1 in fold l (first n) (((2 * i + 1) * (j + 1)) % (2 * 
 unfoldable pub C : ℕ → ℕ → ℕ → ℤ
 C n i j = signed (eqb (i % 2) 1) (S n i (n - 1 - j))
 
--- "1 (DST-VII) or 2 (DCT-VIII)"
+-- H.266's DCT-II of 32 points as one list: c m stands at place m, m = 0 .. 32, a quarter of a turn
+unfoldable pub cosines : List ℕ
+cosines =
+    64 ∷ 90 ∷ 90 ∷ 90 ∷ 89 ∷ 88 ∷ 87 ∷ 85 ∷ 83 ∷ 82 ∷ 80 ∷ 78 ∷ 75 ∷ 73 ∷ 70 ∷ 67 ∷ 64 ∷ 61 ∷ 57 ∷ 54 ∷ 50 ∷ 46 ∷ 43 ∷ 38 ∷ 36 ∷ 31 ∷ 25 ∷ 22 ∷ 18 ∷ 13 ∷ 9 ∷ 4 ∷ 0 ∷ []
+
+-- the rest of the turn: m above 64 counts as 128-m; then above 32 minus, and the index 64-m
+unfoldable pub turn : ℕ → ℤ
+turn m = let k = min m (128 - m) in signed (ltb 32 k) (pos (getD cosines (min k (64 - k)) 0))
+
+-- DCT-II of n points: m = i*(2j+1)*(32/n) modulo 128, so that row 0 is c 0 at every place
+unfoldable pub dct2 : ℕ → ℕ → ℕ → ℤ
+dct2 n i j = turn ((i * (2 * j + 1) * (32 / n)) % 128)
+
+-- "1 (DST-VII) or 2 (DCT-VIII)", and 0 (DCT-II)
 unfoldable pub weight : ℕ → ℕ → ℕ → ℕ → ℤ
-weight kind n i j = cond (eqb kind 1) (S n i j) (cond (eqb kind 2) (C n i j) (pos 0))
+weight kind n i j = cond (eqb kind 1) (S n i j) (cond (eqb kind 2) (C n i j) (cond (eqb kind 0) (dct2 n i j) (pos 0)))

@@ -5,7 +5,7 @@
 ghost use mathlib.Core.Path.{_≡_};
 ghost use Prim.Native.Nat.{min};
 ghost use Rattle.algebra.specs.Refusals.{numberOf};
-ghost use Rattle.meaning.specs.Shape.{isSize, isKind, isDepth, keptColumns, keptRows};
+ghost use Rattle.meaning.specs.Shape.{isSize, isKind, isDepth, kept, keptColumns, keptRows};
 ghost use Rattle.meaning.specs.Answer.{shapeTests};
 
 /// What a block is: its sides, a kind for each direction, and its bit depth. Any numbers.
@@ -83,7 +83,10 @@ pub fn is_kind(kind: u32) -> bool
     if kind == 1 {
         return true;
     }
-    kind == 2
+    if kind == 2 {
+        return true;
+    }
+    kind == 0
 }
 
 pub fn is_depth(d: u32) -> bool
@@ -95,21 +98,30 @@ pub fn is_depth(d: u32) -> bool
     d <= 12
 }
 
-// "the first min(w,16), .. the first min(h,16)"
-fn kept(n: u32) -> usize
-    ensures { λ r. ⌜ r ≡ min n 16 ⌝ }
+fn least(n: u32, most: u32) -> usize
+    ensures { λ r. ⌜ r ≡ min n most ⌝ }
 {
-    if n < 16 { n as usize } else { 16 }
+    if n < most { n as usize } else { most as usize }
+}
+
+// "the first min(w,16), .. the first min(h,16)", and "All 32 .. in a direction of kind 0"
+fn kept_of(kind: u32, n: u32) -> usize
+    ensures { λ r. ⌜ r ≡ kept kind n ⌝ }
+{
+    if kind == 0 {
+        return least(n, 32);
+    }
+    least(n, 16)
 }
 
 pub fn kept_columns(shape: Shape) -> usize
     ensures { λ r. ⌜ r ≡ keptColumns shape ⌝ }
 {
-    kept(shape.width)
+    kept_of(shape.horizontal, shape.width)
 }
 
 pub fn kept_rows(shape: Shape) -> usize
     ensures { λ r. ⌜ r ≡ keptRows shape ⌝ }
 {
-    kept(shape.height)
+    kept_of(shape.vertical, shape.height)
 }

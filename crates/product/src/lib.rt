@@ -81,7 +81,7 @@ fn total(s: &[i32; 16], pairs: usize) -> i32
 }
 
 // As many outputs as `out` has room for.
-fn line(
+pub fn line(
     pairs: usize,
     apart: usize,
     a: &[i16],

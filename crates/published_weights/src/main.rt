@@ -17,7 +17,22 @@ fn report(source: &[u8], agreed: usize, of: usize) {
 fn compare(source: &[u8], kind: u32, n: u32, published: &[i32])
     requires { ⌜ (0 < n) × (length (now published) ≤ 1024) ⌝ }
 {
-    report(source, agreeing(kind, n, published), published.len());
+    report(
+        source,
+        agreeing(kind, n, false, n, published),
+        published.len(),
+    );
+}
+
+// The first `columns` weights of each odd row of kind 0.
+fn compare_odd(source: &[u8], n: u32, columns: u32, published: &[i32])
+    requires { ⌜ (0 < columns) × (length (now published) ≤ 1024) ⌝ }
+{
+    report(
+        source,
+        agreeing(0, n, true, columns, published),
+        published.len(),
+    );
 }
 
 fn document_01() {
@@ -85,6 +100,51 @@ fn decoder_dct() {
     );
 }
 
+fn matrices() {
+    let d4 = numbers::DCT_4;
+    compare(b"H.266, DCT-II of 4 points", 0, 4, &d4);
+    let d8 = numbers::DCT_8;
+    compare(b"H.266, DCT-II of 8 points", 0, 8, &d8);
+    let d16 = numbers::DCT_16;
+    compare_odd(
+        b"H.266, DCT-II of 16 points, first half of the odd rows",
+        16,
+        8,
+        &d16,
+    );
+}
+
+fn odd_rows() {
+    let o4 = numbers::ODD_4;
+    compare_odd(
+        b"H.266, DCT-II of 4 points, odd rows' first weights",
+        4,
+        1,
+        &o4,
+    );
+    let o8 = numbers::ODD_8;
+    compare_odd(
+        b"H.266, DCT-II of 8 points, odd rows' first weights",
+        8,
+        1,
+        &o8,
+    );
+    let o16 = numbers::ODD_16;
+    compare_odd(
+        b"H.266, DCT-II of 16 points, odd rows' first weights",
+        16,
+        1,
+        &o16,
+    );
+    let o32 = numbers::ODD_32;
+    compare_odd(
+        b"H.266, DCT-II of 32 points, odd rows' first weights",
+        32,
+        1,
+        &o32,
+    );
+}
+
 fn document_004() {
     let s16 = numbers::FIRST_16;
     compare(
@@ -111,6 +171,8 @@ fn main() {
     document_01();
     decoder_dst();
     decoder_dct();
+    matrices();
+    odd_rows();
     document_004();
     report(
         b"document 000, equation 1, letters of all rows of 16 points",

@@ -214,16 +214,203 @@ pub const EQUATION_12: [i32; 32] = [
     90,
 ];
 
-// How many of the weights, row by row from the first row of n points on, are the library's.
-pub fn agreeing(kind: u32, n: u32, published: &[i32]) -> usize
-    requires { ⌜ (0 < n) × (length (now published) ≤ 1024) ⌝ }
+// H.266, clause 8.7.4: the DCT-II matrices of 4 and of 8 points, the first half of the odd rows of 16 points, and the first
+// weights of the odd rows of 4, 8, 16 and 32 points.
+pub const DCT_4: [i32; 16] = [
+    64,
+    64,
+    64,
+    64,
+    83,
+    36,
+    -36,
+    -83,
+    64,
+    -64,
+    -64,
+    64,
+    36,
+    -83,
+    83,
+    -36,
+];
+
+pub const DCT_8: [i32; 64] = [
+    64,
+    64,
+    64,
+    64,
+    64,
+    64,
+    64,
+    64,
+    89,
+    75,
+    50,
+    18,
+    -18,
+    -50,
+    -75,
+    -89,
+    83,
+    36,
+    -36,
+    -83,
+    -83,
+    -36,
+    36,
+    83,
+    75,
+    -18,
+    -89,
+    -50,
+    50,
+    89,
+    18,
+    -75,
+    64,
+    -64,
+    -64,
+    64,
+    64,
+    -64,
+    -64,
+    64,
+    50,
+    -89,
+    18,
+    75,
+    -75,
+    -18,
+    89,
+    -50,
+    36,
+    -83,
+    83,
+    -36,
+    -36,
+    83,
+    -83,
+    36,
+    18,
+    -50,
+    75,
+    -89,
+    89,
+    -75,
+    50,
+    -18,
+];
+
+pub const DCT_16: [i32; 64] = [
+    90,
+    87,
+    80,
+    70,
+    57,
+    43,
+    25,
+    9,
+    87,
+    57,
+    9,
+    -43,
+    -80,
+    -90,
+    -70,
+    -25,
+    80,
+    9,
+    -70,
+    -87,
+    -25,
+    57,
+    90,
+    43,
+    70,
+    -43,
+    -87,
+    9,
+    90,
+    25,
+    -80,
+    -57,
+    57,
+    -80,
+    -25,
+    90,
+    -9,
+    -87,
+    43,
+    70,
+    43,
+    -90,
+    57,
+    25,
+    -87,
+    70,
+    9,
+    -80,
+    25,
+    -70,
+    90,
+    -80,
+    43,
+    9,
+    -57,
+    87,
+    9,
+    -25,
+    43,
+    -57,
+    70,
+    -80,
+    87,
+    -90,
+];
+
+pub const ODD_4: [i32; 2] = [83, 36];
+
+pub const ODD_8: [i32; 4] = [89, 75, 50, 18];
+
+pub const ODD_16: [i32; 8] = [90, 87, 80, 70, 57, 43, 25, 9];
+
+pub const ODD_32: [i32; 16] = [
+    90,
+    90,
+    88,
+    85,
+    82,
+    78,
+    73,
+    67,
+    61,
+    54,
+    46,
+    38,
+    31,
+    22,
+    13,
+    4,
+];
+
+// Row k of all rows, or of the odd ones.
+fn row(odd: bool, k: u32) -> u32
+    requires { ⌜ k ≤ 1024 ⌝ }
+{
+    if odd { 2 * k + 1 } else { k }
+}
+
+// How many of the weights, row by row and the first `columns` of each, are the library's.
+pub fn agreeing(kind: u32, n: u32, odd: bool, columns: u32, published: &[i32]) -> usize
+    requires { ⌜ (0 < columns) × (length (now published) ≤ 1024) ⌝ }
     ensures { λ r. ⌜ r ≤ length (now (published .entry)) ⌝ }
 {
     let mut good: usize = 0;
     let mut k: usize = 0;
     while k < published.len() {
         let at = k as u32;
-        if weight(kind, n, at / n, at % n) == published[k] {
+        if weight(kind, n, row(odd, at / columns), at % columns) == published[k] {
             good += 1;
         }
         k += 1;

@@ -21,6 +21,7 @@ use Rattle.meaning.specs.Plan.{planOf}
 use Rattle.meaning.specs.Answer.{outcome, test, accepted}
 use Rattle.meaning.specs.Inverse.{outside, firstOutside, rails, inverseBlock}
 use Rattle.meaning.specs.Forward.{firstTooLarge, forwardBlock}
+use Rattle.meaning.proofs.KeptPart.{kept-all}
 use Rattle.transform.specs.Small.{smallShape, zeros, smallForward, smallInverse}
 
 -- 3, 4 and 5
@@ -35,7 +36,7 @@ kept h v d k z l =
     let p : k < 4 * 4 = omega arith in
     let x : ltb (k % 4) 4 ≡ true = lt-ltb (k % 4) 4 (mod-lt k some) in
     let y : ltb (k / 4) 4 ≡ true = lt-ltb (k / 4) 4 (div-lt-iff-lt-mul some .1 p) in
-    rw (x, y) (and-false (not (eqb (natAbs z) 0)))
+    rw (kept-all h 4 (omega arith), kept-all v 4 (omega arith), x, y) (and-false (not (eqb (natAbs z) 0)))
   where
     and-false : (b : Bool) → b && false ≡ false
     and-false true = refl

@@ -22,4 +22,4 @@ weightOrZero kind n i j = cond (isPlace kind n i j) (weight kind n i j) (pos 0)
 
 -- forwardLineOutcome or inverseLineOutcome
 abbrev pub lineOutcome : Bool → ℕ → ℕ → List ℤ → List ℤ → Outcome
-lineOutcome forward n kind x y = outcome (lineTests n kind (length x) (length y)) y (accepted 0, lineOf forward kind n n (at x))
+lineOutcome forward n kind x y = outcome (lineTests n kind (length x) (length y)) y (accepted 0, lineOf forward kind n (at x))

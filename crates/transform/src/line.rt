@@ -3,23 +3,18 @@
 use crate::check::acceptance;
 use crate::check::line_refusal;
 use crate::check::refusal;
-use engine::full::entry;
-use engine::full::product;
+use engine::entry;
+use engine::full;
 use meaning::Answer;
 use meaning::is_kind;
 use meaning::is_size;
-use tables::weights_4;
-use tables::weights_8;
-use tables::weights_16;
-use tables::weights_32;
 ghost use mathlib.Core.Path.{_≡_};
 ghost use mathlib.Core.Bool.{true, false};
 ghost use lib.ListN.{length};
 ghost use Rattle.algebra.specs.Lists.{at};
 ghost use Rattle.algebra.specs.Refusals.{numberOf};
-ghost use Rattle.meaning.specs.Weights.{weight};
 ghost use Rattle.meaning.specs.Answer.{Outcome, lineTests, forwardLineOutcome, inverseLineOutcome};
-ghost use Rattle.engine.specs.Lines.{Given, lineOf};
+ghost use Rattle.engine.specs.Lines.{lineOf};
 ghost use Rattle.transform.specs.Line.{isPlace, weightOrZero, lineOutcome};
 
 fn is_place(kind: u32, n: u32, i: u32, j: u32) -> bool
@@ -37,27 +32,6 @@ fn is_place(kind: u32, n: u32, i: u32, j: u32) -> bool
     j < n
 }
 
-// The weight from the one table of n points.
-fn known_weight(kind: u32, n: u32, i: u32, j: u32) -> i32
-    requires { ⌜ isPlace kind n i j ≡ true ⌝ }
-    ensures { λ r. ⌜ r ≡ weight kind n i j ⌝ }
-{
-    if n == 4 {
-        let t = weights_4();
-        return entry(&t, 4, kind, i as usize, j as usize);
-    }
-    if n == 8 {
-        let t = weights_8();
-        return entry(&t, 8, kind, i as usize, j as usize);
-    }
-    if n == 16 {
-        let t = weights_16();
-        return entry(&t, 16, kind, i as usize, j as usize);
-    }
-    let t = weights_32();
-    entry(&t, 32, kind, i as usize, j as usize)
-}
-
 /// The weight in row i and column j of the matrix of n points; 0 where there is no such kind, size, row or column.
 pub fn weight(kind: u32, n: u32, i: u32, j: u32) -> i32
     ensures { λ r. ⌜ r ≡ weightOrZero kind n i j ⌝ }
@@ -65,62 +39,32 @@ pub fn weight(kind: u32, n: u32, i: u32, j: u32) -> i32
     if !is_place(kind, n, i, j) {
         return 0;
     }
-    known_weight(kind, n, i, j)
+    entry(n as usize, kind, i as usize, j as usize)
 }
 
-// All n inputs, on a table lent to it.
-fn run(t: &[i16], n: usize, kind: u32, forward: bool, x: &[i16], y: &mut [i32])
-    requires { ⌜ Given n kind forward n 0 1 (now t) (now x) (now y) ⌝ }
-    ensures { λ _. ⌜ now (y .exit) ≡ lineOf forward kind n n (at (now (x .entry))) ⌝ }
-{
-    product(t, n, kind, forward, x, 0, 1, n, y);
-}
-
-// A line that was accepted, by the full product: the one table of its size is lent to it.
-fn product_line(n: u32, kind: u32, forward: bool, x: &[i16], y: &mut [i32])
+// A line that was accepted, by its folds, or of kind 0 by its halves. At 8 points of the other kinds nothing is shared, and the
+// product is the only path. The directions are apart, so that neither has the other's numbers on its stack.
+fn fast_forward(n: u32, kind: u32, x: &[i16], y: &mut [i32])
     requires { ⌜ numberOf (lineTests n kind (length (now x)) (length (now y))) ≡ 0 ⌝ }
-    ensures { λ _. ⌜ now (y .exit) ≡ lineOf forward kind n n (at (now (x .entry))) ⌝ }
+    ensures { λ _. ⌜ now (y .exit) ≡ lineOf true kind n (at (now (x .entry))) ⌝ }
 {
-    if n == 4 {
-        let t = weights_4();
-        run(&t, 4, kind, forward, x, y);
-        return;
-    }
-    if n == 8 {
-        let t = weights_8();
-        run(&t, 8, kind, forward, x, y);
-        return;
-    }
-    if n == 16 {
-        let t = weights_16();
-        run(&t, 16, kind, forward, x, y);
-        return;
-    }
-    let t = weights_32();
-    run(&t, 32, kind, forward, x, y);
-}
-
-// A line that was accepted, by its folds. At 8 points nothing is shared, and the product is the only path. The directions are
-// apart, so that neither has the other's numbers on its stack, nor the larger tables.
-fn folded_forward(n: u32, kind: u32, x: &[i16], y: &mut [i32])
-    requires { ⌜ numberOf (lineTests n kind (length (now x)) (length (now y))) ≡ 0 ⌝ }
-    ensures { λ _. ⌜ now (y .exit) ≡ lineOf true kind n n (at (now (x .entry))) ⌝ }
-{
-    if n == 8 {
-        let t = weights_8();
-        run(&t, 8, kind, true, x, y);
+    if kind == 0 {
+        halves::forward::forward(n as usize, x, y);
+    } else if n == 8 {
+        full(8, kind, true, x, y);
     } else {
         folded::forward::forward(n as usize, kind, x, y);
     }
 }
 
-fn folded_inverse(n: u32, kind: u32, x: &[i16], y: &mut [i32])
+fn fast_inverse(n: u32, kind: u32, x: &[i16], y: &mut [i32])
     requires { ⌜ numberOf (lineTests n kind (length (now x)) (length (now y))) ≡ 0 ⌝ }
-    ensures { λ _. ⌜ now (y .exit) ≡ lineOf false kind n n (at (now (x .entry))) ⌝ }
+    ensures { λ _. ⌜ now (y .exit) ≡ lineOf false kind n (at (now (x .entry))) ⌝ }
 {
-    if n == 8 {
-        let t = weights_8();
-        run(&t, 8, kind, false, x, y);
+    if kind == 0 {
+        halves::inverse::inverse(n as usize, x, y);
+    } else if n == 8 {
+        full(8, kind, false, x, y);
     } else {
         folded::inverse::inverse(n as usize, kind, x, y);
     }
@@ -134,7 +78,7 @@ fn total(n: u32, kind: u32, forward: bool, x: &[i16], y: &mut [i32]) -> Answer
     if number != 0 {
         return refusal(number, 0);
     }
-    product_line(n, kind, forward, x, y);
+    full(n as usize, kind, forward, x, y);
     acceptance(0)
 }
 
@@ -146,7 +90,7 @@ pub fn forward(n: u32, kind: u32, x: &[i16], y: &mut [i32]) -> Answer
     if refused != 0 {
         return refusal(refused, 0);
     }
-    folded_forward(n, kind, x, y);
+    fast_forward(n, kind, x, y);
     acceptance(0)
 }
 
@@ -165,7 +109,7 @@ pub fn inverse(n: u32, kind: u32, x: &[i16], y: &mut [i32]) -> Answer
     if refused != 0 {
         return refusal(refused, 0);
     }
-    folded_inverse(n, kind, x, y);
+    fast_inverse(n, kind, x, y);
     acceptance(0)
 }
 

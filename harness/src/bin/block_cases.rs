@@ -11,6 +11,19 @@ const MARKS: [i64; 2] = [1234, -4321];
 
 const SIDES: [i64; 4] = [4, 8, 16, 32];
 
+/// Every pair of kinds.
+const PAIRS: [[i64; 2]; 9] = [
+    [0, 0],
+    [0, 1],
+    [0, 2],
+    [1, 0],
+    [1, 1],
+    [1, 2],
+    [2, 0],
+    [2, 1],
+    [2, 2],
+];
+
 #[derive(Clone, Copy)]
 enum Direction {
     Inverse,
@@ -35,12 +48,12 @@ impl Direction {
     }
 }
 
-/// The two numbers by turns in each row and column of the first `kept`, and 0 elsewhere.
-fn filled(width: i64, kept: usize, turns: [i64; 2]) -> Vec<i64> {
-    let width = width as usize;
+/// The two numbers by turns in each of the first columns and rows, and 0 elsewhere.
+fn filled(width: i64, [columns, rows]: [i64; 2], turns: [i64; 2]) -> Vec<i64> {
+    let (width, columns, rows) = (width as usize, columns as usize, rows as usize);
     let number = |place| {
         let (x, y) = (place % width, place / width);
-        if x < kept && y < kept {
+        if x < columns && y < rows {
             turns[(x + y) % 2]
         } else {
             0
@@ -96,6 +109,9 @@ const ITEM_9: &[Row] = &[([32, 4, 1, 1, 8], [128, 128], [15, 16])];
 
 const ITEM_10: &[Row] = &[([5, 4, 0, 0, 7], [20, 20], [0, 0])];
 
+/// A first coefficient alone, of kind 0 twice.
+const FLAT: &[Row] = &[([4, 4, 0, 0, 10], [16, 16], [0, 1])];
+
 /// 1 to 7: one thing is wrong in each.
 const ALONE: &[Row] = &[
     ([5, 4, 1, 1, 8], [20, 20], [0, 0]),
@@ -103,9 +119,9 @@ const ALONE: &[Row] = &[
     ([4294967295, 4, 1, 1, 8], [16, 16], [0, 0]),
     ([4, 2, 1, 1, 8], [8, 8], [0, 0]),
     ([4, 64, 1, 1, 8], [256, 256], [0, 0]),
-    ([4, 4, 0, 1, 8], [16, 16], [0, 0]),
+    ([4, 4, 4, 1, 8], [16, 16], [0, 0]),
     ([4, 4, 3, 1, 8], [16, 16], [0, 0]),
-    ([4, 4, 1, 0, 8], [16, 16], [0, 0]),
+    ([4, 4, 1, 4, 8], [16, 16], [0, 0]),
     ([4, 4, 1, 3, 8], [16, 16], [0, 0]),
     ([4, 4, 1, 1, 7], [16, 16], [0, 0]),
     ([4, 4, 1, 1, 13], [16, 16], [0, 0]),
@@ -117,9 +133,9 @@ const ALONE: &[Row] = &[
 
 /// Everything is wrong, then all but the width, and so on.
 const ORDER: &[Row] = &[
-    ([5, 5, 0, 3, 13], [17, 18], [16, 16]),
-    ([32, 5, 0, 3, 13], [17, 18], [16, 16]),
-    ([32, 4, 0, 3, 13], [17, 18], [16, 16]),
+    ([5, 5, 4, 3, 13], [17, 18], [16, 16]),
+    ([32, 5, 4, 3, 13], [17, 18], [16, 16]),
+    ([32, 4, 4, 3, 13], [17, 18], [16, 16]),
     ([32, 4, 1, 3, 13], [17, 18], [16, 16]),
     ([32, 4, 1, 2, 13], [17, 18], [16, 16]),
     ([32, 4, 1, 2, 12], [17, 18], [16, 16]),
@@ -138,6 +154,11 @@ const OUTSIDE: &[Row] = &[
     ([32, 32, 1, 2, 10], [1024, 1024], [512, 496]),
     ([32, 32, 1, 2, 10], [1024, 1024], [1023, 495]),
     ([32, 32, 1, 2, 10], [1024, 1024], [495, 0]),
+    ([32, 32, 0, 2, 10], [1024, 1024], [1023, 512]),
+    ([32, 32, 0, 2, 10], [1024, 1024], [511, 0]),
+    ([32, 32, 1, 0, 10], [1024, 1024], [1008, 31]),
+    ([32, 32, 1, 0, 10], [1024, 1024], [1007, 0]),
+    ([32, 32, 0, 0, 10], [1024, 1024], [1023, 512]),
 ];
 
 /// The places of 9.
@@ -160,6 +181,7 @@ fn items() {
         rows(Inverse, 32767, n, ITEM_7);
     }
     rows(Inverse, 64, 0, ITEM_8);
+    rows(Inverse, 64, 0, FLAT);
     rows(Inverse, 1000, 0, ITEM_9);
     rows(Inverse, 0, 1000, ITEM_9);
     rows(Inverse, 0, 0, ITEM_10);
@@ -185,25 +207,31 @@ fn too_large() {
     }
 }
 
-/// All high, all low, and by turns.
-fn blocks(direction: Direction, sides: Sides, kept: usize, [low, high]: [i64; 2]) {
-    let area = (sides[0] * sides[1]) as usize;
+/// All high, all low, and by turns, in every place that counts.
+fn blocks(direction: Direction, sides: Sides, [low, high]: [i64; 2]) {
+    let [w, h, x, y, depth] = sides;
+    let area = (w * h) as usize;
+    let shape = Shape::new(w, h, x, y, depth);
+    let counts = match direction {
+        Inverse => [shape.kept_columns(), shape.kept_rows()],
+        Forward => [w, h],
+    };
     let every = [
         ("high", [high, high]),
         ("low", [low, low]),
         ("by turns", [high, low]),
     ];
     for (what, turns) in every {
-        let block = filled(sides[0], kept, turns);
+        let block = filled(w, counts, turns);
         line(direction, sides, what, &block, [area, area]);
     }
 }
 
 /// Every width, height and pair of kinds.
-fn shapes(direction: Direction, depth: i64, kept: usize, ends: [i64; 2]) {
+fn shapes(direction: Direction, depth: i64, ends: [i64; 2]) {
     for [w, h] in SIDES.into_iter().flat_map(|w| SIDES.map(|h| [w, h])) {
-        for [x, y] in [[1, 1], [1, 2], [2, 1], [2, 2]] {
-            blocks(direction, [w, h, x, y, depth], kept, ends);
+        for [x, y] in PAIRS {
+            blocks(direction, [w, h, x, y, depth], ends);
         }
     }
 }
@@ -251,11 +279,10 @@ fn by_value(direction: Direction, turns: [i64; 2], [horizontal, vertical, depth]
 
 /// Every pair of kinds at two depths, and one refusal each of 3, 4 and 5.
 fn all_by_value() {
-    let pairs = [[1, 1], [1, 2], [2, 1], [2, 2]];
     let taken = [8, 12]
         .into_iter()
-        .flat_map(|d| pairs.map(|[h, v]| [h, v, d]));
-    for numbers in taken.chain([[0, 3, 7], [1, 3, 7], [1, 2, 13]]) {
+        .flat_map(|d| PAIRS.map(|[h, v]| [h, v, d]));
+    for numbers in taken.chain([[4, 3, 7], [1, 3, 7], [1, 2, 13]]) {
         for turns in [[32767, -32768], [-32768, -32768], [64, -3]] {
             by_value(Inverse, turns, numbers);
         }
@@ -272,14 +299,14 @@ fn main() {
     refusals(Forward);
     too_large();
     let ends = [-32768, 32767];
-    blocks(Inverse, [4, 4, 1, 1, 10], 16, ends);
+    blocks(Inverse, [4, 4, 1, 1, 10], ends);
     for depth in [8, 12] {
-        shapes(Inverse, depth, 16, ends);
+        shapes(Inverse, depth, ends);
     }
-    blocks(Forward, [4, 4, 1, 1, 8], 32, [-256, 256]);
+    blocks(Forward, [4, 4, 1, 1, 8], [-256, 256]);
     for depth in 8..=12 {
         let largest = (1 << depth) - 1;
-        shapes(Forward, depth, 32, [-largest, largest]);
+        shapes(Forward, depth, [-largest, largest]);
     }
     all_by_value();
 }

@@ -10,6 +10,7 @@ use hoengtila_harness::random::{seed, Random, SEED_VARIABLE};
 use hoengtila_harness::wrong::{Wrong, NO_DEPTH, NO_KIND, NO_SIZE};
 
 const SIZES: [i64; 4] = [4, 8, 16, 32];
+const KINDS: [i64; 3] = [0, 1, 2];
 const SIXTEEN_BITS: [i64; 2] = [-32768, 32767];
 
 /// What the file needs of the definitions' own files.
@@ -20,9 +21,9 @@ use lib.IntN.{ℤ, pos, negsuc}
 use Rattle.algebra.specs.Sum.{sum, sumℕ}
 use Rattle.algebra.specs.Lists.{tabulate, block}
 use Rattle.algebra.specs.First.{firstAt}
-use Rattle.meaning.specs.Weights.{first, fold, S, C, weight}
+use Rattle.meaning.specs.Weights.{first, fold, S, C, cosines, turn, dct2, weight}
 use Rattle.meaning.specs.Line.{forwardSum, inverseSum, forwardLine, inverseLine}
-use Rattle.meaning.specs.Shape.{isSize, isKind, isDepth, keptColumns, keptRows}
+use Rattle.meaning.specs.Shape.{isSize, isKind, isDepth, kept, keptColumns, keptRows}
 use Rattle.meaning.specs.Plan.{shortRange}
 use Rattle.meaning.specs.Answer.{forwardLineOutcome, inverseLineOutcome}
 use Rattle.meaning.specs.Inverse.{columnSum, middle, middleAt, rails, rowSum, residual, inverseBlock, inverseOutcome}
@@ -30,11 +31,12 @@ use Rattle.meaning.specs.Forward.{rowValue, columnValue, coefficient, forwardBl
 ";
 
 /// The definitions that the checker opens only where a proof names them.
-const WEIGHTS: &str = "first fold S C weight tabulate block";
+const WEIGHTS: &str = "first fold S C cosines turn dct2 weight tabulate block";
 const MIDDLE: &str = "shortRange";
-const LINE: &str = "first fold S C weight sum tabulate isSize isKind \
+const LINE: &str = "first fold S C cosines turn dct2 weight sum tabulate isSize isKind \
     forwardSum inverseSum forwardLine inverseLine";
-const BLOCK: &str = "first fold S C weight sum sumℕ tabulate block firstAt isSize isKind isDepth keptColumns keptRows \
+const BLOCK: &str = "first fold S C cosines turn dct2 weight sum sumℕ tabulate block firstAt \
+    isSize isKind isDepth kept keptColumns keptRows \
     shortRange forwardSum inverseSum columnSum middleAt rails rowSum residual inverseBlock \
     rowValue columnValue coefficient forwardBlock";
 
@@ -218,7 +220,7 @@ fn held(random: &mut Random, count: usize) -> Vec<i64> {
 /// The k-th shape of its sides: kinds and depths take turns.
 fn shape_in_turn(k: usize, width: i64, height: i64) -> Shape {
     let k = k as i64;
-    Shape::new(width, height, 1 + k % 2, 1 + k / 2 % 2, 8 + k % 5)
+    Shape::new(width, height, k % 3, k / 3 % 3, 8 + k % 5)
 }
 
 /// Zero in every place that is not kept.
@@ -244,7 +246,7 @@ fn refused_line(t: &mut Theorems, direction: Direction, number: usize) {
     let random = &mut t.random;
     let wrong = Wrong::first(random, number);
     let n = wrong.pick(random, 1, &SIZES, &NO_SIZE);
-    let kind = wrong.pick(random, 3, &[1, 2], &NO_KIND);
+    let kind = wrong.pick(random, 3, &KINDS, &NO_KIND);
     let length = if n <= 64 { n.max(1) } else { 4 };
     let input = wrong.length(random, 6, length);
     let output = wrong.length(random, 7, length);
@@ -256,15 +258,16 @@ fn refused_line(t: &mut Theorems, direction: Direction, number: usize) {
 fn refused_block(t: &mut Theorems, direction: Direction, number: usize) {
     let random = &mut t.random;
     let wrong = Wrong::first(random, number);
-    // 8 needs a side with places outside the kept part
+    // 8 needs a side with places outside the kept part, so one of 32 that is not of kind 0
     let width = wrong.pick(random, 1, &[if number == 8 { 32 } else { 8 }, 4], &NO_SIZE);
     let tall = number == 8 && width < 32;
     let height = wrong.pick(random, 2, &[if tall { 32 } else { 4 }], &NO_SIZE);
+    let kinds = if number == 8 { &KINDS[1..] } else { &KINDS };
     let shape = Shape::new(
         width,
         height,
-        wrong.pick(random, 3, &[1, 2], &NO_KIND),
-        wrong.pick(random, 4, &[1, 2], &NO_KIND),
+        wrong.pick(random, 3, kinds, &NO_KIND),
+        wrong.pick(random, 4, kinds, &NO_KIND),
         wrong.pick(random, 5, &[8, 9, 10, 11, 12], &NO_DEPTH),
     );
     let area = if width.max(height) <= 64 {
@@ -290,7 +293,10 @@ fn lone_bad_number(t: &mut Theorems, direction: Direction, shape: &Shape) {
         Forward => t.random.below(area),
         Inverse => {
             clear_outside(shape, &mut input);
-            let outside = |&p: &usize| p as i64 % shape.width > 15 || p as i64 / shape.width > 15;
+            let outside = |&p: &usize| {
+                p as i64 % shape.width >= shape.kept_columns()
+                    || p as i64 / shape.width >= shape.kept_rows()
+            };
             let places: Vec<usize> = (0..area).filter(outside).collect();
             t.random.choose(&places)
         }
@@ -307,8 +313,9 @@ fn lone_bad_number(t: &mut Theorems, direction: Direction, shape: &Shape) {
 
 fn weights(t: &mut Theorems) {
     for n in SIZES {
-        weights_case(t, 1, n);
-        weights_case(t, 2, n);
+        for kind in KINDS {
+            weights_case(t, kind, n);
+        }
     }
 }
 
@@ -338,7 +345,7 @@ fn lines(t: &mut Theorems, direction: Direction) {
         for k in 0..count {
             let x = numbers(&mut t.random, n, SIXTEEN_BITS);
             let held = held(&mut t.random, n);
-            line_case(t, direction, n as i64, 1 + k % 2, &x, &held);
+            line_case(t, direction, n as i64, k % 3, &x, &held);
         }
     }
 }
@@ -403,8 +410,10 @@ fn refused_blocks(t: &mut Theorems, direction: Direction) {
             refused_block(t, direction, number);
         }
     }
-    for (k, (width, height)) in [(32, 4), (4, 32), (32, 8)].into_iter().enumerate() {
-        lone_bad_number(t, direction, &shape_in_turn(k, width, height));
+    // with places outside the kept part: a side of 32 that is not of kind 0
+    for (width, height, horizontal, vertical) in [(32, 4, 1, 0), (4, 32, 0, 2), (32, 8, 2, 1)] {
+        let shape = Shape::new(width, height, horizontal, vertical, 8 + vertical);
+        lone_bad_number(t, direction, &shape);
     }
 }
 

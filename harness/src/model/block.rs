@@ -177,8 +177,8 @@ mod tests {
         Shape::new(
             random.choose(&[4, 8, 16, 32]),
             random.choose(&[4, 8, 16, 32]),
-            random.between(1, 2),
-            random.between(1, 2),
+            random.between(0, 2),
+            random.between(0, 2),
             random.between(8, 12),
         )
     }
@@ -227,7 +227,7 @@ mod tests {
 
     #[test]
     fn shapes_are_refused_in_order() {
-        let mut numbers = [5, 5, 0, 3, 13];
+        let mut numbers = [5, 5, 4, 3, 13];
         let right = [4, 4, 1, 1, 8];
         for k in 0..5 {
             let [w, h, horizontal, vertical, d] = numbers;

@@ -28,12 +28,12 @@ impl Shape {
 
     /// "Kept columns are the first min(w,16)".
     pub fn kept_columns(&self) -> i64 {
-        self.width.min(16)
+        kept(self.horizontal, self.width)
     }
 
     /// "kept rows the first min(h,16)".
     pub fn kept_rows(&self) -> i64 {
-        self.height.min(16)
+        kept(self.vertical, self.height)
     }
 
     /// 1 to 5, the first that applies.
@@ -86,8 +86,18 @@ pub fn is_size(n: i64) -> bool {
     [4, 8, 16, 32].contains(&n)
 }
 
+/// "1 (DST-VII) or 2 (DCT-VIII)"; "3 and 4 accept 0".
 pub fn is_kind(kind: i64) -> bool {
-    kind == 1 || kind == 2
+    kind == 0 || kind == 1 || kind == 2
+}
+
+/// 16 at most, but "All 32 columns or rows are kept in a direction of kind 0".
+pub fn kept(kind: i64, n: i64) -> i64 {
+    if kind == 0 {
+        n
+    } else {
+        n.min(16)
+    }
 }
 
 pub fn is_depth(d: i64) -> bool {

@@ -48,7 +48,7 @@ fn refusal(n: i64, kind: i64, input: usize, output: usize) -> Option<Answer> {
 #[cfg(test)]
 mod tests {
     use super::*;
-    use crate::model::weights::{DCT_VIII, DST_VII};
+    use crate::model::weights::{DCT_II, DCT_VIII, DST_VII};
     use crate::random;
 
     /// The inverse is the forward line's weights the other way about: the sum of y * F(x) is the sum
@@ -57,7 +57,7 @@ mod tests {
     fn forward_and_inverse_are_transposes() {
         let mut random = random::seeded();
         for n in [4, 8, 16, 32] {
-            for kind in [DST_VII, DCT_VIII] {
+            for kind in [DCT_II, DST_VII, DCT_VIII] {
                 let x = random.numbers(n, -32768, 32767);
                 let y = random.numbers(n, -32768, 32767);
                 let dot =

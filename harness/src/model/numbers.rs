@@ -1,7 +1,7 @@
 //! "Numbers on both sides": the ten items and the whole case, one test for each item.
 
 use super::block::middle;
-use super::weights::{dct_viii, DCT_VIII, DST_VII};
+use super::weights::{dct_viii, DCT_II, DCT_VIII, DST_VII};
 use super::*;
 
 /// The shape of most items: 4x4, kind 1 twice.
@@ -111,4 +111,33 @@ fn item_10() {
         forward(&shape, &[0; 20], &mut [0; 20]),
         Answer::refused(1, 0)
     );
+}
+
+#[test]
+fn items_of_kind_0() {
+    assert_eq!(forward_line_of_ones(DCT_II), [256, 0, 0, 0]);
+
+    let mut coefficients = [0; 16];
+    coefficients[0] = 64;
+    let mut residuals = [0; 16];
+    let shape = Shape::new(4, 4, DCT_II, DCT_II, 10);
+    let answer = inverse(&shape, &coefficients, &mut residuals);
+    assert_eq!(answer, Answer::accepted(0));
+    assert_eq!(residuals, [2; 16]);
+}
+
+/// All 32 columns or rows are kept in a direction of kind 0, and 16 in one of another kind.
+#[test]
+fn kept_of_each_direction() {
+    let alone = |horizontal, vertical, place: usize| {
+        let mut coefficients = [0; 1024];
+        coefficients[place] = 1;
+        let shape = Shape::new(32, 32, horizontal, vertical, 10);
+        inverse(&shape, &coefficients, &mut [0; 1024])
+    };
+    assert_eq!(alone(DCT_II, DCT_II, 1023).number, 0);
+    assert_eq!(alone(DCT_II, DST_VII, 511).number, 0);
+    assert_eq!(alone(DCT_II, DST_VII, 512), Answer::refused(8, 512));
+    assert_eq!(alone(DCT_VIII, DCT_II, 1007).number, 0);
+    assert_eq!(alone(DCT_VIII, DCT_II, 1008), Answer::refused(8, 1008));
 }

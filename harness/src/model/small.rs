@@ -52,7 +52,7 @@ mod tests {
             block: [[0; 4]; 4],
         };
         assert_eq!(forward_4x4(block, 3, 0, 7), zeros(3));
-        assert_eq!(forward_4x4(block, 2, 0, 7), zeros(4));
+        assert_eq!(forward_4x4(block, 2, 3, 7), zeros(4));
         assert_eq!(inverse_4x4(block, 2, 1, 7), zeros(5));
         assert_eq!(forward_4x4(block, 2, 1, 8), zeros(9));
     }

@@ -1,5 +1,6 @@
-//! "The weights": the first rows, the fold rule, and the two kinds.
+//! "The weights": the first rows, the fold rule, and kinds 1 and 2; and H.266's DCT-II, kind 0.
 
+pub const DCT_II: i64 = 0;
 pub const DST_VII: i64 = 1;
 pub const DCT_VIII: i64 = 2;
 
@@ -38,9 +39,43 @@ pub fn dct_viii(n: usize, i: usize, j: usize) -> i64 {
     sign * dst_vii(n, i, n - 1 - j)
 }
 
+/// H.266's numbers of the DCT-II of `n` points: the first weights of its odd rows.
+fn odd_rows(n: usize) -> &'static [i64] {
+    match n {
+        2 => &[64],
+        4 => &[83, 36],
+        8 => &[89, 75, 50, 18],
+        16 => &[90, 87, 80, 70, 57, 43, 25, 9],
+        32 => &[
+            90, 90, 88, 85, 82, 78, 73, 67, 61, 54, 46, 38, 31, 22, 13, 4,
+        ],
+        _ => panic!("no DCT-II has {n} points"),
+    }
+}
+
+/// DCT-II by its halves: an even row is a row of half the points, and then the same backwards; in an odd row i the
+/// weight of column j is the number of the odd multiple i(2j+1) of a quarter turn over n, with the cosine's sign there.
+pub fn dct_ii(n: usize, i: usize, j: usize) -> i64 {
+    if n == 1 {
+        return 64;
+    }
+    if i % 2 == 0 {
+        return dct_ii(n / 2, i / 2, j.min(n - 1 - j));
+    }
+    let turn = i * (2 * j + 1) % (4 * n);
+    let near = turn.min(4 * n - turn);
+    let number = odd_rows(n)[near.min(2 * n - near) / 2];
+    if near > n {
+        -number
+    } else {
+        number
+    }
+}
+
 /// T[i][j] of a kind.
 pub fn weight(kind: i64, n: usize, i: usize, j: usize) -> i64 {
     match kind {
+        DCT_II => dct_ii(n, i, j),
         DST_VII => dst_vii(n, i, j),
         DCT_VIII => dct_viii(n, i, j),
         _ => panic!("{kind} is no kind"),
@@ -64,6 +99,31 @@ mod tests {
             for kind in [DST_VII, DCT_VIII] {
                 let found = (0..n).map(|i| row_size(kind, n, i)).max();
                 assert_eq!(found, Some(biggest), "kind {kind}, {n} points");
+            }
+        }
+    }
+
+    /// Row 0 of kind 0 has 64 at every place, and no row is larger.
+    #[test]
+    fn biggest_row_sums_of_kind_0() {
+        for n in SIZES {
+            let found = (0..n).map(|i| row_size(DCT_II, n, i)).max();
+            assert_eq!(found, Some(64 * n as i64), "{n} points");
+        }
+    }
+
+    /// "64 64 64 64 / 83 36 -36 -83 / 64 -64 -64 64 / 36 -83 83 -36"
+    #[test]
+    fn dct_ii_of_4_points() {
+        let wanted = [
+            [64, 64, 64, 64],
+            [83, 36, -36, -83],
+            [64, -64, -64, 64],
+            [36, -83, 83, -36],
+        ];
+        for (i, row) in wanted.iter().enumerate() {
+            for (j, weight) in row.iter().enumerate() {
+                assert_eq!(dct_ii(4, i, j), *weight, "row {i}, column {j}");
             }
         }
     }

@@ -6,7 +6,7 @@ use hoengtila_harness::patterns::{residual_ends, Ends, SIXTEEN_BITS};
 use hoengtila_harness::random::Random;
 
 pub const SIZES: [u32; 4] = [4, 8, 16, 32];
-pub const KINDS: [u32; 2] = [1, 2];
+pub const KINDS: [u32; 3] = [0, 1, 2];
 
 fn shorts(numbers: &[i64]) -> Vec<i16> {
     let short = |z: &i64| i16::try_from(*z).expect("a call takes numbers of 16 bits");
@@ -101,7 +101,7 @@ fn shapes_of_sides(width: u32, height: u32) -> Vec<Shape> {
     shapes
 }
 
-/// All 320 shapes.
+/// All 720 shapes.
 pub fn shapes() -> Vec<Shape> {
     let of_width = |w| SIZES.iter().flat_map(move |h| shapes_of_sides(w, *h));
     SIZES.into_iter().flat_map(of_width).collect()
@@ -110,6 +110,6 @@ pub fn shapes() -> Vec<Shape> {
 /// One shape for each pair of sides: kinds and depths take turns.
 pub fn shapes_in_turn() -> Vec<Shape> {
     let sides = SIZES.iter().flat_map(|w| SIZES.map(|h| (*w, h)));
-    let shape = |(k, (w, h))| shapes_of_sides(w, h)[7 * k % 20];
+    let shape = |(k, (w, h))| shapes_of_sides(w, h)[7 * k % 45];
     sides.enumerate().map(shape).collect()
 }

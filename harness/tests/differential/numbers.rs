@@ -54,10 +54,14 @@ fn rails(c: &mut Comparison, input: &[i16]) -> u32 {
 fn numbers_on_both_sides() {
     let mut comparison = Comparison::open("the scope's own numbers");
     let c = &mut comparison;
-    for (kind, sums) in [(1, [242, 74, 36, 16]), (2, [242, -74, 36, -16])] {
+    for (kind, sums) in [
+        (1, [242, 74, 36, 16]),
+        (2, [242, -74, 36, -16]),
+        (0, [256, 0, 0, 0]),
+    ] {
         for path in [Path::Forward, Path::ForwardProduct] {
             let line = What::Line { path, n: 4, kind };
-            assert_eq!(run(c, line, &[1; 4]).output, sums, "items 1 and 2");
+            assert_eq!(run(c, line, &[1; 4]).output, sums, "items 1 and 2, and kind 0");
         }
     }
 
@@ -92,6 +96,33 @@ fn numbers_on_both_sides() {
     assert_eq!(taken.answer.number, 0, "item 9");
     let outside = run(c, wide, &zeros_but(128, &[(16, 1)]));
     assert_eq!(outside, refused(8, 16, 128), "item 9");
+
+    let halves = |width, height, horizontal, vertical| {
+        What::Inverse(Shape {
+            width,
+            height,
+            horizontal,
+            vertical,
+            depth: 10,
+        })
+    };
+    let flat = run(c, halves(4, 4, 0, 0), &zeros_but(16, &[(0, 64)]));
+    assert_eq!(flat.output, [2; 16], "kind 0 twice");
+    for (kinds, place, kept) in [
+        ([0, 0], 1023, true),
+        ([0, 1], 511, true),
+        ([0, 1], 512, false),
+        ([2, 0], 1007, true),
+        ([2, 0], 1008, false),
+    ] {
+        let alone = zeros_but(1024, &[(place, 1)]);
+        let outcome = run(c, halves(32, 32, kinds[0], kinds[1]), &alone);
+        if kept {
+            assert_eq!(outcome.answer.number, 0, "kinds {kinds:?}");
+        } else {
+            assert_eq!(outcome, refused(8, place as u32, 1024), "kinds {kinds:?}");
+        }
+    }
 
     let mut several = shape(5, 4, 7);
     several.horizontal = 0;

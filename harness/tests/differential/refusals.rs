@@ -18,7 +18,7 @@ fn refused_lines() {
             let wrong = Wrong::among(bits);
             let random = &mut c.random;
             let n = wrong.pick(random, 1, &[4, 8, 16, 32], &NO_SIZE);
-            let kind = wrong.pick(random, 3, &[1, 2], &NO_KIND);
+            let kind = wrong.pick(random, 3, &[0, 1, 2], &NO_KIND);
             let right = if n <= 64 { n.max(1) } else { 4 };
             let input = wrong.length(random, 6, right);
             let output = wrong.length(random, 7, right);
@@ -50,8 +50,8 @@ fn call_with(random: &mut Random, direction: Direction, wrong: &Wrong) -> Call {
     let shape = Shape {
         width: wrong.pick(random, 1, &sizes, &NO_SIZE) as u32,
         height: wrong.pick(random, 2, &sizes, &NO_SIZE) as u32,
-        horizontal: wrong.pick(random, 3, &[1, 2], &NO_KIND) as u32,
-        vertical: wrong.pick(random, 4, &[1, 2], &NO_KIND) as u32,
+        horizontal: wrong.pick(random, 3, &[0, 1, 2], &NO_KIND) as u32,
+        vertical: wrong.pick(random, 4, &[0, 1, 2], &NO_KIND) as u32,
         depth: wrong.pick(random, 5, &[8, 9, 10, 11, 12], &NO_DEPTH) as u32,
     };
     // a length that the sides ask for, where the peer has room for twice as many numbers

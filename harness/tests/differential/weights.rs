@@ -27,6 +27,10 @@ fn weights() {
 /// The sine or cosine that a weight stands for, scaled as H.266 scales its tables.
 fn real_weight(kind: u32, n: u32, i: u32, j: u32) -> f64 {
     let (n, i, j) = (f64::from(n), f64::from(i), f64::from(j));
+    if kind == 0 {
+        let basis = (std::f64::consts::PI * i * (2.0 * j + 1.0) / (2.0 * n)).cos();
+        return 64.0 * if i == 0.0 { 1.0 } else { 2.0_f64.sqrt() } * basis;
+    }
     let turn = std::f64::consts::PI * (2.0 * i + 1.0) / (2.0 * n + 1.0);
     let basis = match kind {
         1 => (turn * (j + 1.0)).sin(),

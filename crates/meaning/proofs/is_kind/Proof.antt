@@ -5,15 +5,17 @@ use Rattle.meaning.proofs.is_kind.Tie as tie
 use Rattle.meaning.proofs.is_kind.Reads as reads
 use Rattle.meaning.proofs.is_kind.Lts as lts
 
--- src/lib.rt:81:9
 returns : tie.Need-returns
 unfolding isKind
 returns c = rw (eq-eqb _ _ (c .if1 .taken))
 
--- src/lib.rt:77:1
 returns-2 : tie.Need-returns-2
 unfolding isKind
-returns-2 c = rw (ne-eqb _ _ (c .if1 .left))
+returns-2 c = rw (ne-eqb _ _ (c .before .if1 .left), eq-eqb _ _ (c .if2 .taken))
+
+returns-3 : tie.Need-returns-3
+unfolding isKind
+returns-3 c = rw (ne-eqb _ _ (c .before .if1 .left), ne-eqb _ _ (c .if2 .left))
 
 pub is-kind-spec : {M : Type 1} → statement M
-is-kind-spec = tie.close (tie.spec returns returns-2)
+is-kind-spec = tie.close (tie.spec returns returns-2 returns-3)

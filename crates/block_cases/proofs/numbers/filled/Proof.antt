@@ -8,10 +8,10 @@ use Rattle.block_cases.proofs.numbers.filled.Statement.{statement}
 use Rattle.block_cases.proofs.numbers.filled.Tie as tie
 
 abbrev Inv-loop : tie.InvT-loop
-Inv-loop w kept even odd a₀ k₀ a k = 1024 ≡ length a
+Inv-loop w columns rows even odd a₀ k₀ a k = 1024 ≡ length a
 
 abbrev μ-loop : tie.MeasureT-loop
-μ-loop w kept even odd a₀ k₀ a k = 1024 - k
+μ-loop w columns rows even odd a₀ k₀ a k = 1024 - k
 
 zeros-requires : tie.Need-zeros-requires Inv-loop μ-loop
 zeros-requires c κs = search needs

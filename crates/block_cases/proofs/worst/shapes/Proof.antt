@@ -5,10 +5,10 @@ use Rattle.block_cases.proofs.worst.shapes.Statement.{statement}
 use Rattle.block_cases.proofs.worst.shapes.Tie as tie
 
 abbrev Inv-loop : tie.InvT-loop
-Inv-loop is-forward depth kept high low k₀ k = k ≤ 64
+Inv-loop is-forward depth high low k₀ k = k ≤ 144
 
 abbrev μ-loop : tie.MeasureT-loop
-μ-loop is-forward depth kept high low k₀ k = 64 - k
+μ-loop is-forward depth high low k₀ k = 144 - k
 
 loop-holds : tie.Need-loop-holds Inv-loop μ-loop
 loop-holds c = search needs
@@ -18,12 +18,6 @@ shl-new c = search needs
 
 shl-new-2 : tie.Need-shl-new-2 Inv-loop μ-loop
 shl-new-2 c = search needs
-
-add-new : tie.Need-add-new Inv-loop μ-loop
-add-new c = search needs
-
-add-new-2 : tie.Need-add-new-2 Inv-loop μ-loop
-add-new-2 c = search needs
 
 new-requires : tie.Need-new-requires Inv-loop μ-loop
 new-requires c κs = search needs
@@ -61,8 +55,6 @@ shapes-spec =
     loop-holds
     shl-new
     shl-new-2
-    add-new
-    add-new-2
     new-requires
     add-blocks
     cast-blocks

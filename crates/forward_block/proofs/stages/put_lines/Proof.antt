@@ -19,13 +19,13 @@ use Rattle.forward_block.proofs.stages.put_lines.Statement.{statement}
 use Rattle.forward_block.proofs.stages.put_lines.Tie as tie
 
 abbrev Inv-loop : tie.InvT-loop
-Inv-loop pairs a step gap b kept some wide shift out₀ half end e₀ y₀ out e y = (y ≤ some) × ((length e ≡ 32) × Stage kept wide y (lineValue pairs a step gap b kept shift) out out₀)
+Inv-loop pairs a step gap b apart kept some wide shift out₀ half end e₀ y₀ out e y = (y ≤ some) × ((length e ≡ 32) × Stage kept wide y (lineValue pairs a step gap b apart shift) out out₀)
 
 abbrev μ-loop : tie.MeasureT-loop
-μ-loop pairs a step gap b kept some wide shift out₀ half end e₀ y₀ out e y = some - y
+μ-loop pairs a step gap b apart kept some wide shift out₀ half end e₀ y₀ out e y = some - y
 
 -- this turn's line, and the places of its row
-this : (c : tie.In-loop Inv-loop μ-loop) → let s = c .before .before .before .args in Line (s .kept) (s .pairs) (s .a .now) (s .step * c .before .loop .y) (s .gap) (s .b .now) (2 * s .kept)
+this : (c : tie.In-loop Inv-loop μ-loop) → let s = c .before .before .before .args in Line (s .kept) (s .pairs) (s .a .now) (s .step * c .before .loop .y) (s .gap) (s .b .now) (s .apart)
 this c = c .before .before .before .pre .lines .each (c .before .loop .y) (c .loop-test .taken)
 
 there : (c : tie.In-loop Inv-loop μ-loop) → c .before .before .before .args .step * c .before .loop .y < length (c .before .before .before .args .a .now)
@@ -52,10 +52,7 @@ add-f : tie.Need-add-f Inv-loop μ-loop
 add-f c = omega (arith, inside c)
 
 mul-lines : tie.Need-mul-lines Inv-loop μ-loop
-mul-lines c = omega (arith, c .before .before .before .pre .few)
-
-mul-lines-2 : tie.Need-mul-lines-2 Inv-loop μ-loop
-mul-lines-2 c = omega (arith, there c)
+mul-lines c = omega (arith, there c)
 
 sub-lines : tie.Need-sub-lines Inv-loop μ-loop
 sub-lines c = omega (arith, there c)
@@ -98,7 +95,7 @@ part-narrow-end c = inside (c .before .before .before .before .before)
 
 -- what the line left in e
 worked : (c : tie.After-lines Inv-loop μ-loop) → let I = c .before .before .before in let s = I .before .before .before .args in (x : ℕ) → x < s .kept
-    → at (c .lines .last .1 .1 .1 .1 .1 .1 .1 .1 .1 .1 .0) x ≡ lineValue (s .pairs) (s .a .now) (s .step) (s .gap) (s .b .now) (s .kept) (s .shift) x (I .before .loop .y)
+    → at (c .lines .last .1 .1 .1 .1 .1 .1 .1 .1 .1 .1 .0) x ≡ lineValue (s .pairs) (s .a .now) (s .step) (s .gap) (s .b .now) (s .apart) (s .shift) x (I .before .loop .y)
 worked c =
     let I = c .before .before .before in
     let s = I .before .before .before .args in
@@ -138,7 +135,7 @@ loop-again c =
       (
         long C,
         stage-next (s .pre .narrow) (L .inv .1 .1)
-            (part-filled (L .out) _ q (a .kept) (λ x. lineValue (a .pairs) (a .a .now) (a .step) (a .gap) (a .b .now) (a .kept) (a .shift) x (L .y)) (inside I)
+            (part-filled (L .out) _ q (a .kept) (λ x. lineValue (a .pairs) (a .a .now) (a .step) (a .gap) (a .b .now) (a .apart) (a .shift) x (L .y)) (inside I)
             (c .before .narrow .ensures ∙ tab-cong (length (take (q + a .kept - q) (drop q (L .out)))) _ _ (λ x h. worked C x (omega (arith, n))))),
       ),
     )
@@ -151,7 +148,7 @@ returns c =
     let L = c .before .loop in
     let s = c .before .before .before .args in
     let e : L .y ≡ s .some = omega (arith, L .inv .0, c .loop-test .left) in
-    subst (λ (y : ℕ). Stage (s .kept) (s .wide) y (lineValue (s .pairs) (s .a .now) (s .step) (s .gap) (s .b .now) (s .kept) (s .shift)) (L .out) (s .out .now)) e (L .inv .1 .1)
+    subst (λ (y : ℕ). Stage (s .kept) (s .wide) y (lineValue (s .pairs) (s .a .now) (s .step) (s .gap) (s .b .now) (s .apart) (s .shift)) (L .out) (s .out .now)) e (L .inv .1 .1)
 
 pub put-lines-spec : {M : Type 1} → statement M
 put-lines-spec =
@@ -165,7 +162,6 @@ put-lines-spec =
     mul-q
     add-f
     mul-lines
-    mul-lines-2
     sub-lines
     part-lines-start
     part-lines-end

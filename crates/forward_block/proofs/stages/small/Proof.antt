@@ -4,14 +4,14 @@ use Rattle.forward_block.proofs.RoomsFor.{rooms-128}
 use Rattle.forward_block.proofs.stages.small.Statement.{statement}
 use Rattle.forward_block.proofs.stages.small.Tie as tie
 
-cast-weights-128 : tie.Need-cast-weights-128
-cast-weights-128 c = search needs
+cast-w : tie.Need-cast-w
+cast-w c = search needs
+
+cast-h : tie.Need-cast-h
+cast-h c = search needs
 
 weights-128-requires : tie.Need-weights-128-requires
-weights-128-requires c κs = c .before .pre .0 .taken .width
-
-cast-weights-128-2 : tie.Need-cast-weights-128-2
-cast-weights-128-2 c = search needs
+weights-128-requires c κs = c .before .before .pre .0 .taken .width
 
 weights-128-requires-2 : tie.Need-weights-128-requires-2
 weights-128-requires-2 c κs = c .before .before .before .pre .0 .taken .height
@@ -28,7 +28,7 @@ slice-aggregate-worked-3 c = search needs
 worked-requires : tie.Need-worked-requires
 worked-requires c κs =
     let s = c .before .before .before .before .before .before .before .before in
-    (s .pre .0, (rooms-128 (s .pre .0 .taken) (s .pre .1 .1 .0) (s .pre .1 .1 .1) (c .before .before .before .before .before .before .weights-128 .ensures) (c .before .before .before .before .weights-1282 .ensures), s .pre .1 .0))
+    (s .pre .0, (rooms-128 (s .pre .0 .taken) (s .pre .1 .1 .0) (s .pre .1 .1 .1) (c .before .before .before .before .before .weights-128 .ensures) (c .before .before .before .before .weights-1282 .ensures), s .pre .1 .0))
 
 same-length : tie.Need-same-length
 same-length c = search needs
@@ -40,9 +40,9 @@ pub small-spec : {M : Type 1} → statement M
 small-spec =
     tie.close
     (tie.spec
-    cast-weights-128
+    cast-w
+    cast-h
     weights-128-requires
-    cast-weights-128-2
     weights-128-requires-2
     slice-aggregate-worked
     slice-aggregate-worked-2

@@ -11,17 +11,17 @@ use Rattle.forward_block.proofs.stages.stage.Statement.{statement}
 use Rattle.forward_block.proofs.stages.stage.Tie as tie
 
 -- at a size of n
-given : (s : tie.Start) (n : ℕ) → s .args .n ≡ n → let a = s .args in Put (n / 2) (a .a .now) (a .step) (a .gap) (a .b .now) (a .kept) (a .some) (a .wide) (a .shift) (length (a .out .now))
+given : (s : tie.Start) (n : ℕ) → s .args .n ≡ n → let a = s .args in Put (n / 2) (a .a .now) (a .step) (a .gap) (a .b .now) (a .apart) (a .kept) (a .some) (a .wide) (a .shift) (length (a .out .now))
 given s n e =
     let a = s .args in
-    subst (λ (n : ℕ). Put (n / 2) (a .a .now) (a .step) (a .gap) (a .b .now) (a .kept) (a .some) (a .wide) (a .shift) (length (a .out .now))) e (s .pre .1)
+    subst (λ (n : ℕ). Put (n / 2) (a .a .now) (a .step) (a .gap) (a .b .now) (a .apart) (a .kept) (a .some) (a .wide) (a .shift) (length (a .out .now))) e (s .pre .1)
 
 done : (s : tie.Start) (n : ℕ) {out : List ℤ} → s .args .n ≡ n
-    → let a = s .args in Stage (a .kept) (a .wide) (a .some) (lineValue (n / 2) (a .a .now) (a .step) (a .gap) (a .b .now) (a .kept) (a .shift)) out (a .out .now)
-    → Stage (a .kept) (a .wide) (a .some) (lineValue (a .n / 2) (a .a .now) (a .step) (a .gap) (a .b .now) (a .kept) (a .shift)) out (a .out .now)
+    → let a = s .args in Stage (a .kept) (a .wide) (a .some) (lineValue (n / 2) (a .a .now) (a .step) (a .gap) (a .b .now) (a .apart) (a .shift)) out (a .out .now)
+    → Stage (a .kept) (a .wide) (a .some) (lineValue (a .n / 2) (a .a .now) (a .step) (a .gap) (a .b .now) (a .apart) (a .shift)) out (a .out .now)
 done s n {out} e =
     let a = s .args in
-    subst (λ (n : ℕ). Stage (a .kept) (a .wide) (a .some) (lineValue (n / 2) (a .a .now) (a .step) (a .gap) (a .b .now) (a .kept) (a .shift)) out (a .out .now)) (sym e)
+    subst (λ (n : ℕ). Stage (a .kept) (a .wide) (a .some) (lineValue (n / 2) (a .a .now) (a .step) (a .gap) (a .b .now) (a .apart) (a .shift)) out (a .out .now)) (sym e)
 
 last : (c : tie.Else3) → c .before .before .before .args .n ≡ 32
 last c = let s = c .before .before .before in thirty-two (s .args .n) (s .pre .0) (c .before .before .if1 .left) (c .before .if2 .left) (c .if3 .left)

@@ -35,6 +35,9 @@ row-shift-requires c κs = search needs
 column-shift-requires : tie.Need-column-shift-requires
 column-shift-requires c κs = search needs
 
+mul-stage : tie.Need-mul-stage
+mul-stage c = omega (arith, c .before .before .before .before .before .before .pre .1 .0 .along .few)
+
 stage-requires : tie.Need-stage-requires
 stage-requires c κs =
     let s = c .before .before .before .before .before .before .before in
@@ -42,7 +45,7 @@ stage-requires c κs =
 
 -- what stands between the stages
 first : (c : tie.After-stage) → let s = c .before .before .before .before .before .before .before .before .args in let w = s .shape .width in
-    Stage (keptColumns (s .shape)) (keptColumns (s .shape)) (s .shape .height) (lineValue (w / 2) (s .residuals .now) w 2 (s .along .now) (keptColumns (s .shape)) (rowShift (s .shape))) (c .stage .last .1 .1 .1 .1 .1 .1 .1 .1 .1 .0) (s .coefficients .now)
+    Stage (keptColumns (s .shape)) (keptColumns (s .shape)) (s .shape .height) (lineValue (w / 2) (s .residuals .now) w 2 (s .along .now) (2 * s .across) (rowShift (s .shape))) (c .stage .last .1 .1 .1 .1 .1 .1 .1 .1 .1 .1 .0) (s .coefficients .now)
 first c = rw (c .before .before .before .row-shift .ensures, c .before .before .before .before .before .kept-columns .ensures) at (c .stage .ensures)
 
 zip-requires : tie.Need-zip-requires
@@ -51,7 +54,7 @@ zip-requires c κs =
     rw (c .before .before .before .before .before .before .before .before .kept-columns .ensures) (zip-given (s .pre .0) (s .pre .1 .0) (s .pre .1 .1) (first (c .before .before .before)) refl)
 
 zipped : (c : tie.After-zip) → let s = c .before .before .before .before .before .before .before .before .before .before .before .before .args in
-    Laid (keptColumns (s .shape)) (s .shape .height / 2) 2 (2 * keptColumns (s .shape)) (λ i x. at (c .before .before .before .before .stage .last .1 .1 .1 .1 .1 .1 .1 .1 .1 .0) (x + i * keptColumns (s .shape))) (c .zip .last .1 .1 .1 .1 .0)
+    Laid (keptColumns (s .shape)) (s .shape .height / 2) 2 (2 * keptColumns (s .shape)) (λ i x. at (c .before .before .before .before .stage .last .1 .1 .1 .1 .1 .1 .1 .1 .1 .1 .0) (x + i * keptColumns (s .shape))) (c .zip .last .1 .1 .1 .1 .0)
 zipped c = rw (c .before .before .before .before .before .before .before .before .before .kept-columns .ensures) at (c .zip .ensures)
 
 few-rows : (c : tie.After-kept-rows) → c .kept-rows .result ≤ 32
@@ -69,8 +72,11 @@ clear-beyond-requires c κs = search needs
 long : (c : tie.After-clear-beyond) → let s = c .before .before .before .before .before .before .before .before .before .before .before .before .before .before .before .args in length (c .clear-beyond .last .1 .0) ≡ s .shape .width * s .shape .height
 long c = c .clear-beyond .ensures .0 ∙ first (c .before .before .before .before .before .before .before) .long ∙ c .before .before .before .before .before .before .before .before .before .before .before .before .before .before .before .pre .1 .1
 
-mul-stage : tie.Need-mul-stage
-mul-stage c = omega (arith, few-rows (c .before .before .before .before .before .before .before .before .before .before .before .before))
+mul-stage-2 : tie.Need-mul-stage-2
+mul-stage-2 c = omega (arith, c .before .before .before .before .before .before .before .before .before .before .before .before .before .before .before .before .pre .1 .0 .down .few)
+
+mul-stage-3 : tie.Need-mul-stage-3
+mul-stage-3 c = omega (arith, few-columns (c .before .before .before .before .before .before .before .before .before .before .before .before .before .before))
 
 stage-requires-2 : tie.Need-stage-requires-2
 stage-requires-2 c κs =
@@ -109,11 +115,13 @@ worked-spec =
     kept-rows-requires
     row-shift-requires
     column-shift-requires
+    mul-stage
     stage-requires
     zip-requires
     mul-clear-beyond
     clear-beyond-requires
-    mul-stage
+    mul-stage-2
+    mul-stage-3
     stage-requires-2
     same-length
     same-length-2

@@ -1,6 +1,7 @@
 -- `numbers::agreeing` meets its contract: no more agree than were compared. Assumes nothing.
 use borrow.Author.Needs.{needs}
 use native.Mathlib.Omega.{arith}
+use native.Mathlib.Nat.{le-trans, div-le-self}
 use Prim.Native.Nat.{_≤_, _-_}
 use lib.ListN.{length}
 use mathlib.Core.Logic.{⊎-elim}
@@ -8,10 +9,10 @@ use Rattle.published_weights.proofs.numbers.agreeing.Statement.{stateme
 use Rattle.published_weights.proofs.numbers.agreeing.Tie as tie
 
 abbrev Inv-loop : tie.InvT-loop
-Inv-loop kind n published good₀ k₀ good k = (k ≤ length published) × (good ≤ k)
+Inv-loop kind n odd columns published good₀ k₀ good k = (k ≤ length published) × (good ≤ k)
 
 abbrev μ-loop : tie.MeasureT-loop
-μ-loop kind n published good₀ k₀ good k = length published - k
+μ-loop kind n odd columns published good₀ k₀ good k = length published - k
 
 loop-holds : tie.Need-loop-holds Inv-loop μ-loop
 loop-holds c = search needs
@@ -19,8 +20,11 @@ loop-holds c = search needs
 cast-at : tie.Need-cast-at Inv-loop μ-loop
 cast-at c = search needs
 
-div-weight : tie.Need-div-weight Inv-loop μ-loop
-div-weight c = search needs
+div-row : tie.Need-div-row Inv-loop μ-loop
+div-row c = search needs
+
+row-requires : tie.Need-row-requires Inv-loop μ-loop
+row-requires c κs = le-trans (div-le-self _ _) (omega arith)
 
 rem-weight : tie.Need-rem-weight Inv-loop μ-loop
 rem-weight c = search needs
@@ -57,7 +61,8 @@ agreeing-spec =
     μ-loop
     loop-holds
     cast-at
-    div-weight
+    div-row
+    row-requires
     rem-weight
     weight-requires
     mul-if1

@@ -8,6 +8,7 @@ use Rattle.algebra.specs.Refusals.{Refusal}
 use Rattle.algebra.proofs.Refusals.{refused-first, passed-first}
 use Rattle.meaning.specs.declared.Answer.{Answer}
 use Rattle.meaning.specs.Answer.{Outcome, refused, accepted, lineTests}
+use Rattle.meaning.proofs.Accepted.{line-taken}
 use Rattle.engine.specs.Lines.{lineOf}
 use Rattle.algebra.specs.Lists.{at}
 use Rattle.transform.proofs.line.total.Statement.{statement}
@@ -20,7 +21,7 @@ abbrev given-back : tie.Start → ℕ → ℕ → Outcome
 given-back s number place = (refused number place, s .args .y .now)
 
 abbrev done : tie.Start → Outcome
-done s = (accepted 0, lineOf (s .args .forward) (s .args .kind) (s .args .n) (s .args .n) (at (s .args .x .now)))
+done s = (accepted 0, lineOf (s .args .forward) (s .args .kind) (s .args .n) (at (s .args .x .now)))
 
 line-refusal-requires : tie.Need-line-refusal-requires
 line-refusal-requires c κs = search needs
@@ -34,8 +35,8 @@ returns c =
     ap (λ (a : Answer). (a, s .args .y .now)) (c .refusal .ensures ∙ ap (λ (number : ℕ). refused number 0) (c .before .before .line-refusal .ensures))
     ∙ sym (refused-first [] (given-back s) (done s) (tests s) tt (λ e. c .before .if1 .taken (c .before .before .line-refusal .ensures ∙ e)))
 
-product-line-requires : tie.Need-product-line-requires
-product-line-requires c κs = search needs
+full-requires : tie.Need-full-requires
+full-requires c κs = line-taken _ _ _ _ (sym (c .before .before .line-refusal .ensures) ∙ c .before .if1 .left)
 
 acceptance-requires : tie.Need-acceptance-requires
 acceptance-requires c κs = search needs
@@ -46,7 +47,7 @@ same-length c = search needs
 returns-2 : tie.Need-returns-2
 returns-2 c =
     let s = c .before .before .before .before .before .before in
-    _∙_ {b = done s} (λ i. (c .acceptance .ensures i, c .before .before .product-line .ensures i))
+    _∙_ {b = done s} (λ i. (c .acceptance .ensures i, c .before .before .full .ensures i))
     (sym (passed-first [] (given-back s) (done s) (tests s) tt (sym (c .before .before .before .before .before .line-refusal .ensures) ∙ c .before .before .before .before .if1 .left)))
 
 pub total-spec : {M : Type 1} → statement M
@@ -56,7 +57,7 @@ total-spec =
     line-refusal-requires
     refusal-requires
     returns
-    product-line-requires
+    full-requires
     acceptance-requires
     same-length
     returns-2)

@@ -4,6 +4,7 @@ use mathlib.Core.Path.{sym, _∙_}
 use mir.Syntax.{w32}
 use mir.ValLaws.{toZ-ofZ}
 use borrow.Author.Tests.{not-true, not-false}
+use Rattle.transform.proofs.Lent.{place}
 use Rattle.transform.proofs.line.weight.Statement.{statement}
 use Rattle.transform.proofs.line.weight.Tie as tie
 
@@ -13,11 +14,11 @@ is-place-requires c κs = search needs
 returns : tie.Need-returns
 returns c = rw (← c .before .is-place .ensures, not-true (c .before .is-place .result) (c .if1 .taken))
 
-known-weight-requires : tie.Need-known-weight-requires
-known-weight-requires c κs = sym (c .before .is-place .ensures) ∙ not-false (c .before .is-place .result) (c .if1 .left)
+entry-requires : tie.Need-entry-requires
+entry-requires c κs = place _ _ _ _ (sym (c .before .is-place .ensures) ∙ not-false (c .before .is-place .result) (c .if1 .left))
 
 returns-2 : tie.Need-returns-2
-returns-2 c = toZ-ofZ w32 _ (search needs) ∙ c .known-weight .ensures ∙ rw (← c .before .before .is-place .ensures, not-false (c .before .before .is-place .result) (c .before .if1 .left))
+returns-2 c = toZ-ofZ w32 _ (search needs) ∙ c .entry .ensures ∙ rw (← c .before .before .is-place .ensures, not-false (c .before .before .is-place .result) (c .before .if1 .left))
 
 pub weight-spec : {M : Type 1} → statement M
-weight-spec = tie.close (tie.spec is-place-requires returns known-weight-requires returns-2)
+weight-spec = tie.close (tie.spec is-place-requires returns entry-requires returns-2)

@@ -1,0 +1,92 @@
+-- One step of the inverse line, once over the size: what the deal and the butterfly are given, and the line that they leave.
+-- Assumes nothing.
+use mathlib.Core.Path.{_≡_, sym, ap, _∙_, subst}
+use mathlib.Core.List.{List}
+use Prim.Native.Nat.{ℕ, _+_, _*_, _-_, _/_, _%_, _≤_, _<_}
+use native.Mathlib.Nat.{zero-add, one-mul, mul-le-mul, mul-add, mul-assoc, mul-comm}
+use native.Mathlib.Omega.{arith}
+use lib.ListN.{length}
+use lib.IntN.{ℤ, pos, natAbs, _*ℤ_}
+use Rattle.algebra.specs.Sum.{sum}
+use Rattle.algebra.specs.Lists.{at, tabulate}
+use Rattle.algebra.proofs.Order.{abs-mul}
+use Rattle.algebra.proofs.Sum.{sum-cong, sum-in}
+use Rattle.algebra.proofs.Lists.{tab-cong, tabulated}
+use Rattle.meaning.specs.Weights.{weight}
+use Rattle.meaning.specs.Line.{inverseSum, inverseLine}
+use Rattle.meaning.specs.Taken.{TakenLine, NoneAbove}
+use Rattle.meaning.proofs.Sizes.{weightSize}
+use Rattle.halves.specs.Halves.{Halves, odd, oddSum, evens}
+use Rattle.halves.specs.Lines.{strided, Inputs, Sums, Joined}
+use Rattle.halves.proofs.Tables.{tab-holds, tab-long}
+use Rattle.halves.proofs.Joining.{joined}
+
+-- ---- sizes: no sum of 16 products is near the end of 32 bits
+small-sum : (h : ℕ) (w f : ℕ → ℤ) → h ≤ 16 → ((i : ℕ) → natAbs (w i) ≤ 90) → ((i : ℕ) → natAbs (f i) ≤ 32768) → natAbs (sum h (λ i. w i *ℤ f i)) ≤ 1000000000
+small-sum h w f few light low =
+    let each : (i : ℕ) → i < h → natAbs (w i *ℤ f i) ≤ 2949120 = λ i l. product i in
+    omega (arith, sum-in h (λ i. w i *ℤ f i) 2949120 each)
+  where
+    product : (i : ℕ) → natAbs (w i *ℤ f i) ≤ 2949120
+    product i =
+        let q : natAbs (w i) * natAbs (f i) ≤ 90 * 32768 = mul-le-mul (light i) (low i) in
+        omega (arith, abs-mul (w i) (f i))
+
+-- ---- places: the even inputs stand twice as far apart, the odd ones between them
+twice : (apart i : ℕ) → 2 * apart * i ≡ apart * (2 * i)
+twice apart i = ap (λ (m : ℕ). m * i) (mul-comm 2 apart) ∙ mul-assoc apart 2 i
+
+between : (apart i : ℕ) → apart + i * (2 * apart) ≡ apart * (2 * i + 1)
+between apart i = omega (arith, mul-comm i (2 * apart), twice apart i, mul-add apart (2 * i) 1)
+
+module _ {h apart : ℕ} {x : List ℤ} (inputs : Inputs (h + h) apart x) where
+  pub evens-in : Inputs h (2 * apart) x
+  evens-in = record { there = λ i l. subst (λ (m : ℕ). m < length x) (sym (twice apart i)) (inputs .there (2 * i) (omega arith)); low = inputs .low }
+
+  pub odds-there : (i : ℕ) → i < h → apart + i * (2 * apart) < length x
+  odds-there i l = subst (λ (m : ℕ). m < length x) (sym (between apart i)) (inputs .there (2 * i + 1) (omega arith))
+
+  -- ---- the two halves, and the line
+  module _ (few : h ≤ 16) (e o : List ℤ) (evened : e ≡ tabulate h (inverseSum 0 h h (strided x (2 * apart))))
+      (odded : (j : ℕ) → j < h → at o j ≡ sum h (λ i. odd (h + h) i j *ℤ at x (apart + i * (2 * apart)))) where
+    pub step-given : h ≤ length o → Sums h e o
+    unfolding inverseSum
+    step-given room =
+        record {
+          few = few;
+          evens = tab-long h e _ evened;
+          odds = room;
+          even = λ j l. subst (λ (z : ℤ). natAbs z ≤ 1000000000) (sym (tab-holds h e _ evened j l))
+              (small-sum h (λ i. weight 0 h i j) (strided x (2 * apart)) few (λ i. weightSize 0 h i j) (λ i. inputs .low (2 * apart * i)));
+          odd = λ j l. subst (λ (z : ℤ). natAbs z ≤ 1000000000) (sym (odded j l))
+              (small-sum h (λ i. odd (h + h) i j) (λ i. at x (apart + i * (2 * apart))) few (λ i. weightSize 0 (h + h) (2 * i + 1) j) (λ i. inputs .low (apart + i * (2 * apart))));
+        }
+
+    pub step : Halves (h + h) h → (out : List ℤ) → Joined h h e o out → out ≡ tabulate (h + h) (inverseSum 0 (h + h) (h + h) (strided x apart))
+    unfolding inverseSum oddSum
+    step p out q =
+        joined p (strided x apart) e o out
+        (λ j l. tab-holds h e _ evened j l ∙ sum-cong h (λ i. weight 0 h i j *ℤ at x (2 * apart * i)) (λ i. weight 0 h i j *ℤ at x (apart * (2 * i))) (λ i k. ap (λ (m : ℕ). weight 0 h i j *ℤ at x m) (twice apart i)))
+        (λ j l. odded j l ∙ sum-cong h (λ i. odd (h + h) i j *ℤ at x (apart + i * (2 * apart))) (λ i. odd (h + h) i j *ℤ at x (apart * (2 * i + 1))) (λ i k. ap (λ (m : ℕ). odd (h + h) i j *ℤ at x m) (between apart i)))
+        q
+
+-- ---- 4 points
+pub four-there : {apart : ℕ} {x : List ℤ} → Inputs 4 apart x → (i : ℕ) → i < 4 → 0 + i * apart < length x
+four-there {apart} {x} inputs i l = subst (λ (m : ℕ). m < length x) (mul-comm apart i ∙ sym (zero-add (i * apart))) (inputs .there i l)
+
+pub four : (x : List ℤ) (apart : ℕ) (out : List ℤ) → length out ≡ 4 → ((j : ℕ) → j < 4 → at out j ≡ sum 4 (λ i. weight 0 4 i j *ℤ at x (0 + i * apart)))
+    → out ≡ tabulate 4 (inverseSum 0 4 4 (strided x apart))
+unfolding inverseSum
+four x apart out long each =
+    tabulated 4 out _ long
+    (λ j l. each j l ∙ sum-cong 4 (λ i. weight 0 4 i j *ℤ at x (0 + i * apart)) (λ i. weight 0 4 i j *ℤ at x (apart * i)) (λ i k. ap (λ (m : ℕ). weight 0 4 i j *ℤ at x m) (zero-add (i * apart) ∙ mul-comm i apart)))
+
+-- ---- a whole line: its inputs stand side by side
+pub whole-inputs : {n : ℕ} (x y : List ℤ) (m : ℕ) → n ≡ m → TakenLine n 0 (length x) (length y) → NoneAbove 32768 x → Inputs m 1 x × (length y ≡ m)
+whole-inputs x y m e w low = (record { there = λ i l. omega (arith, w .long); low = low }, w .room ∙ e)
+
+pub whole-line : {n : ℕ} (m : ℕ) → n ≡ m → (x : List ℤ) → tabulate m (inverseSum 0 m m (strided x 1)) ≡ inverseLine 0 n n (at x)
+unfolding inverseLine inverseSum
+whole-line m e x =
+    tab-cong m _ _ (λ j l. sum-cong m (λ i. weight 0 m i j *ℤ at x (1 * i)) (λ i. weight 0 m i j *ℤ at x i) (λ i k. ap (λ (p : ℕ). weight 0 m i j *ℤ at x p) (one-mul i)))
+    ∙ ap (λ (m : ℕ). inverseLine 0 m m (at x)) (sym e)

@@ -1,0 +1,102 @@
+-- `inverse::inverse_32` meets its contract: the line of 16 points over the even inputs, the odd half, and one step. Assumes nothing.
+use borrow.Author.Needs.{needs}
+use native.Mathlib.Omega.{arith}
+use mathlib.Core.Path.{_≡_, refl}
+use Prim.Native.Nat.{ℕ, _+_, _*_, _≤_, _<_}
+use lib.IntN.{natAbs, _*ℤ_}
+use Rattle.algebra.specs.Sum.{sum}
+use Rattle.algebra.specs.Lists.{at}
+use Rattle.meaning.proofs.Sizes.{weightSize}
+use Rattle.halves.specs.Halves.{odd}
+use Rattle.halves.proofs.Halved.{halves-32}
+use Rattle.halves.proofs.Tables.{tab-long, pairs-given, pairs-hold}
+use Rattle.halves.proofs.InverseStep.{evens-in, odds-there, step-given, step}
+use Rattle.halves.proofs.inverse.inverse_32.Statement.{statement}
+use Rattle.halves.proofs.inverse.inverse_32.Tie as tie
+
+mul-inverse-16 : tie.Need-mul-inverse-16
+mul-inverse-16 c = omega (arith, c .pre .0 .there 2 (omega arith))
+
+slice-aggregate-inverse-16 : tie.Need-slice-aggregate-inverse-16
+slice-aggregate-inverse-16 c = search needs
+
+inverse-16-requires : tie.Need-inverse-16-requires
+inverse-16-requires c κs = (evens-in {h = 16} (c .before .pre .0), refl)
+
+mul-deal : tie.Need-mul-deal
+mul-deal c = omega (arith, c .before .before .before .pre .0 .there 2 (omega arith))
+
+slice-aggregate-deal : tie.Need-slice-aggregate-deal
+slice-aggregate-deal c = search needs
+
+deal-requires : tie.Need-deal-requires
+deal-requires c κs = odds-there {h = 16} (c .before .before .before .before .pre .0)
+
+odd-32-requires : tie.Need-odd-32-requires
+odd-32-requires c κs = search needs
+
+slice-aggregate-line : tie.Need-slice-aggregate-line
+slice-aggregate-line c = search needs
+
+slice-aggregate-line-2 : tie.Need-slice-aggregate-line-2
+slice-aggregate-line-2 c = search needs
+
+-- the odd half, as it is asked for and as it comes
+module _ (c : tie.After-deal) where
+  abbrev S : tie.Start
+  S = c .before .before .before .before .before
+
+  light : (i j : ℕ) → natAbs (odd 32 i j) ≤ 90
+  light i j = weightSize 0 32 (2 * i + 1) j
+
+line-requires : tie.Need-line-requires
+line-requires c κs =
+    let D = c .before .before .before .before .before in (
+      pairs-given (c .before .before .before .odd-32 .ensures) (light D) 8 refl _ _ (D .deal .ensures) _ (omega (arith, S D .pre .1 .1)),
+      record { small = omega arith; short = omega arith },
+    )
+
+slice-aggregate-butterfly : tie.Need-slice-aggregate-butterfly
+slice-aggregate-butterfly c = search needs
+
+-- from the line of the even inputs and the odd half
+odds : (c : tie.After-line) → let S = c .before .before .before .before .before .before .before .before .before .before .before in (j : ℕ) → j < 16 → at (c .line .last .1 .1 .1 .1 .1 .1 .1 .1 .0) j ≡ sum 16 (λ i. odd 32 i j *ℤ at (S .args .x .now) (S .args .apart + i * (2 * S .args .apart)))
+odds c j l =
+    let D = c .before .before .before .before .before .before in
+    pairs-hold (c .before .before .before .before .odd-32 .ensures) (light D) 8 refl _ _ (D .deal .ensures) _ (omega (arith, S D .pre .1 .1)) _ (c .line .ensures) j (omega (arith, S D .pre .1 .1))
+
+butterfly-requires : tie.Need-butterfly-requires
+butterfly-requires c κs =
+    let S = c .before .before .before .before .before .before .before .before .before .before .before .before .before .before .before in
+    (step-given {h = 16} (S .pre .0) (omega arith) _ _ (c .before .before .before .before .before .before .before .before .before .before .before .before .before .inverse-16 .ensures) (odds (c .before .before .before .before)) (omega (arith, tab-long _ _ _ (c .before .before .before .before .line .ensures), S .pre .1 .1)), S .pre .1 .0)
+
+same-length : tie.Need-same-length
+same-length c = search needs
+
+same-length-2 : tie.Need-same-length-2
+same-length-2 c = search needs
+
+returns : tie.Need-returns
+returns c =
+    let S = c .before .before .before .before .before .before .before .before .before .before .before .before .before .before .before .before .before in
+    step {h = 16} (S .pre .0) (omega arith) _ _ (c .before .before .before .before .before .before .before .before .before .before .before .before .before .before .before .inverse-16 .ensures) (odds (c .before .before .before .before .before .before)) halves-32 _ (c .before .butterfly .ensures)
+
+pub inverse-32-spec : {M : Type 1} → statement M
+inverse-32-spec =
+    tie.close
+    (tie.spec
+    mul-inverse-16
+    slice-aggregate-inverse-16
+    inverse-16-requires
+    mul-deal
+    slice-aggregate-deal
+    deal-requires
+    odd-32-requires
+    slice-aggregate-line
+    slice-aggregate-line-2
+    line-requires
+    slice-aggregate-butterfly
+    butterfly-requires
+    same-length
+    same-length-2
+    returns)

@@ -1,0 +1,23 @@
+-- `kept_of` meets its contract. Assumes nothing.
+use borrow.Author.Needs.{needs}
+use borrow.Author.Tests.{eq-eqb, ne-eqb}
+use Rattle.meaning.specs.Shape.{kept}
+use Rattle.meaning.proofs.kept_of.Statement.{statement}
+use Rattle.meaning.proofs.kept_of.Tie as tie
+
+least-requires : tie.Need-least-requires
+least-requires c κs = search needs
+
+returns : tie.Need-returns
+unfolding kept
+returns c = rw (eq-eqb _ _ (c .before .if1 .taken)) (c .least .ensures)
+
+least-requires-2 : tie.Need-least-requires-2
+least-requires-2 c κs = search needs
+
+returns-2 : tie.Need-returns-2
+unfolding kept
+returns-2 c = rw (ne-eqb _ _ (c .before .if1 .left)) (c .least2 .ensures)
+
+pub kept-of-spec : {M : Type 1} → statement M
+kept-of-spec = tie.close (tie.spec least-requires returns least-requires-2 returns-2)
