@@ -13,7 +13,7 @@ use Rattle.meaning.specs.declared.Shape.{Shape}
 use Rattle.meaning.specs.declared.Answer.{Answer}
 use Rattle.meaning.specs.Weights.{first, fold, S, C, cosines, turn, D, weight}
 use Rattle.meaning.specs.Line.{forwardSum, inverseSum, forwardLine}
-use Rattle.meaning.specs.Shape.{isSize, isKind, isDepth, kept, keptColumns, keptRows}
+use Rattle.meaning.specs.Shape.{isSize, isKind, isDepth, most, keeps, shapeOf}
 use Rattle.meaning.specs.Plan.{shortRange}
 use Rattle.meaning.specs.Answer.{Outcome, refused, accepted, forwardLineOutcome}
 use Rattle.meaning.specs.Inverse.{columnSum, rounded, middleAt, rails, rowSum, residual, inverseBlock, inverseOutcome}
@@ -65,8 +65,7 @@ Says (forwardRefused sh r out number place) = forwardOutcome sh r (held out) ≡
 
 -- ---- the calls
 abbrev pub mixed : ℕ → ℕ → ℕ → ℕ → ℕ → Shape
-mixed horizontal vertical width height depth =
-    record { width = width; height = height; horizontal = horizontal; vertical = vertical; depth = depth }
+mixed horizontal vertical width height depth = shapeOf width height horizontal vertical depth
 
 -- kind 1 twice
 abbrev pub sized : ℕ → ℕ → ℕ → Shape
@@ -112,7 +111,7 @@ items =
     ∷ takes (sized 32 4 10) (alone 128 15 (pos 1))
     ∷ inverseRefused (sized 32 4 10) (alone 128 16 (pos 1)) 128 8 16
     -- 10
-    ∷ inverseRefused (record { width = 5; height = 4; horizontal = 0; vertical = 0; depth = 7 }) (all 16 (pos 0)) 16 1 0
+    ∷ inverseRefused (shapeOf 5 4 0 0 7) (all 16 (pos 0)) 16 1 0
     -- the low end as the high one of 7: -32768 stays and does not count, -32769 does
     ∷ counts (sized 4 4 10) (column (pos 0) (negsuc 32766) (negsuc 21065) (pos 0)) 0
     ∷ counts (sized 4 4 10) (column (pos 0) (negsuc 32766) (negsuc 21066) (pos 0)) 1
@@ -141,7 +140,7 @@ pub data Hold : List Item → Type 0 where
   _and_ : {i : Item} {is : List Item} → Says i → Hold is → Hold (i ∷ is)
 
 pub items-hold : Hold items
-unfolding sum sumℕ tabulate block firstAt first fold S C cosines turn D weight forwardSum inverseSum forwardLine isSize isKind isDepth kept keptColumns keptRows shortRange columnSum middleAt rails rowSum residual inverseBlock rowValue columnValue coefficient forwardBlock
+unfolding sum sumℕ tabulate block firstAt first fold S C cosines turn D weight forwardSum inverseSum forwardLine isSize isKind isDepth most keeps shortRange columnSum middleAt rails rowSum residual inverseBlock rowValue columnValue coefficient forwardBlock
 items-hold =
     refl and refl and refl and refl and refl and refl and refl and refl and refl and refl and refl and refl and refl
     and refl and refl and refl and refl and refl and refl and refl and refl and refl and refl and refl and refl and refl
