@@ -5,13 +5,19 @@ use crate::print::few;
 use crate::tables;
 use meaning::Shape;
 
+fn shape_of(r: [u32; 11]) -> Shape {
+    let most = Shape::new(r[0], r[1], r[2], r[3], r[4]);
+    most.keeping(r[5], r[6])
+}
+
 fn row(is_forward: bool, number: i16, other: i16, r: [u32; 11]) {
+    let input = r[7] as usize;
+    let output = r[8] as usize;
     let place = r[9] as usize;
     let next = r[10] as usize;
     few(place, number, next, other);
-    let shape = Shape::new(r[0], r[1], r[2], r[3], r[4]).keeping(r[5], r[6]);
     let numbers = only(place, number, next, other);
-    line(is_forward, shape, numbers, r[7] as usize, r[8] as usize);
+    line(is_forward, shape_of(r), numbers, input, output);
 }
 
 fn rows(is_forward: bool, number: i16, other: i16, table: &[[u32; 11]]) {
