@@ -269,7 +269,7 @@ fn refused_line(t: &mut Theorems, direction: Direction, number: usize) {
 fn refused_block(t: &mut Theorems, direction: Direction, number: usize) {
     let random = &mut t.random;
     let wrong = Wrong::first(random, number);
-    // 8 needs a side with places outside the kept part
+    // 8 needs a side with places outside the kept part, unless less is kept
     let width = wrong.pick(random, 1, &[if number == 8 { 32 } else { 8 }, 4], &NO_SIZE);
     let tall = number == 8 && width < 32;
     let height = wrong.pick(random, 2, &[if tall { 32 } else { 4 }], &NO_SIZE);
@@ -421,7 +421,8 @@ fn refused_blocks(t: &mut Theorems, direction: Direction) {
             refused_block(t, direction, number);
         }
     }
-    for (k, (width, height)) in [(32, 4), (4, 32), (32, 8)].into_iter().enumerate() {
+    // each has places outside its kept part: the first keeps the most, the others less
+    for (k, width, height) in [(4, 32, 4), (1, 32, 4), (3, 4, 32), (5, 32, 8)] {
         lone_bad_number(t, direction, &shape_in_turn(k, width, height));
     }
 }
