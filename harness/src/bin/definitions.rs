@@ -21,7 +21,7 @@ use lib.IntN.{ℤ, pos, negsuc}
 use Rattle.algebra.specs.Sum.{sum, sumℕ}
 use Rattle.algebra.specs.Lists.{tabulate, block}
 use Rattle.algebra.specs.First.{firstAt}
-use Rattle.meaning.specs.Weights.{first, fold, S, C, weight}
+use Rattle.meaning.specs.Weights.{first, fold, S, C, cosines, turn, D, weight}
 use Rattle.meaning.specs.Line.{forwardSum, inverseSum, forwardLine, inverseLine}
 use Rattle.meaning.specs.Shape.{isSize, isKind, isDepth, most, keeps}
 use Rattle.meaning.specs.Plan.{shortRange}
@@ -31,12 +31,12 @@ use Rattle.meaning.specs.Forward.{rowValue, columnValue, coefficient, forwardBl
 ";
 
 /// The definitions that the checker opens only where a proof names them.
-const WEIGHTS: &str = "first fold S C weight tabulate block";
+const WEIGHTS: &str = "first fold S C cosines turn D weight tabulate block";
 const MIDDLE: &str = "shortRange";
-const LINE: &str = "first fold S C weight sum tabulate isSize isKind \
+const LINE: &str = "first fold S C cosines turn D weight sum tabulate isSize isKind \
     forwardSum inverseSum forwardLine inverseLine";
 const BLOCK: &str =
-    "first fold S C weight sum sumℕ tabulate block firstAt isSize isKind isDepth most keeps \
+    "first fold S C cosines turn D weight sum sumℕ tabulate block firstAt isSize isKind isDepth most keeps \
     shortRange forwardSum inverseSum columnSum middleAt rails rowSum residual inverseBlock \
     rowValue columnValue coefficient forwardBlock";
 
