@@ -5,6 +5,7 @@ use mathlib.Core.List.{List}
 use Prim.Native.Nat.{ℕ, _+_}
 use lib.Dec.{ltb}
 use lib.ListN.{length, take, drop}
+use Rattle.meaning.specs.Shape.{shapeOf}
 use Rattle.block_file.specs.declared.cursor.Cursor.{Cursor}
 use Rattle.block_file.specs.declared.cursor.Step.{Step}
 use Rattle.block_file.specs.declared.field.Field.{Field}
@@ -12,7 +13,7 @@ use Rattle.block_file.specs.Field.{nothing, fieldAt}
 
 -- the start of a file; test 1 refuses the shape, so it "counts as none"
 abbrev pub start : Cursor
-start = record { at = 0; shape = record { width = 0; height = 0; horizontal = 0; vertical = 0; depth = 0 } }
+start = record { at = 0; shape = shapeOf 0 0 0 0 0 }
 
 -- "14 file above 65,536 bytes"
 abbrev pub tooLong : List ℕ → Bool

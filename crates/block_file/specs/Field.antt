@@ -7,6 +7,7 @@ use lib.Dec.{eqb, ltb}
 use lib.ListN.{length, getD}
 use Rattle.algebra.specs.Refusals.{Refusal, numberOf}
 use Rattle.meaning.specs.declared.Shape.{Shape}
+use Rattle.meaning.specs.Shape.{shapeOf, keeping}
 use Rattle.meaning.specs.Answer.{test, shapeTests}
 use Rattle.block_file.specs.declared.field.Field.{Field}
 
@@ -21,19 +22,13 @@ lengthAt file at = byteAt file (at + 1) * 256 + byteAt file (at + 2)
 -- "width, height, horizontal kind, vertical kind, d", in the body that starts at a place
 abbrev pub shapeAt : List ℕ → ℕ → Shape
 shapeAt file start =
-    record {
-      width = byteAt file start;
-      height = byteAt file (start + 1);
-      horizontal = byteAt file (start + 2);
-      vertical = byteAt file (start + 3);
-      depth = byteAt file (start + 4);
-    }
+    shapeOf (byteAt file start) (byteAt file (start + 1)) (byteAt file (start + 2)) (byteAt file (start + 3)) (byteAt file (start + 4))
 
--- the number with which 1 to 5 refuse a shape
+-- the number with which 1 to 5 and 20 refuse a shape
 unfoldable pub shapeNumber : Shape → ℕ
 shapeNumber shape = numberOf (shapeTests shape)
 
--- "a held shape that 1 to 5 would refuse counts as none"
+-- "a held shape that 1 to 5 would refuse counts as none"; Wish 8: 20 "counts with 1 to 5"
 abbrev pub isNone : Shape → Bool
 isNone shape = not (eqb (shapeNumber shape) 0)
 
@@ -41,25 +36,39 @@ isNone shape = not (eqb (shapeNumber shape) 0)
 abbrev pub isData : ℕ → Bool
 isData tag = eqb tag 2 || eqb tag 3
 
--- what the header decides: "tag (11), 12, 13, data length not 2*w*h (6)"
+-- Wish 8: "a new tag 04, length 2, follows tag 01"
+abbrev pub isKeeping : ℕ → Bool
+isKeeping tag = eqb tag 4
+
+-- what the header decides: "tag (11), 12, 13, data length not 2*w*h (6)"; Wish 8: "12 also for tag 04 with another length, 13 for
+-- tag 04 before any tag 01"
 abbrev pub headerTests : ℕ → ℕ → Shape → List Refusal
 headerTests tag bytes shape =
-    test (not (eqb tag 1 || isData tag)) 11
+    test (not (eqb tag 1 || (isKeeping tag || isData tag))) 11
     ∷ test (eqb tag 1 && not (eqb bytes 5)) 12
-    ∷ test (isData tag && isNone shape) 13
+    ∷ test (isKeeping tag && not (eqb bytes 2)) 12
+    ∷ test ((isKeeping tag || isData tag) && isNone shape) 13
     ∷ test (isData tag && not (eqb bytes (2 * (shape .width * shape .height)))) 6
     ∷ []
 
 unfoldable pub headerNumber : ℕ → ℕ → Shape → ℕ
 headerNumber tag bytes shape = numberOf (headerTests tag bytes shape)
 
--- "header present (10)", what the header decides, "body present (10), then 1 to 5 for tag 01"
+-- the shape that holds behind a field: that of a tag 01, or the held one with the "kept columns and kept rows" of a tag 04, which
+-- "holds until the next tag 01 or 04"
+abbrev pub shapeBehind : List ℕ → ℕ → Shape → Shape
+shapeBehind file at shape =
+    cond (eqb (byteAt file at) 1) (shapeAt file (at + 3))
+    (cond (isKeeping (byteAt file at)) (keeping shape (byteAt file (at + 3)) (byteAt file (at + 4))) shape)
+
+-- "header present (10)", what the header decides, "body present (10), then 1 to 5 for tag 01", and 20 for either; the shape behind
+-- a data field is the held one, which 13 let pass
 abbrev pub fieldTests : List ℕ → ℕ → Shape → List Refusal
 fieldTests file at shape =
     test (ltb (length file) (at + 3)) 10
     ∷ headerTests (byteAt file at) (lengthAt file at) shape
     ++ (test (ltb (length file) (at + 3 + lengthAt file at)) 10
-    ∷ test (eqb (byteAt file at) 1 && isNone (shapeAt file (at + 3))) (shapeNumber (shapeAt file (at + 3)))
+    ∷ test (isNone (shapeBehind file at shape)) (shapeNumber (shapeBehind file at shape))
     ∷ [])
 
 unfoldable pub fieldNumber : List ℕ → ℕ → Shape → ℕ
@@ -68,10 +77,6 @@ fieldNumber file at shape = numberOf (fieldTests file at shape)
 -- "At the end of the file, or at a field it refuses, its place and shape stay and it hands back the empty start of the file"
 abbrev pub nothing : ℕ → ℕ → Shape → Field
 nothing number at shape = record { number = number; tag = 0; start = 0; bytes = 0; next = record { at = at; shape = shape } }
-
--- the shape that holds behind a field: that of a tag 01 "Holds until the next tag 01"
-abbrev pub shapeBehind : List ℕ → ℕ → Shape → Shape
-shapeBehind file at shape = cond (eqb (byteAt file at) 1) (shapeAt file (at + 3)) shape
 
 -- a field that is whole: its body stands behind the three bytes of its header, and the next field behind the body
 abbrev pub whole : List ℕ → ℕ → Shape → Field

@@ -4,7 +4,7 @@ use meaning::Shape;
 ghost use mathlib.Core.Path.{_≡_};
 ghost use Prim.Native.Nat.{_+_, _≤_, _<_};
 ghost use lib.ListN.{length};
-ghost use Rattle.block_file.specs.Field.{lengthAt, shapeAt, headerNumber, fieldNumber, nothing, shapeBehind, fieldAt};
+ghost use Rattle.block_file.specs.Field.{byteAt, lengthAt, shapeAt, headerNumber, fieldNumber, nothing, shapeBehind, fieldAt};
 ghost use Rattle.block_file.specs.Cursor.{foundAt};
 
 // What was read: the number of the refusal or 0, the tag or 0, where the body starts and how many bytes it has, and the
@@ -43,6 +43,19 @@ fn shape_at(file: &[u8], start: usize) -> Shape
     )
 }
 
+// What the header decides of a field of kept numbers.
+fn keeping_number(bytes: usize, shape: Shape) -> u32
+    ensures { λ r. ⌜ r ≡ headerNumber 4 bytes shape ⌝ }
+{
+    if bytes != 2 {
+        return 12;
+    }
+    if shape.refusal() == 0 {
+        return 0;
+    }
+    13
+}
+
 // What the header decides of a data field: of tag 03 as of tag 02.
 fn data_number(bytes: usize, shape: Shape) -> u32
     requires { ⌜ bytes < 65536 ⌝ }
@@ -75,7 +88,24 @@ fn header_number(tag: u8, bytes: usize, shape: Shape) -> u32
     if tag == 3 {
         return data_number(bytes, shape);
     }
+    if tag == 4 {
+        return keeping_number(bytes, shape);
+    }
     11
+}
+
+// The shape that holds behind a field whose body is there.
+fn shape_behind(file: &[u8], at: usize, shape: Shape) -> Shape
+    requires { ⌜ (at < length (now file)) × ((byteAt (now file) at ≡ 1 → at + 8 ≤ length (now file)) × (byteAt (now file) at ≡ 4 → at + 5 ≤ length (now file))) ⌝ }
+    ensures { λ r. ⌜ r ≡ shapeBehind (now (file .entry)) at shape ⌝ }
+{
+    if file[at] == 1 {
+        return shape_at(file, at + 3);
+    }
+    if file[at] == 4 {
+        return shape.keeping(word(file[at + 3]), word(file[at + 4]));
+    }
+    shape
 }
 
 fn field_number(file: &[u8], at: usize, shape: Shape) -> u32
@@ -85,30 +115,15 @@ fn field_number(file: &[u8], at: usize, shape: Shape) -> u32
     if file.len() < at + 3 {
         return 10;
     }
-    let tag = file[at];
     let bytes = length_at(file, at);
-    let number = header_number(tag, bytes, shape);
+    let number = header_number(file[at], bytes, shape);
     if number != 0 {
         return number;
     }
     if file.len() < at + 3 + bytes {
         return 10;
     }
-    if tag == 1 {
-        return shape_at(file, at + 3).refusal();
-    }
-    0
-}
-
-// The shape that holds behind a field that was not refused.
-fn shape_behind(file: &[u8], at: usize, shape: Shape) -> Shape
-    requires { ⌜ (at < length (now file)) × (fieldNumber (now file) at shape ≡ 0) ⌝ }
-    ensures { λ r. ⌜ r ≡ shapeBehind (now (file .entry)) at shape ⌝ }
-{
-    if file[at] == 1 {
-        return shape_at(file, at + 3);
-    }
-    shape
+    shape_behind(file, at, shape).refusal()
 }
 
 fn nothing_at(number: u32, at: usize, shape: Shape) -> Field

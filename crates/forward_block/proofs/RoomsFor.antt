@@ -7,10 +7,10 @@ use native.Mathlib.Nat.{mul-le-mul, le-trans}
 use native.Mathlib.Omega.{arith}
 use lib.IntN.{ℤ}
 use Rattle.meaning.specs.declared.Shape.{Shape}
-use Rattle.meaning.specs.Shape.{isSize, keptColumns, keptRows}
+use Rattle.meaning.specs.Shape.{isSize}
 use Rattle.meaning.specs.Taken.{Taken}
 use Rattle.meaning.proofs.Cases.{size-cases, size-in}
-use Rattle.meaning.proofs.Stages.{columns-in, rows-in}
+use Rattle.meaning.proofs.KeptPart.{columns-kept, rows-kept}
 use Rattle.tables.specs.Stage.{Weights}
 use Rattle.forward_block.specs.Stage.{Outputs, Rooms}
 
@@ -41,17 +41,17 @@ module _ {sh : Shape} {t u : List ℤ} (k : Taken sh) where
       → Weights 128 (sh .height) true (sh .vertical) (sh .height) u → Rooms sh (sh .width) t (sh .height) u 64
   rooms-128 w h a d =
       record {
-        along = outputs-128 (k .width) (columns-in sh) w a;
-        down = outputs-128 (k .height) (rows-in sh) h d;
-        between = mul-le-mul h (le-trans (columns-in sh) w);
+        along = outputs-128 (k .width) (columns-kept sh k .within) w a;
+        down = outputs-128 (k .height) (rows-kept sh k .within) h d;
+        between = mul-le-mul h (le-trans (columns-kept sh k .within) w);
       }
 
-  pub rooms-512 : keptColumns sh ≤ 16 → keptRows sh ≤ 16 → Weights 512 (min (sh .width) 16) true (sh .horizontal) (sh .width) t
+  pub rooms-512 : sh .columns ≤ 16 → sh .rows ≤ 16 → Weights 512 (min (sh .width) 16) true (sh .horizontal) (sh .width) t
       → Weights 512 (min (sh .height) 16) true (sh .vertical) (sh .height) u → Rooms sh (min (sh .width) 16) t (min (sh .height) 16) u 512
   rooms-512 c r a d =
       record {
-        along = outputs-512 (k .width) (columns-in sh) c a;
-        down = outputs-512 (k .height) (rows-in sh) r d;
+        along = outputs-512 (k .width) (columns-kept sh k .within) c a;
+        down = outputs-512 (k .height) (rows-kept sh k .within) r d;
         between = mul-le-mul (size-in (sh .height) (k .height)) c;
       }
 
@@ -59,7 +59,7 @@ module _ {sh : Shape} {t u : List ℤ} (k : Taken sh) where
       → Rooms sh (sh .width) t (sh .height) u 1024
   rooms-1024 a d =
       record {
-        along = outputs-1024 (k .width) (columns-in sh) a;
-        down = outputs-1024 (k .height) (rows-in sh) d;
-        between = mul-le-mul (size-in (sh .height) (k .height)) (le-trans (columns-in sh) (size-in (sh .width) (k .width)));
+        along = outputs-1024 (k .width) (columns-kept sh k .within) a;
+        down = outputs-1024 (k .height) (rows-kept sh k .within) d;
+        between = mul-le-mul (size-in (sh .height) (k .height)) (le-trans (columns-kept sh k .within) (size-in (sh .width) (k .width)));
       }

@@ -21,12 +21,11 @@ use Rattle.algebra.proofs.Lists.{place-in, block-ext}
 use Rattle.meaning.specs.declared.Shape.{Shape}
 use Rattle.meaning.specs.Weights.{weight}
 use Rattle.meaning.specs.Line.{forwardSum}
-use Rattle.meaning.specs.Shape.{keptColumns, keptRows}
 use Rattle.meaning.specs.Forward.{rowShift, columnShift, rowValue, columnValue, coefficient, forwardBlock}
 use Rattle.meaning.proofs.Cases.{size-in, depth-cases}
-use Rattle.meaning.proofs.KeptPart.{columns-some}
+use Rattle.meaning.proofs.KeptPart.{columns-kept, rows-kept}
 use Rattle.meaning.proofs.Sizes.{weightSize}
-use Rattle.meaning.proofs.Stages.{columns-in, rows-in, log-in, rowStage, columnStage, rowValue-fits, columnValue-fits}
+use Rattle.meaning.proofs.Stages.{log-in, rowStage, columnStage, rowValue-fits, columnValue-fits}
 use Rattle.product.specs.Product.{spot, Laid, lineSum}
 use Rattle.product.proofs.Laid.{laid-less, lines-given, line-is}
 use Rattle.layout.specs.Zip.{Rows}
@@ -52,10 +51,10 @@ module _ {sh : Shape} {r t u : List ℤ} {across tall room : ℕ} (g : Residuals
   h = sh .height
 
   abbrev columns : ℕ
-  columns = keptColumns sh
+  columns = sh .columns
 
   abbrev rows : ℕ
-  rows = keptRows sh
+  rows = sh .rows
 
   area : h * w ≡ w * h
   area = mul-comm h w
@@ -67,7 +66,7 @@ module _ {sh : Shape} {r t u : List ℤ} {across tall room : ℕ} (g : Residuals
   high = size-even h (g .taken .height)
 
   few : columns ≤ 32
-  few = omega (arith, columns-in sh, size-in w (g .taken .width))
+  few = omega (arith, columns-kept sh (g .taken) .within, size-in w (g .taken .width))
 
   -- ---- rows
   row-laid : Laid h (w / 2) w 2 (λ i y. at r (i + y * w)) r
@@ -96,10 +95,10 @@ module _ {sh : Shape} {r t u : List ℤ} {across tall room : ℕ} (g : Residuals
         lines = lines-given row-laid (laid-few (m .along)) (omega (arith, wide)) (omega (arith, size-in w (g .taken .width))) (λ i x y. inl (weightSize (sh .horizontal) w x i));
         few = few;
         narrow = omega arith;
-        held = omega (arith, mul-le-mul-left h (columns-in sh), area);
+        held = omega (arith, mul-le-mul-left h (columns-kept sh (g .taken) .within), area);
         low = omega arith;
         high = omega arith;
-        fits = λ x y hx hy. subst (SFits w16) (sym (row-same x y hx hy)) (rowValue-fits sh (g .taken) r (g .small) x y (omega (arith, columns-in sh)));
+        fits = λ x y hx hy. subst (SFits w16) (sym (row-same x y hx hy)) (rowValue-fits sh (g .taken) r (g .small) x y (omega (arith, columns-kept sh (g .taken) .within)));
       }
 
   -- ---- between the stages
@@ -108,9 +107,9 @@ module _ {sh : Shape} {r t u : List ℤ} {across tall room : ℕ} (g : Residuals
     zip-given {z} e =
         record {
           some = omega (arith, high);
-          wide = columns-some sh (g .taken) .0;
+          wide = columns-kept sh (g .taken) .some;
           narrow = omega arith;
-          there = subst (λ (n : ℕ). n * columns ≤ length c) (sym (high .1)) (omega (arith, mul-le-mul-left h (columns-in sh), area, s .long));
+          there = subst (λ (n : ℕ). n * columns ≤ length c) (sym (high .1)) (omega (arith, mul-le-mul-left h (columns-kept sh (g .taken) .within), area, s .long));
           room = subst (λ (n : ℕ). n ≤ length z) (turned (h / 2) (high .1)) (omega (arith, m .between));
         }
       where
@@ -133,13 +132,13 @@ module _ {sh : Shape} {r t u : List ℤ} {across tall room : ℕ} (g : Residuals
           record {
             lines = lines-given (laid-few (m .down)) zipped (omega (arith, high)) (omega (arith, size-in h (g .taken .height))) (λ i x y. inr (weightSize (sh .vertical) h y i));
             few = few;
-            narrow = columns-in sh;
-            held = omega (arith, mul-le-mul-right w (rows-in sh), area);
+            narrow = columns-kept sh (g .taken) .within;
+            held = omega (arith, mul-le-mul-right w (rows-kept sh (g .taken) .within), area);
             low = omega arith;
             high = omega arith;
             fits = λ x y hx hy.
                 subst (SFits w16) (sym (column-same x y hx hy))
-                (columnValue-fits sh (g .taken) r (g .small) x y (omega (arith, columns-in sh)) (omega (arith, rows-in sh)));
+                (columnValue-fits sh (g .taken) r (g .small) x y (omega (arith, columns-kept sh (g .taken) .within)) (omega (arith, rows-kept sh (g .taken) .within)));
           }
 
       -- all places: the kept ones are written, and where there are others they were cleared
@@ -155,12 +154,12 @@ module _ {sh : Shape} {r t u : List ℤ} {across tall room : ℕ} (g : Residuals
 
           under : (x y : ℕ) → x < w → y < h → rows ≤ y → at a (x + y * w) ≡ pos 0
           under x y hx hy k =
-              let some : rows * columns < length a₀ = omega (arith, area, fewer-rows {rows = rows} {h = h} (columns-in sh) (omega (arith, wide)) (omega arith)) in
+              let some : rows * columns < length a₀ = omega (arith, area, fewer-rows {rows = rows} {h = h} (columns-kept sh (g .taken) .within) (omega (arith, wide)) (omega arith)) in
               q .below (x + y * w) (omega (arith, mul-le-mul-right w k)) ∙ none some (x + y * w) (inside x y hx hy)
 
           right : (x y : ℕ) → x < w → y < h → columns ≤ x → y < rows → at a (x + y * w) ≡ pos 0
           right x y hx hy k v =
-              let some : rows * columns < length a₀ = omega (arith, area, fewer-columns {rows = rows} {h = h} {k = columns} {w = w} (rows-in sh) (omega (arith, high)) (omega arith)) in
+              let some : rows * columns < length a₀ = omega (arith, area, fewer-columns {rows = rows} {h = h} {k = columns} {w = w} (rows-kept sh (g .taken) .within) (omega (arith, high)) (omega arith)) in
               q .beside x y k hx v ∙ none some (x + y * w) (inside x y hx hy)
 
           one : (x y : ℕ) → x < w → y < h → (b d : Bool) → ltb x columns ≡ b → ltb y rows ≡ d → at a (x + y * w) ≡ cond (b && d) (columnValue sh r x y) (pos 0)

@@ -10,7 +10,6 @@ use Rattle.algebra.specs.Shift.{nearest}
 use Rattle.algebra.specs.Lists.{at}
 use Rattle.meaning.specs.declared.Shape.{Shape}
 use Rattle.meaning.specs.Weights.{weight}
-use Rattle.meaning.specs.Shape.{keptColumns, keptRows}
 use Rattle.meaning.specs.Taken.{Taken, NoneAbove}
 use Rattle.product.specs.Product.{Laid, lineSum, Lines}
 
@@ -49,6 +48,6 @@ pub record Outputs (kind n kept outputs : ℕ) (t : List ℤ) : Type 0 where
 
 -- those of both stages, and room for the pairs of rows between them
 pub record Rooms (sh : Shape) (across : ℕ) (t : List ℤ) (tall : ℕ) (u : List ℤ) (room : ℕ) : Type 0 where
-  pub along : Outputs (sh .horizontal) (sh .width) (keptColumns sh) across t
-  pub down : Outputs (sh .vertical) (sh .height) (keptRows sh) tall u
-  pub between : sh .height * keptColumns sh ≤ room
+  pub along : Outputs (sh .horizontal) (sh .width) (sh .columns) across t
+  pub down : Outputs (sh .vertical) (sh .height) (sh .rows) tall u
+  pub between : sh .height * sh .columns ≤ room

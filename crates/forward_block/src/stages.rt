@@ -18,7 +18,7 @@ ghost use mathlib.Core.Path.{_≡_};
 ghost use mathlib.Core.Bool.{true};
 ghost use Prim.Native.Nat.{_*_, _/_, _≤_, min};
 ghost use lib.ListN.{length};
-ghost use Rattle.meaning.specs.Shape.{isSize, keptColumns, keptRows};
+ghost use Rattle.meaning.specs.Shape.{isSize};
 ghost use Rattle.meaning.specs.Forward.{forwardBlock};
 ghost use Rattle.forward_block.specs.Stage.{Residuals, lineValue, Put, Stage, Rooms};
 
@@ -166,7 +166,7 @@ fn least(a: usize, b: usize) -> usize
 
 // Where no more than 16 columns and rows are kept.
 fn large(shape: Shape, residuals: &[i16], coefficients: &mut [i16])
-    requires { ⌜ Residuals shape (now residuals) × ((length (now coefficients) ≡ shape .width * shape .height) × ((keptColumns shape ≤ 16) × (keptRows shape ≤ 16))) ⌝ }
+    requires { ⌜ Residuals shape (now residuals) × ((length (now coefficients) ≡ shape .width * shape .height) × ((shape .columns ≤ 16) × (shape .rows ≤ 16))) ⌝ }
     ensures { λ _. ⌜ now (coefficients .exit) ≡ forwardBlock shape (now (residuals .entry)) ⌝ }
 {
     let w = shape.width as usize;
@@ -211,7 +211,7 @@ fn is_small(shape: Shape) -> bool
 }
 
 fn is_large(shape: Shape) -> bool
-    ensures { λ r. ⌜ (r ≡ true → (keptColumns shape ≤ 16) × (keptRows shape ≤ 16)) ⌝ }
+    ensures { λ r. ⌜ (r ≡ true → (shape .columns ≤ 16) × (shape .rows ≤ 16)) ⌝ }
 {
     if 16 < kept_columns(shape) {
         return false;

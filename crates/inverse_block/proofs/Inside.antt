@@ -16,10 +16,10 @@ use Rattle.algebra.proofs.Order.{abs-zero}
 use Rattle.algebra.proofs.Lists.{every-place, place-in, column-of, row-of}
 use Rattle.algebra.proofs.First.{first-before, first-past}
 use Rattle.meaning.specs.declared.Shape.{Shape}
-use Rattle.meaning.specs.Shape.{keptColumns, keptRows}
 use Rattle.meaning.specs.Plan.{planOf}
 use Rattle.meaning.specs.Inverse.{outside, firstOutside}
-use Rattle.meaning.proofs.Stages.{columns-in, rows-in}
+use Rattle.meaning.specs.Taken.{Taken}
+use Rattle.meaning.proofs.KeptPart.{columns-kept, rows-kept}
 use Rattle.layout.specs.Live.{Live, LiveColumns}
 use Rattle.inverse_block.specs.Part.{outsideAt, Part}
 use Rattle.inverse_block.proofs.Tests.{kept-not}
@@ -52,7 +52,7 @@ module _ (sh : Shape) (c : List ℤ) (long : length c ≡ sh .width * sh .height
   h = sh .height
 
   -- a part that lies within the kept part
-  pub none-outside : {columns rows : ℕ} → Part w h columns rows c → columns ≤ keptColumns sh → rows ≤ keptRows sh → length c ≡ firstOutside (planOf sh) c
+  pub none-outside : {columns rows : ℕ} → Part w h columns rows c → columns ≤ sh .columns → rows ≤ sh .rows → length c ≡ firstOutside (planOf sh) c
   none-outside {columns} {rows} p k r =
       sym (first-past (outside (planOf sh)) c 0
       (λ i l. subst (λ (j : ℕ). outside (planOf sh) j (at c i) ≡ false) (sym (zero-add i)) (every-place w h (λ i. outside (planOf sh) i (at c i) ≡ false) one i (omega (arith, long, mul-comm w h))))
@@ -61,19 +61,19 @@ module _ (sh : Shape) (c : List ℤ) (long : length c ≡ sh .width * sh .height
       one : (x y : ℕ) → x < w → y < h → outside (planOf sh) (x + y * w) (at c (x + y * w)) ≡ false
       one x y g v = rw (column-of {x = x} {w = w} y g, row-of {x = x} {w = w} y g) (pick (decLt x columns) (decLt y rows))
         where
-          pick : Dec (x < columns) → Dec (y < rows) → outsideAt (keptColumns sh) (keptRows sh) x y (at c (x + y * w)) ≡ false
-          pick (yes a) (yes b) = kept-not (keptColumns sh) (keptRows sh) x y (at c (x + y * w)) (omega arith) (omega arith)
+          pick : Dec (x < columns) → Dec (y < rows) → outsideAt (sh .columns) (sh .rows) x y (at c (x + y * w)) ≡ false
+          pick (yes a) (yes b) = kept-not (sh .columns) (sh .rows) x y (at c (x + y * w)) (omega arith) (omega arith)
           pick (no a) b = zero-not (at c (x + y * w)) _ (p .right x y (omega arith) g v)
           pick (yes a) (no b) = zero-not (at c (x + y * w)) _ (p .below x y g (omega arith) v)
 
   -- nothing was found
-  pub kept-part : length c ≤ firstOutside (planOf sh) c → Part w h (keptColumns sh) (keptRows sh) c
-  kept-part l =
+  pub kept-part : Taken sh → length c ≤ firstOutside (planOf sh) c → Part w h (sh .columns) (sh .rows) c
+  kept-part t l =
       record {
-        narrow = columns-in sh;
-        low = rows-in sh;
-        right = λ x y k g v. out x y g v (rw (le-ltb x (keptColumns sh) k) refl);
-        below = λ x y g k v. out x y g v (rw (le-ltb y (keptRows sh) k) (both (ltb x (keptColumns sh))));
+        narrow = columns-kept sh t .within;
+        low = rows-kept sh t .within;
+        right = λ x y k g v. out x y g v (rw (le-ltb x (sh .columns) k) refl);
+        below = λ x y g k v. out x y g v (rw (le-ltb y (sh .rows) k) (both (ltb x (sh .columns))));
       }
     where
       both : (b : Bool) → b && false ≡ false
@@ -87,11 +87,11 @@ module _ (sh : Shape) (c : List ℤ) (long : length c ≡ sh .width * sh .height
           test true q = refl
           test false q = absurd (let z : _≡_ {A = ℕ} 0 1 = cc in omega arith)
 
-      out : (x y : ℕ) → x < w → y < h → ltb x (keptColumns sh) && ltb y (keptRows sh) ≡ false → at c (x + y * w) ≡ pos 0
+      out : (x y : ℕ) → x < w → y < h → ltb x (sh .columns) && ltb y (sh .rows) ≡ false → at c (x + y * w) ≡ pos 0
       out x y g v e =
           let k = x + y * w in
           let m : k < length c = omega (arith, long, mul-comm w h, place-in {x = x} {y = y} {w = w} {h = h} g v) in
           let b : 0 + k < firstOutside (planOf sh) c = omega arith in
           let f : outside (planOf sh) (0 + k) (at c k) ≡ false = first-before (outside (planOf sh)) c 0 k m b in
           let f′ : outside (planOf sh) k (at c k) ≡ false = subst (λ (j : ℕ). outside (planOf sh) j (at c k) ≡ false) (zero-add k) f in
-          zero (at c k) (ltb x (keptColumns sh) && ltb y (keptRows sh)) e (rw (column-of {x = x} {w = w} y g, row-of {x = x} {w = w} y g) at f′)
+          zero (at c k) (ltb x (sh .columns) && ltb y (sh .rows)) e (rw (column-of {x = x} {w = w} y g, row-of {x = x} {w = w} y g) at f′)

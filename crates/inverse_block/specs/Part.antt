@@ -7,7 +7,7 @@ use lib.Dec.{eqb, ltb}
 use lib.IntN.{ℤ, pos, natAbs}
 use Rattle.algebra.specs.Lists.{at}
 use Rattle.meaning.specs.declared.Shape.{Shape}
-use Rattle.meaning.specs.Shape.{isSize, keptColumns, keptRows}
+use Rattle.meaning.specs.Shape.{isSize}
 use Rattle.meaning.specs.Taken.{TakenBlock}
 
 -- "a non-zero coefficient outside the kept part", in column x of row y
@@ -27,7 +27,7 @@ pub record Given (sh : Shape) (rows columns : ℕ) (c r : List ℤ) : Type 0 whe
   pub size-rows : isSize rows ≡ true
   pub size-columns : isSize columns ≡ true
   pub live : Part (sh .width) (sh .height) columns rows c
-  pub kept : Part (sh .width) (sh .height) (keptColumns sh) (keptRows sh) c
+  pub kept : Part (sh .width) (sh .height) (sh .columns) (sh .rows) c
 
 -- every list that a stage needs has room in `room` numbers: the weights down and along, and what stands between the stages
 pub record Room (room : ℕ) (sh : Shape) (rows columns : ℕ) : Type 0 where

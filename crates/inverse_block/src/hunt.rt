@@ -4,7 +4,7 @@ use meaning::kept_columns;
 use meaning::kept_rows;
 ghost use mathlib.Core.Path.{_≡_};
 ghost use mathlib.Core.Bool.{cond};
-ghost use Prim.Native.Nat.{_*_};
+ghost use Prim.Native.Nat.{_*_, _≤_};
 ghost use lib.Dec.{ltb};
 ghost use lib.ListN.{length};
 ghost use Rattle.meaning.specs.Plan.{planOf};
@@ -32,7 +32,7 @@ fn first_column(y: usize, columns: usize, rows: usize) -> usize
 
 // The place of the first coefficient outside the kept part, row by row, or how many there are.
 fn searched(shape: Shape, c: &[i16]) -> usize
-    requires { ⌜ length (now c) ≡ shape .width * shape .height ⌝ }
+    requires { ⌜ (length (now c) ≡ shape .width * shape .height) × (shape .columns ≤ shape .width) ⌝ }
     ensures { λ r. ⌜ r ≡ firstOutside (planOf shape) (now (c .entry)) ⌝ }
 {
     let w = shape.width as usize;
@@ -58,7 +58,7 @@ fn searched(shape: Shape, c: &[i16]) -> usize
 
 // The same, where the block is known to be zero outside of some part of it: if that is kept, nothing can be found.
 pub fn hunt(shape: Shape, columns: usize, rows: usize, c: &[i16]) -> usize
-    requires { ⌜ (length (now c) ≡ shape .width * shape .height) × Part (shape .width) (shape .height) columns rows (now c) ⌝ }
+    requires { ⌜ ((length (now c) ≡ shape .width * shape .height) × (shape .columns ≤ shape .width)) × Part (shape .width) (shape .height) columns rows (now c) ⌝ }
     ensures { λ r. ⌜ r ≡ firstOutside (planOf shape) (now (c .entry)) ⌝ }
 {
     if kept_rows(shape) < rows {

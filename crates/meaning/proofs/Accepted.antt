@@ -11,7 +11,7 @@ use lib.ListN.{length}
 use Rattle.algebra.specs.Refusals.{Refusal, numberOf}
 use Rattle.algebra.proofs.Refusals.{Clear, numbered, clear, clear-split}
 use Rattle.meaning.specs.declared.Shape.{Shape}
-use Rattle.meaning.specs.Shape.{isSize, isKind, isDepth}
+use Rattle.meaning.specs.Shape.{isSize, isKind, isDepth, keeps}
 use Rattle.meaning.specs.Plan.{planOf}
 use Rattle.meaning.specs.Taken.{Taken, TakenBlock, TakenLine, NoneAbove}
 use Rattle.meaning.specs.Answer.{Outcome, outcome, accepted, refused, test, shapeTests, lengthTests, lineTests}
@@ -26,15 +26,16 @@ no-number = clear (λ (n : ℕ). n) (λ number place. number) 0 (λ n place. ref
 no-refusal : (ts : List Refusal) (out : List ℤ) (done : Outcome) → T (numbered ts) → outcome ts out done .0 .number ≡ 0 → Clear ts
 no-refusal ts out done = clear (λ (o : Outcome). o .0 .number) (λ number place. (refused number place, out)) done (λ n place. refl) ts
 
--- ---- 1 to 5
+-- ---- 1 to 5 and 20
 shape-clear : (sh : Shape) → Clear (shapeTests sh) → Taken sh
-shape-clear sh (w, (h, (k, (v, (d, _))))) =
+shape-clear sh (w, (h, (k, (v, (d, (m, _)))))) =
     record {
       width = not-false (isSize (sh .width)) w;
       height = not-false (isSize (sh .height)) h;
       horizontal = not-false (isKind (sh .horizontal)) k;
       vertical = not-false (isKind (sh .vertical)) v;
       depth = not-false (isDepth (sh .depth)) d;
+      kept = not-false (keeps sh) m;
     }
 
 pub shape-taken : (sh : Shape) → numberOf (shapeTests sh) ≡ 0 → Taken sh
@@ -58,7 +59,7 @@ module _ (sh : Shape) (input output : List ℤ) where
   abbrev area : ℕ
   area = sh .width * sh .height
 
-  -- 1 to 7, and then more
+  -- 1 to 5, 20, 6 and 7, and then more
   block-clear : (ts : List Refusal) → Clear (shapeTests sh ++ lengthTests area (length input) (length output) ++ ts) → TakenBlock sh input output × Clear ts
   block-clear ts c =
       let first = clear-split (shapeTests sh) (lengthTests area (length input) (length output) ++ ts) c in
@@ -86,4 +87,4 @@ module _ (sh : Shape) (input output : List ℤ) where
       → inverseOutcome sh input output ≡ (accepted (rails (planOf sh) input), inverseBlock (planOf sh) input)
   inverse-done (a, e) =
       let s = a .taken in
-      rw (s .width, s .height, s .horizontal, s .vertical, s .depth, eq-eqb (length input) area (a .long), eq-eqb (length output) area (a .room), e)
+      rw (s .width, s .height, s .horizontal, s .vertical, s .depth, s .kept, eq-eqb (length input) area (a .long), eq-eqb (length output) area (a .room), e)

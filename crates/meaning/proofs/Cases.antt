@@ -16,7 +16,7 @@ or-cases : (a b : Bool) {P : Type 0} → a || b ≡ true → (a ≡ true → P) 
 or-cases true b h f g = f h
 or-cases false b h f g = g h
 
-and-cases : (a b : Bool) → a && b ≡ true → (a ≡ true) × (b ≡ true)
+pub and-cases : (a b : Bool) → a && b ≡ true → (a ≡ true) × (b ≡ true)
 and-cases true b h = (refl, h)
 and-cases false b h = absurd (never h)
   where

@@ -13,7 +13,7 @@ use Rattle.meaning.specs.declared.Shape.{Shape}
 use Rattle.meaning.specs.declared.Answer.{Answer}
 use Rattle.meaning.specs.Weights.{first, fold, S, C, cosines, turn, dct2, weight}
 use Rattle.meaning.specs.Line.{forwardSum, inverseSum, forwardLine}
-use Rattle.meaning.specs.Shape.{isSize, isKind, isDepth, kept, keptColumns, keptRows}
+use Rattle.meaning.specs.Shape.{isSize, isKind, isDepth, most, keeps, shapeOf, keeping}
 use Rattle.meaning.specs.Plan.{shortRange}
 use Rattle.meaning.specs.Answer.{Outcome, refused, accepted, forwardLineOutcome}
 use Rattle.meaning.specs.Inverse.{columnSum, rounded, middleAt, rails, rowSum, residual, inverseBlock, inverseOutcome}
@@ -65,8 +65,7 @@ Says (forwardRefused sh r out number place) = forwardOutcome sh r (held out) ≡
 
 -- ---- the calls
 abbrev pub mixed : ℕ → ℕ → ℕ → ℕ → ℕ → Shape
-mixed horizontal vertical width height depth =
-    record { width = width; height = height; horizontal = horizontal; vertical = vertical; depth = depth }
+mixed horizontal vertical width height depth = shapeOf width height horizontal vertical depth
 
 -- kind 1 twice
 abbrev pub sized : ℕ → ℕ → ℕ → Shape
@@ -112,7 +111,7 @@ items =
     ∷ takes (sized 32 4 10) (alone 128 15 (pos 1))
     ∷ inverseRefused (sized 32 4 10) (alone 128 16 (pos 1)) 128 8 16
     -- 10
-    ∷ inverseRefused (record { width = 5; height = 4; horizontal = 0; vertical = 0; depth = 7 }) (all 16 (pos 0)) 16 1 0
+    ∷ inverseRefused (shapeOf 5 4 0 0 7) (all 16 (pos 0)) 16 1 0
     -- the low end as the high one of 7: -32768 stays and does not count, -32769 does
     ∷ counts (sized 4 4 10) (column (pos 0) (negsuc 32766) (negsuc 21065) (pos 0)) 0
     ∷ counts (sized 4 4 10) (column (pos 0) (negsuc 32766) (negsuc 21066) (pos 0)) 1
@@ -132,6 +131,14 @@ items =
     ∷ inverseRefused (mixed 2 0 32 32 10) (alone 1024 1008 (pos 1)) 1024 8 1008
     ∷ inverseRefused (mixed 3 0 4 4 10) (all 16 (pos 0)) 16 3 0
     ∷ inverseRefused (mixed 0 3 4 4 10) (all 16 (pos 0)) 16 4 0
+    -- the kept part of the shape: 8 by it, and 20 at either end, after 5 and before 6
+    ∷ takes (keeping (sized 4 4 10) 3 4) (alone 16 2 (pos 1))
+    ∷ inverseRefused (keeping (sized 4 4 10) 3 4) (alone 16 3 (pos 1)) 16 8 3
+    ∷ inverseRefused (keeping (sized 4 4 10) 4 3) (alone 16 12 (pos 1)) 16 8 12
+    ∷ inverseRefused (keeping (sized 4 4 10) 0 4) (all 16 (pos 0)) 16 20 0
+    ∷ inverseRefused (keeping (sized 32 4 10) 17 4) (all 128 (pos 0)) 128 20 0
+    ∷ inverseRefused (keeping (sized 4 4 13) 4 5) (all 16 (pos 0)) 16 5 0
+    ∷ inverseRefused (keeping (sized 4 4 10) 4 5) (all 15 (pos 0)) 15 20 0
     ∷ []
 
 -- what a list of items says, all of it
@@ -141,8 +148,8 @@ pub data Hold : List Item → Type 0 where
   _and_ : {i : Item} {is : List Item} → Says i → Hold is → Hold (i ∷ is)
 
 pub items-hold : Hold items
-unfolding sum sumℕ tabulate block firstAt first fold S C cosines turn dct2 weight forwardSum inverseSum forwardLine isSize isKind isDepth kept keptColumns keptRows shortRange columnSum middleAt rails rowSum residual inverseBlock rowValue columnValue coefficient forwardBlock
+unfolding sum sumℕ tabulate block firstAt first fold S C cosines turn dct2 weight forwardSum inverseSum forwardLine isSize isKind isDepth most keeps shortRange columnSum middleAt rails rowSum residual inverseBlock rowValue columnValue coefficient forwardBlock
 items-hold =
     refl and refl and refl and refl and refl and refl and refl and refl and refl and refl and refl and refl and refl
     and refl and refl and refl and refl and refl and refl and refl and refl and refl and refl and refl and refl and refl
-    and refl and refl and refl and refl and refl and refl and refl and refl and none
+    and refl and refl and refl and refl and refl and refl and refl and refl and refl and refl and refl and refl and refl and refl and refl and none

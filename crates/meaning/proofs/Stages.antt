@@ -23,28 +23,20 @@ use Rattle.algebra.proofs.Shift.{rounding-in, nearest-in}
 use Rattle.meaning.specs.declared.Shape.{Shape}
 use Rattle.meaning.specs.Weights.{weight}
 use Rattle.meaning.specs.Line.{forwardSum, inverseSum}
-use Rattle.meaning.specs.Shape.{isSize, keptColumns, keptRows}
+use Rattle.meaning.specs.Shape.{isSize}
 use Rattle.meaning.specs.Plan.{shortRange, planOf}
 use Rattle.meaning.specs.Taken.{Taken, Sized, NoneAbove}
 use Rattle.meaning.specs.Inverse.{columnSum, rounded, middleAt, rowSum, residual}
 use Rattle.meaning.specs.Forward.{log2, rowShift, columnShift, rowValue, columnValue, coefficient}
 use Rattle.meaning.proofs.Cases.{size-cases, size-in, depth-cases, pick}
-use Rattle.meaning.proofs.KeptPart.{kept-in}
+use Rattle.meaning.proofs.KeptPart.{columns-kept, rows-kept}
 use Rattle.meaning.proofs.Sizes.{short, forwardSum-in, forwardSum-short, forward-part-fits}
 use Rattle.meaning.proofs.PlanSizes.{Around, down-sizes, along-sizes, column-part, columnSum-size, rounded-size, middle-within, middle-size, row-part, rowSum-size, residual-size}
 
 -- ---- the inverse
 module _ (sh : Shape) where
-  pub columns-in : keptColumns sh ≤ sh .width
-  unfolding keptColumns
-  columns-in = kept-in (sh .horizontal) (sh .width)
-
-  pub rows-in : keptRows sh ≤ sh .height
-  unfolding keptRows
-  rows-in = kept-in (sh .vertical) (sh .height)
-
   pub taken-sized : Taken sh → Sized (planOf sh)
-  taken-sized t = record { width = t .width; height = t .height; horizontal = t .horizontal; vertical = t .vertical; columns = columns-in; rows = rows-in }
+  taken-sized t = record { width = t .width; height = t .height; horizontal = t .horizontal; vertical = t .vertical; columns = columns-kept sh t .within; rows = rows-kept sh t .within }
 
 -- 16 bits
 pub short-around : Around 32768 shortRange
@@ -74,7 +66,7 @@ module _ (sh : Shape) (t : Taken sh) (c : List ℤ) where
     columnSum-in = short (sh .height) (t .height) (columnSum-size (planOf sh) c small x y (down-sizes (taken-sized sh t) y h))
 
     -- its first k terms
-    pub column-part-fits : (k : ℕ) → k ≤ keptRows sh → SFits w32 (inverseSum (sh .vertical) (sh .height) k (λ i. at c (x + i * sh .width)) y)
+    pub column-part-fits : (k : ℕ) → k ≤ sh .rows → SFits w32 (inverseSum (sh .vertical) (sh .height) k (λ i. at c (x + i * sh .width)) y)
     column-part-fits k l =
         fits-in tt (within (inverseSum (sh .vertical) (sh .height) k (λ i. at c (x + i * sh .width)) y)
         (short (sh .height) (t .height) (column-part (planOf sh) c small x y (down-sizes (taken-sized sh t) y h) k l)))
@@ -99,7 +91,7 @@ module _ (sh : Shape) (t : Taken sh) (c : List ℤ) where
     rowSum-in = short (sh .width) (t .width) (rowSum-size (planOf sh) c short-around x y (along-sizes (taken-sized sh t) x h))
 
     -- its first k terms
-    pub row-part-fits : (k : ℕ) → k ≤ keptColumns sh → SFits w32 (inverseSum (sh .horizontal) (sh .width) k (λ i. middleAt (planOf sh) c i y) x)
+    pub row-part-fits : (k : ℕ) → k ≤ sh .columns → SFits w32 (inverseSum (sh .horizontal) (sh .width) k (λ i. middleAt (planOf sh) c i y) x)
     row-part-fits k l =
         fits-in tt (within (inverseSum (sh .horizontal) (sh .width) k (λ i. middleAt (planOf sh) c i y) x)
         (short (sh .width) (t .width) (row-part (planOf sh) c short-around x y (along-sizes (taken-sized sh t) x h) k l)))
@@ -231,7 +223,7 @@ module _ (sh : Shape) (t : Taken sh) where
 
     pub coefficient-in : (x y : ℕ) → x < sh .width → y < sh .height → natAbs (coefficient sh r x y) ≤ mostValue sh
     unfolding coefficient
-    coefficient-in x y h v = pick (λ z. natAbs z ≤ mostValue sh) (ltb x (keptColumns sh) && ltb y (keptRows sh)) (columnValue-in x y h v) zero-le
+    coefficient-in x y h v = pick (λ z. natAbs z ≤ mostValue sh) (ltb x (sh .columns) && ltb y (sh .rows)) (columnValue-in x y h v) zero-le
 
     pub coefficient-fits : (x y : ℕ) → x < sh .width → y < sh .height → SFits w16 (coefficient sh r x y)
     coefficient-fits x y h v = fits-in tt (within (coefficient sh r x y) (le-trans (coefficient-in x y h v) value-short))

@@ -5,13 +5,16 @@ use Prim.Native.Nat.{ℕ}
 use Rattle.algebra.specs.Refusals.{numberOf}
 use Rattle.algebra.proofs.Unique.{one}
 use Rattle.meaning.specs.declared.Shape.{Shape}
-use Rattle.meaning.specs.Shape.{isSize, isKind, isDepth, keptColumns, keptRows}
+use Rattle.meaning.specs.Shape.{isSize, isKind, isDepth, most, shapeOf, keeping}
 use Rattle.meaning.specs.Answer.{shapeTests}
 
 -- `Shape::new`
-pub new-one : (w h a b d : ℕ) {r s : Shape} → r ≡ record { width = w; height = h; horizontal = a; vertical = b; depth = d }
-    → s ≡ record { width = w; height = h; horizontal = a; vertical = b; depth = d } → r ≡ s
+pub new-one : (w h a b d : ℕ) {r s : Shape} → r ≡ shapeOf w h a b d → s ≡ shapeOf w h a b d → r ≡ s
 new-one w h a b d = one
+
+-- `Shape::keeping`
+pub keeping-one : (sh : Shape) (columns rows : ℕ) {r s : Shape} → r ≡ keeping sh columns rows → s ≡ keeping sh columns rows → r ≡ s
+keeping-one sh columns rows = one
 
 -- `is_size`, `is_kind`, `is_depth`
 module _ (n : ℕ) {r s : Bool} where
@@ -24,13 +27,17 @@ module _ (n : ℕ) {r s : Bool} where
   pub depth-one : r ≡ isDepth n → s ≡ isDepth n → r ≡ s
   depth-one = one
 
--- `Shape::refusal`, `kept_columns`, `kept_rows`
-module _ (sh : Shape) {r s : ℕ} where
-  pub refusal-one : r ≡ numberOf (shapeTests sh) → s ≡ numberOf (shapeTests sh) → r ≡ s
-  refusal-one = one
+-- `Shape::refusal`
+pub refusal-one : (sh : Shape) {r s : ℕ} → r ≡ numberOf (shapeTests sh) → s ≡ numberOf (shapeTests sh) → r ≡ s
+refusal-one sh = one
 
-  pub columns-one : r ≡ keptColumns sh → s ≡ keptColumns sh → r ≡ s
-  columns-one = one
+-- `most_kept`
+pub most-one : (kind n : ℕ) {r s : ℕ} → r ≡ most kind n → s ≡ most kind n → r ≡ s
+most-one kind n = one
 
-  pub rows-one : r ≡ keptRows sh → s ≡ keptRows sh → r ≡ s
-  rows-one = one
+-- `kept_columns`, `kept_rows`
+pub columns-one : (sh : Shape) {r s : ℕ} → r ≡ sh .columns → s ≡ sh .columns → r ≡ s
+columns-one sh = one
+
+pub rows-one : (sh : Shape) {r s : ℕ} → r ≡ sh .rows → s ≡ sh .rows → r ≡ s
+rows-one sh = one

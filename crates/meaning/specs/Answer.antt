@@ -9,7 +9,7 @@ use Rattle.algebra.specs.Lists.{at}
 use Rattle.algebra.specs.Refusals.{Refusal, firstOf}
 use Rattle.meaning.specs.declared.Shape.{Shape}
 use Rattle.meaning.specs.declared.Answer.{Answer}
-use Rattle.meaning.specs.Shape.{isSize, isKind, isDepth}
+use Rattle.meaning.specs.Shape.{isSize, isKind, isDepth, keeps}
 use Rattle.meaning.specs.Line.{forwardLine, inverseLine}
 
 -- what a call hands back, and what its output holds then
@@ -32,7 +32,7 @@ accepted rails = record { number = 0; place = 0; rails = rails }
 abbrev pub outcome : List Refusal → List ℤ → Outcome → Outcome
 outcome tests out done = firstOf tests (λ number place. (refused number place, out)) done
 
--- 1 to 5, of a shape
+-- 1 to 5, and 20, of a shape
 abbrev pub shapeTests : Shape → List Refusal
 shapeTests sh =
     test (not (isSize (sh .width))) 1
@@ -40,6 +40,7 @@ shapeTests sh =
     ∷ test (not (isKind (sh .horizontal))) 3
     ∷ test (not (isKind (sh .vertical))) 4
     ∷ test (not (isDepth (sh .depth))) 5
+    ∷ test (not (keeps sh)) 20
     ∷ []
 
 -- 6 and 7: lengths other than n

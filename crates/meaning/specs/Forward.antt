@@ -11,7 +11,6 @@ use Rattle.algebra.specs.First.{firstAt}
 use Rattle.algebra.specs.Refusals.{Refusal}
 use Rattle.meaning.specs.declared.Shape.{Shape}
 use Rattle.meaning.specs.Line.{forwardSum}
-use Rattle.meaning.specs.Shape.{keptColumns, keptRows}
 use Rattle.meaning.specs.Answer.{Outcome, outcome, accepted, shapeTests, lengthTests}
 
 -- log2 of a size
@@ -36,7 +35,7 @@ columnValue sh r x y = nearest (columnShift sh) (forwardSum (sh .vertical) (sh .
 
 -- "Coefficients outside the kept rows and columns are written 0"
 unfoldable pub coefficient : Shape → List ℤ → ℕ → ℕ → ℤ
-coefficient sh r x y = cond (ltb x (keptColumns sh) && ltb y (keptRows sh)) (columnValue sh r x y) (pos 0)
+coefficient sh r x y = cond (ltb x (sh .columns) && ltb y (sh .rows)) (columnValue sh r x y) (pos 0)
 
 unfoldable pub forwardBlock : Shape → List ℤ → List ℤ
 forwardBlock sh r = block (sh .width) (sh .height) (coefficient sh r)

@@ -4,7 +4,6 @@ use Prim.Native.Nat.{ℕ, _-_}
 use lib.IntN.{pos, negsuc}
 use Rattle.algebra.specs.Clip.{Range}
 use Rattle.meaning.specs.declared.Shape.{Shape}
-use Rattle.meaning.specs.Shape.{keptColumns, keptRows}
 
 pub record Plan : Type 0 where
   pub width : ℕ
@@ -32,8 +31,8 @@ planOf sh =
       height = sh .height;
       horizontal = sh .horizontal;
       vertical = sh .vertical;
-      columns = keptColumns sh;
-      rows = keptRows sh;
+      columns = sh .columns;
+      rows = sh .rows;
       range = shortRange;
       last = 20 - sh .depth;
     }

@@ -1,4 +1,4 @@
--- Document 01, "What the library holds" and "Blocks": which numbers a shape may hold, and its kept part.
+-- Document 01, "What the library holds" and "Blocks": which numbers a shape may hold. Document 02, Wish 8: its kept part.
 use mathlib.Core.Bool.{Bool, cond, _&&_, _||_}
 use Prim.Native.Nat.{ℕ, min}
 use lib.Dec.{eqb, leb}
@@ -16,13 +16,41 @@ isKind kind = eqb kind 1 || (eqb kind 2 || eqb kind 0)
 unfoldable pub isDepth : ℕ → Bool
 isDepth d = leb 8 d && leb d 12
 
--- "Kept columns are the first min(w,16), kept rows the first min(h,16)"; Wish 1: "All 32 columns or rows are kept in a
--- direction of kind 0"
-unfoldable pub kept : ℕ → ℕ → ℕ
-kept kind n = min n (cond (eqb kind 0) 32 16)
+-- the most that can be kept in a direction: "Kept columns are the first min(w,16), kept rows the first min(h,16)"; Wish 1: "All
+-- 32 columns or rows are kept in a direction of kind 0"
+unfoldable pub most : ℕ → ℕ → ℕ
+most kind n = min n (cond (eqb kind 0) 32 16)
 
-unfoldable pub keptColumns : Shape → ℕ
-keptColumns sh = kept (sh .horizontal) (sh .width)
+-- Wish 8: "at least 1 and at most what document 01 keeps, or at most what Wish 1 keeps for kind 0"
+abbrev pub isKept : ℕ → ℕ → ℕ → Bool
+isKept kind n k = leb 1 k && leb k (most kind n)
 
-unfoldable pub keptRows : Shape → ℕ
-keptRows sh = kept (sh .vertical) (sh .height)
+-- "The shape carries kept columns and kept rows"
+unfoldable pub keeps : Shape → Bool
+keeps sh = isKept (sh .horizontal) (sh .width) (sh .columns) && isKept (sh .vertical) (sh .height) (sh .rows)
+
+-- "where the file doesn't say, they are those numbers"
+abbrev pub shapeOf : ℕ → ℕ → ℕ → ℕ → ℕ → Shape
+shapeOf width height horizontal vertical depth =
+    record {
+      width = width;
+      height = height;
+      horizontal = horizontal;
+      vertical = vertical;
+      depth = depth;
+      columns = most horizontal width;
+      rows = most vertical height;
+    }
+
+-- a shape with other kept numbers
+abbrev pub keeping : Shape → ℕ → ℕ → Shape
+keeping sh columns rows =
+    record {
+      width = sh .width;
+      height = sh .height;
+      horizontal = sh .horizontal;
+      vertical = sh .vertical;
+      depth = sh .depth;
+      columns = columns;
+      rows = rows;
+    }

@@ -8,18 +8,19 @@ use lib.IntN.{ℤ, natAbs}
 use lib.ListN.{length}
 use Rattle.algebra.specs.Lists.{at}
 use Rattle.meaning.specs.declared.Shape.{Shape}
-use Rattle.meaning.specs.Shape.{isSize, isKind, isDepth}
+use Rattle.meaning.specs.Shape.{isSize, isKind, isDepth, keeps}
 use Rattle.meaning.specs.Plan.{Plan}
 
--- past 1 to 5: a shape
+-- past 1 to 5 and 20: a shape
 pub record Taken (sh : Shape) : Type 0 where
   pub width : isSize (sh .width) ≡ true
   pub height : isSize (sh .height) ≡ true
   pub horizontal : isKind (sh .horizontal) ≡ true
   pub vertical : isKind (sh .vertical) ≡ true
   pub depth : isDepth (sh .depth) ≡ true
+  pub kept : keeps sh ≡ true
 
--- past 1 to 7: a block, its input and its output
+-- past 6 and 7 too: a block, its input and its output
 pub record TakenBlock (sh : Shape) (input output : List ℤ) : Type 0 where
   pub taken : Taken sh
   pub long : length input ≡ sh .width * sh .height

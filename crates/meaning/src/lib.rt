@@ -5,10 +5,10 @@
 ghost use mathlib.Core.Path.{_≡_};
 ghost use Prim.Native.Nat.{min};
 ghost use Rattle.algebra.specs.Refusals.{numberOf};
-ghost use Rattle.meaning.specs.Shape.{isSize, isKind, isDepth, kept, keptColumns, keptRows};
+ghost use Rattle.meaning.specs.Shape.{isSize, isKind, isDepth, most, isKept, keeps, shapeOf, keeping};
 ghost use Rattle.meaning.specs.Answer.{shapeTests};
 
-/// What a block is: its sides, a kind for each direction, and its bit depth. Any numbers.
+/// What a block is: its sides, a kind for each direction, its bit depth, and how many columns and rows are kept. Any numbers.
 #[repr(C)]
 pub struct Shape {
     pub width: u32,
@@ -16,11 +16,14 @@ pub struct Shape {
     pub horizontal: u32,
     pub vertical: u32,
     pub depth: u32,
+    pub columns: u32,
+    pub rows: u32,
 }
 
 impl Shape {
+    /// A shape that keeps the most that is allowed.
     pub fn new(width: u32, height: u32, horizontal: u32, vertical: u32, depth: u32) -> Shape
-        ensures { λ r. ⌜ r ≡ record { width = width; height = height; horizontal = horizontal; vertical = vertical; depth = depth } ⌝ }
+        ensures { λ r. ⌜ r ≡ shapeOf width height horizontal vertical depth ⌝ }
     {
         Shape {
             width,
@@ -28,10 +31,36 @@ impl Shape {
             horizontal,
             vertical,
             depth,
+            columns: most_kept(horizontal, width),
+            rows: most_kept(vertical, height),
         }
     }
 
-    /// The number of the first of the refusals 1 to 5 that applies, or 0.
+    /// The same with other kept numbers.
+    pub fn keeping(self, columns: u32, rows: u32) -> Shape
+        ensures { λ r. ⌜ r ≡ keeping self columns rows ⌝ }
+    {
+        Shape {
+            width: self.width,
+            height: self.height,
+            horizontal: self.horizontal,
+            vertical: self.vertical,
+            depth: self.depth,
+            columns,
+            rows,
+        }
+    }
+
+    fn keeps(self) -> bool
+        ensures { λ r. ⌜ r ≡ keeps self ⌝ }
+    {
+        if is_kept(self.horizontal, self.width, self.columns) {
+            return is_kept(self.vertical, self.height, self.rows);
+        }
+        false
+    }
+
+    /// The number of the first of the refusals 1 to 5 and 20 that applies, or 0.
     pub fn refusal(self) -> u32
         ensures { λ r. ⌜ r ≡ numberOf (shapeTests self) ⌝ }
     {
@@ -49,6 +78,9 @@ impl Shape {
         }
         if !is_depth(self.depth) {
             return 5;
+        }
+        if !self.keeps() {
+            return 20;
         }
         0
     }
@@ -98,15 +130,16 @@ pub fn is_depth(d: u32) -> bool
     d <= 12
 }
 
-fn least(n: u32, most: u32) -> usize
+fn least(n: u32, most: u32) -> u32
     ensures { λ r. ⌜ r ≡ min n most ⌝ }
 {
-    if n < most { n as usize } else { most as usize }
+    if n < most { n } else { most }
 }
 
-// "the first min(w,16), .. the first min(h,16)", and "All 32 .. in a direction of kind 0"
-fn kept_of(kind: u32, n: u32) -> usize
-    ensures { λ r. ⌜ r ≡ kept kind n ⌝ }
+/// The most columns, or rows, that can be kept in a direction: "the first min(w,16), .. the first min(h,16)", and "All 32 .. in a
+/// direction of kind 0".
+pub fn most_kept(kind: u32, n: u32) -> u32
+    ensures { λ r. ⌜ r ≡ most kind n ⌝ }
 {
     if kind == 0 {
         return least(n, 32);
@@ -114,14 +147,25 @@ fn kept_of(kind: u32, n: u32) -> usize
     least(n, 16)
 }
 
-pub fn kept_columns(shape: Shape) -> usize
-    ensures { λ r. ⌜ r ≡ keptColumns shape ⌝ }
+fn is_kept(kind: u32, n: u32, k: u32) -> bool
+    ensures { λ r. ⌜ r ≡ isKept kind n k ⌝ }
 {
-    kept_of(shape.horizontal, shape.width)
+    if k < 1 {
+        return false;
+    }
+    k <= most_kept(kind, n)
 }
 
-pub fn kept_rows(shape: Shape) -> usize
-    ensures { λ r. ⌜ r ≡ keptRows shape ⌝ }
+/// The kept columns of a shape, for an index.
+pub fn kept_columns(shape: Shape) -> usize
+    ensures { λ r. ⌜ r ≡ shape .columns ⌝ }
 {
-    kept_of(shape.vertical, shape.height)
+    shape.columns as usize
+}
+
+/// The kept rows.
+pub fn kept_rows(shape: Shape) -> usize
+    ensures { λ r. ⌜ r ≡ shape .rows ⌝ }
+{
+    shape.rows as usize
 }

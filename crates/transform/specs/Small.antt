@@ -5,13 +5,14 @@ use Prim.Native.Nat.{ℕ}
 use lib.IntN.{ℤ, pos}
 use Rattle.algebra.specs.Lists.{tabulate, flat}
 use Rattle.meaning.specs.declared.Shape.{Shape}
+use Rattle.meaning.specs.Shape.{shapeOf}
 use Rattle.meaning.specs.Answer.{Outcome}
 use Rattle.meaning.specs.Forward.{forwardOutcome}
 use Rattle.meaning.specs.Inverse.{inverseOutcome}
 
--- "A 4 by 4 block"
+-- "A 4 by 4 block"; Wish 8: "A block by value keeps all four", the most of four
 abbrev pub smallShape : ℕ → ℕ → ℕ → Shape
-smallShape horizontal vertical depth = record { width = 4; height = 4; horizontal = horizontal; vertical = vertical; depth = depth }
+smallShape horizontal vertical depth = shapeOf 4 4 horizontal vertical depth
 
 -- "handing back sixteen zeros"
 abbrev pub zeros : List ℤ

@@ -1,5 +1,6 @@
 -- `field_at` meets its contract. Assumes nothing.
 use mathlib.Core.Path.{sym, _∙_}
+use native.Mathlib.Omega.{arith}
 use borrow.Author.Tests.{eq-eqb, ne-eqb, lt-ltb, le-ltb}
 use borrow.Author.Needs.{needs}
 use denote.Ref.{now}
@@ -42,7 +43,10 @@ add-start : tie.Need-add-start
 add-start c = search needs
 
 shape-behind-requires : tie.Need-shape-behind-requires
-shape-behind-requires c κs = search needs
+shape-behind-requires c κs =
+    let s = c .before .before .before .before .before .before .args in
+    let w = whole-field (now (s .file)) (s .at) (s .shape) (sym (c .before .before .before .field-number .ensures) ∙ c .before .before .if2 .left) in
+    (omega (arith, w .header), (λ t. omega (arith, w .body, w .five t), λ t. omega (arith, w .body, w .two t)))
 
 add-t10 : tie.Need-add-t10
 add-t10 c = search needs

@@ -8,10 +8,9 @@ use borrow.Author.Needs.{needs}
 use lib.Dec.{eqb, ltb}
 use lib.ListN.{length}
 use denote.Ref.{now}
-use Rattle.block_file.specs.Field.{fieldNumber, byteAt, lengthAt, shapeAt, shapeNumber, headerNumber}
+use Rattle.block_file.specs.Field.{fieldNumber, byteAt, lengthAt, shapeNumber, headerNumber}
 use Rattle.block_file.proofs.Shapes.{shape-number}
-use Rattle.block_file.proofs.Tests.{or-zero}
-use Rattle.block_file.proofs.Whole.{ofHeader, ofBody, in-order, header-five}
+use Rattle.block_file.proofs.Whole.{ofHeader, ofShape, in-order, header-five, header-two}
 use Rattle.block_file.proofs.field.field_number.Statement.{statement}
 use Rattle.block_file.proofs.field.field_number.Tie as tie
 
@@ -23,30 +22,30 @@ Is s n = fieldNumber (now (s .args .file)) (s .args .at) (s .args .shape) ≡ n
 abbrev header : tie.Start → ℕ
 header s = ofHeader (now (s .args .file)) (s .args .at) (s .args .shape)
 
-abbrev body : tie.Start → ℕ
-body s = ofBody (now (s .args .file)) (s .args .at) (s .args .shape)
-
 abbrev behind : tie.Start → ℕ
-behind s = cond (ltb (length (now (s .args .file))) (s .args .at + 3 + lengthAt (now (s .args .file)) (s .args .at))) 10 (body s)
+behind s = ofShape (now (s .args .file)) (s .args .at) (s .args .shape)
+
+abbrev body : tie.Start → ℕ
+body s = cond (ltb (length (now (s .args .file))) (s .args .at + 3 + lengthAt (now (s .args .file)) (s .args .at))) 10 (behind s)
 
 known : (c : tie.After-header-number) → c .header-number .result ≡ header (c .before .before .before .before .before)
 known c =
     let s = c .before .before .before .before .before .args in
-    c .header-number .ensures ∙ ap (λ (n : ℕ). headerNumber (byteAt (now (s .file)) (s .at)) n (s .shape)) (c .before .length-at .ensures .0)
+    c .header-number .ensures ∙ ap (λ (n : ℕ). headerNumber (byteAt (now (s .file)) (s .at)) n (s .shape)) (c .before .before .length-at .ensures .0)
 
 -- each test that is passed leaves the others
-past1 : (c : tie.Else1) → Is (c .before .before) (cond (eqb (header (c .before .before)) 0) (behind (c .before .before)) (header (c .before .before)))
+past1 : (c : tie.Else1) → Is (c .before .before) (cond (eqb (header (c .before .before)) 0) (body (c .before .before)) (header (c .before .before)))
 past1 c =
     let s = c .before .before .args in
     in-order (now (s .file)) (s .at) (s .shape) ∙ rw (le-ltb (length (now (s .file))) (s .at + 3) (c .if1 .left))
 
-past2 : (c : tie.Else2) → Is (c .before .before .before .before .before .before) (behind (c .before .before .before .before .before .before))
+past2 : (c : tie.Else2) → Is (c .before .before .before .before .before .before) (body (c .before .before .before .before .before .before))
 past2 c = past1 (c .before .before .before .before) ∙ rw (eq-eqb _ 0 (sym (known (c .before)) ∙ c .if2 .left))
 
-past3 : (c : tie.Else3) → Is (c .before .before .before .before .before .before .before) (body (c .before .before .before .before .before .before .before))
+past3 : (c : tie.Else3) → Is (c .before .before .before .before .before .before .before) (behind (c .before .before .before .before .before .before .before))
 past3 c =
     let s = c .before .before .before .before .before .before .before .args in
-    let h : s .at + 3 + lengthAt (now (s .file)) (s .at) ≤ length (now (s .file)) = omega (arith, c .before .before .before .length-at .ensures .0, c .if3 .left) in
+    let h : s .at + 3 + lengthAt (now (s .file)) (s .at) ≤ length (now (s .file)) = omega (arith, c .before .before .before .before .length-at .ensures .0, c .if3 .left) in
     past2 (c .before) ∙ rw (le-ltb _ _ h)
 
 add-if1 : tie.Need-add-if1
@@ -57,11 +56,11 @@ returns c =
     let s = c .before .before .args in
     rw (in-order (now (s .file)) (s .at) (s .shape), lt-ltb _ _ (c .if1 .taken))
 
-shared-slice-read-tag : tie.Need-shared-slice-read-tag
-shared-slice-read-tag c = search needs
-
 length-at-requires : tie.Need-length-at-requires
 length-at-requires c κs = search needs
+
+shared-slice-read-header-number : tie.Need-shared-slice-read-header-number
+shared-slice-read-header-number c = search needs
 
 header-number-requires : tie.Need-header-number-requires
 header-number-requires c κs = search needs
@@ -80,31 +79,20 @@ add-if3-2 c = search needs
 returns-3 : tie.Need-returns-3
 returns-3 c =
     let s = c .before .before .before .before .before .before .before .args in
-    let h : length (now (s .file)) < s .at + 3 + lengthAt (now (s .file)) (s .at) = omega (arith, c .before .before .before .length-at .ensures .0, c .if3 .taken) in
+    let h : length (now (s .file)) < s .at + 3 + lengthAt (now (s .file)) (s .at) = omega (arith, c .before .before .before .before .length-at .ensures .0, c .if3 .taken) in
     rw (past2 (c .before), lt-ltb _ _ h)
 
-add-shape-at : tie.Need-add-shape-at
-add-shape-at c = search needs
-
-shape-at-requires : tie.Need-shape-at-requires
-shape-at-requires c κs =
-    let s = c .before .before .before .before .before .before .before .before .args in
-    let five = header-five _ _ (s .shape) (sym (c .before .before .before .header-number .ensures) ∙ c .before .before .if2 .left) (c .if4 .taken) in
-    omega (arith, five, c .before .if3 .left)
+shape-behind-requires : tie.Need-shape-behind-requires
+shape-behind-requires c κs =
+    let s = c .before .before .before .before .before .before .before .args in
+    let none = sym (c .before .before .header-number .ensures) ∙ c .before .if2 .left in
+    (omega arith, (λ t. omega (arith, header-five _ _ (s .shape) none t, c .if3 .left), λ t. omega (arith, header-two _ _ (s .shape) none t, c .if3 .left)))
 
 refusal-requires : tie.Need-refusal-requires
 refusal-requires c κs = search needs
 
 returns-4 : tie.Need-returns-4
-returns-4 c =
-    let s = c .before .before .before .before .before .before .before .before .before .before .args in
-    let shape = shapeAt (now (s .file)) (s .at + 3) in
-    rw (past3 (c .before .before .before), eq-eqb (byteAt (now (s .file)) (s .at)) 1 (c .before .before .if4 .taken), or-zero (shapeNumber shape)) (shape-number _ (c .refusal .ensures) ∙ ap shapeNumber (c .before .shape-at .ensures))
-
-returns-5 : tie.Need-returns-5
-returns-5 c =
-    let s = c .before .before .before .before .before .before .before .before .args in
-    rw (past3 (c .before), ne-eqb (byteAt (now (s .file)) (s .at)) 1 (c .if4 .left))
+returns-4 c = rw (past3 (c .before .before)) (shape-number _ (c .refusal .ensures) ∙ ap shapeNumber (c .before .shape-behind .ensures))
 
 pub field-number-spec : {M : Type 1} → statement M
 field-number-spec =
@@ -112,15 +100,13 @@ field-number-spec =
     (tie.spec
     add-if1
     returns
-    shared-slice-read-tag
     length-at-requires
+    shared-slice-read-header-number
     header-number-requires
     returns-2
     add-if3
     add-if3-2
     returns-3
-    add-shape-at
-    shape-at-requires
+    shape-behind-requires
     refusal-requires
-    returns-4
-    returns-5)
+    returns-4)

@@ -27,9 +27,16 @@ returns-4 : tie.Need-returns-4
 unfolding headerNumber
 returns-4 c = rw (c .before .if4 .taken) (c .data-number2 .ensures)
 
+keeping-number-requires : tie.Need-keeping-number-requires
+keeping-number-requires c κs = search needs
+
 returns-5 : tie.Need-returns-5
 unfolding headerNumber
-returns-5 c = simp (ne-eqb _ _ (c .before .before .if1 .left), ne-eqb _ _ (c .before .if3 .left), ne-eqb _ _ (c .if4 .left))
+returns-5 c = rw (c .before .if5 .taken) (c .keeping-number .ensures)
+
+returns-6 : tie.Need-returns-6
+unfolding headerNumber
+returns-6 c = simp (ne-eqb _ _ (c .before .before .before .if1 .left), ne-eqb _ _ (c .before .before .if3 .left), ne-eqb _ _ (c .before .if4 .left), ne-eqb _ _ (c .if5 .left))
 
 pub header-number-spec : {M : Type 1} → statement M
 header-number-spec =
@@ -41,4 +48,6 @@ header-number-spec =
     returns-3
     data-number-requires-2
     returns-4
-    returns-5)
+    keeping-number-requires
+    returns-5
+    returns-6)

@@ -7,10 +7,9 @@ use native.Mathlib.Nat.{mul-le-mul}
 use lib.ListN.{length}
 use lib.IntN.{pos}
 use Rattle.algebra.specs.Lists.{at}
-use Rattle.meaning.specs.Shape.{keptColumns, keptRows}
 use Rattle.meaning.specs.Forward.{rowShift}
 use Rattle.meaning.proofs.Cases.{size-in}
-use Rattle.meaning.proofs.Stages.{columns-in, rows-in}
+use Rattle.meaning.proofs.KeptPart.{columns-kept, rows-kept}
 use Rattle.product.specs.Product.{Laid}
 use Rattle.forward_block.specs.Stage.{lineValue, Stage}
 use Rattle.forward_block.proofs.TwoStages.{row-put, zip-given, column-put, block-done}
@@ -45,7 +44,7 @@ stage-requires c κs =
 
 -- what stands between the stages
 first : (c : tie.After-stage) → let s = c .before .before .before .before .before .before .before .before .args in let w = s .shape .width in
-    Stage (keptColumns (s .shape)) (keptColumns (s .shape)) (s .shape .height) (lineValue (w / 2) (s .residuals .now) w 2 (s .along .now) (2 * s .across) (rowShift (s .shape))) (c .stage .last .1 .1 .1 .1 .1 .1 .1 .1 .1 .1 .0) (s .coefficients .now)
+    Stage (s .shape .columns) (s .shape .columns) (s .shape .height) (lineValue (w / 2) (s .residuals .now) w 2 (s .along .now) (2 * s .across) (rowShift (s .shape))) (c .stage .last .1 .1 .1 .1 .1 .1 .1 .1 .1 .1 .0) (s .coefficients .now)
 first c = rw (c .before .before .before .row-shift .ensures, c .before .before .before .before .before .kept-columns .ensures) at (c .stage .ensures)
 
 zip-requires : tie.Need-zip-requires
@@ -54,14 +53,14 @@ zip-requires c κs =
     rw (c .before .before .before .before .before .before .before .before .kept-columns .ensures) (zip-given (s .pre .0) (s .pre .1 .0) (s .pre .1 .1) (first (c .before .before .before)) refl)
 
 zipped : (c : tie.After-zip) → let s = c .before .before .before .before .before .before .before .before .before .before .before .before .args in
-    Laid (keptColumns (s .shape)) (s .shape .height / 2) 2 (2 * keptColumns (s .shape)) (λ i x. at (c .before .before .before .before .stage .last .1 .1 .1 .1 .1 .1 .1 .1 .1 .1 .0) (x + i * keptColumns (s .shape))) (c .zip .last .1 .1 .1 .1 .0)
+    Laid (s .shape .columns) (s .shape .height / 2) 2 (2 * s .shape .columns) (λ i x. at (c .before .before .before .before .stage .last .1 .1 .1 .1 .1 .1 .1 .1 .1 .1 .0) (x + i * s .shape .columns)) (c .zip .last .1 .1 .1 .1 .0)
 zipped c = rw (c .before .before .before .before .before .before .before .before .before .kept-columns .ensures) at (c .zip .ensures)
 
 few-rows : (c : tie.After-kept-rows) → c .kept-rows .result ≤ 32
-few-rows c = let s = c .before .before .before .before in omega (arith, c .kept-rows .ensures, rows-in (s .args .shape), size-in (s .args .shape .height) (s .pre .0 .taken .height))
+few-rows c = let s = c .before .before .before .before in omega (arith, c .kept-rows .ensures, rows-kept (s .args .shape) (s .pre .0 .taken) .within, size-in (s .args .shape .height) (s .pre .0 .taken .height))
 
 few-columns : (c : tie.After-kept-columns) → c .kept-columns .result ≤ 32
-few-columns c = let s = c .before .before .before in omega (arith, c .kept-columns .ensures, columns-in (s .args .shape), size-in (s .args .shape .width) (s .pre .0 .taken .width))
+few-columns c = let s = c .before .before .before in omega (arith, c .kept-columns .ensures, columns-kept (s .args .shape) (s .pre .0 .taken) .within, size-in (s .args .shape .width) (s .pre .0 .taken .width))
 
 mul-clear-beyond : tie.Need-mul-clear-beyond
 mul-clear-beyond c = omega (arith, mul-le-mul (few-rows (c .before .before .before .before .before .before .before .before .before)) (few-columns (c .before .before .before .before .before .before .before .before .before .before)))
@@ -93,7 +92,7 @@ same-length-2 : tie.Need-same-length-2
 same-length-2 c = search needs
 
 -- where there are other places than the kept ones, they were cleared
-cleared : (c : tie.After-clear-beyond) → let s = c .before .before .before .before .before .before .before .before .before .before .before .before .before .before .before .args in keptRows (s .shape) * keptColumns (s .shape) < length (c .clear-beyond .last .1 .0) → (k : ℕ) → k < length (c .clear-beyond .last .1 .0) → at (c .clear-beyond .last .1 .0) k ≡ pos 0
+cleared : (c : tie.After-clear-beyond) → let s = c .before .before .before .before .before .before .before .before .before .before .before .before .before .before .before .args in s .shape .rows * s .shape .columns < length (c .clear-beyond .last .1 .0) → (k : ℕ) → k < length (c .clear-beyond .last .1 .0) → at (c .clear-beyond .last .1 .0) k ≡ pos 0
 cleared c =
     let e = c .clear-beyond .ensures in
     rw (sym (e .0)) at (rw (c .before .before .before .before .before .before .before .before .before .before .before .before .kept-columns .ensures, c .before .before .before .before .before .before .before .before .before .before .before .kept-rows .ensures) at (e .1))

@@ -26,7 +26,7 @@ returns-2 c = c .searched2 .ensures
 returns-3 : tie.Need-returns-3
 returns-3 c =
     let s = c .before .before .before .before in
-    none-outside (s .args .shape) (s .args .c .now) (s .pre .0) (s .pre .1) (omega (arith, c .before .kept-columns .ensures, c .if2 .left)) (omega (arith, c .before .before .before .kept-rows .ensures, c .before .before .if1 .left))
+    none-outside (s .args .shape) (s .args .c .now) (s .pre .0 .0) (s .pre .1) (omega (arith, c .before .kept-columns .ensures, c .if2 .left)) (omega (arith, c .before .before .before .kept-rows .ensures, c .before .before .if1 .left))
 
 pub hunt-spec : {M : Type 1} → statement M
 hunt-spec =

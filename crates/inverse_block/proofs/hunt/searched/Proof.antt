@@ -18,7 +18,6 @@ use Rattle.algebra.proofs.Lists.{place-in, row-in, row-of, column-of}
 use Rattle.algebra.proofs.First.{first-on, first-here, first-none}
 use Rattle.meaning.specs.Plan.{planOf}
 use Rattle.meaning.specs.Inverse.{outside}
-use Rattle.meaning.proofs.Stages.{columns-in}
 use Rattle.inverse_block.specs.Part.{outsideAt}
 use Rattle.inverse_block.proofs.Tests.{skip, kept-not}
 use Rattle.inverse_block.proofs.hunt.searched.Statement.{statement}
@@ -52,7 +51,7 @@ within : (c : tie.In-loop Inv-loop μ-loop Inv-hunt μ-hunt) → let H = c .befo
 within c =
     let H = c .before .before .before .before in
     let s = H .before .before .before .before .before in
-    omega (arith, s .pre, mul-comm (s .args .shape .width) (s .args .shape .height), place-in {w = width s} (c .loop-test .taken) (c .before .before .before .hunt-test .taken))
+    omega (arith, s .pre .0, mul-comm (s .args .shape .width) (s .args .shape .height), place-in {w = width s} (c .loop-test .taken) (c .before .before .before .hunt-test .taken))
 
 cast-w : tie.Need-cast-w Inv-loop μ-loop Inv-hunt μ-hunt
 cast-w c = search needs
@@ -102,8 +101,8 @@ loop-holds c =
     let H = c .before .before in
     let s = H .before .before .before .before .before in
     let k = H .before .before .kept-columns .result in
-    let l : k ≤ width s = omega (arith, H .before .before .kept-columns .ensures, columns-in (s .args .shape)) in
-    let q = passed (width s) (s .args .shape .height) k (H .before .kept-rows .result) (H .hunt .y) (s .args .c .now) l (c .before .hunt-test .taken) (s .pre) (H .hunt .inv .1 .1) in
+    let l : k ≤ width s = omega (arith, H .before .before .kept-columns .ensures, s .pre .1) in
+    let q = passed (width s) (s .args .shape .height) k (H .before .kept-rows .result) (H .hunt .y) (s .args .c .now) l (c .before .hunt-test .taken) (s .pre .0) (H .hunt .inv .1 .1) in
     let e = c .first-column .ensures in
     (rw e (q .0), (H .hunt .inv .1 .0, rw e (q .1)))
 
@@ -181,7 +180,7 @@ returns c =
     let s = H .before .before .before .before .before in
     let k = H .hunt .y * width s in
     let e : H .hunt .y ≡ s .args .shape .height = le-antisymm (H .hunt .inv .0) (c .hunt-test .left) in
-    let n : k ≡ length (s .args .c .now) = ap (λ (y : ℕ). y * width s) e ∙ mul-comm (s .args .shape .height) (width s) ∙ sym (s .pre) in
+    let n : k ≡ length (s .args .c .now) = ap (λ (y : ℕ). y * width s) e ∙ mul-comm (s .args .shape .height) (width s) ∙ sym (s .pre .0) in
     let p = test (width s) (H .before .before .kept-columns .result) (H .before .kept-rows .result) in
     H .hunt .inv .1 .0 ∙ sym n ∙ sym (first-none p (s .args .c .now) k (omega arith)) ∙ sym (H .hunt .inv .1 .1) ∙ asked H
 

@@ -18,6 +18,7 @@ use Rattle.meaning.specs.Inverse.{rails, inverseBlock, firstOutside, inverseOut
 use Rattle.meaning.proofs.Cases.{size-in}
 use Rattle.meaning.specs.Taken.{TakenBlock}
 use Rattle.meaning.proofs.Accepted.{block-taken}
+use Rattle.meaning.proofs.KeptPart.{columns-kept}
 use Rattle.layout.specs.Live.{Live}
 use Rattle.inverse_block.specs.Part.{Part}
 use Rattle.inverse_block.proofs.Inside.{live-part, kept-part}
@@ -83,7 +84,10 @@ columns-requires c κs =
     (taken (c .before) .taken .width, omega (arith, turned (c .before), mul-le-mul-right (s .args .shape .width) (live-rows c .within)))
 
 hunt-requires : tie.Need-hunt-requires
-hunt-requires c κs = (taken (c .before .before) .long, live c)
+hunt-requires c κs =
+    let s = c .before .before .before .before in
+    let t = taken (c .before .before) in
+    ((t .long, columns-kept (s .args .shape) (t .taken) .within), live c)
 
 cast-refusal : tie.Need-cast-refusal
 cast-refusal c =
@@ -113,7 +117,7 @@ stages-requires c κs =
       size-rows = C .before .rows .ensures .size;
       size-columns = C .columns .ensures .size;
       live = live C;
-      kept = kept-part (s .args .shape) (s .args .coefficients .now) (w .long) (omega (arith, c .before .before .hunt .ensures, c .before .if2 .left));
+      kept = kept-part (s .args .shape) (s .args .coefficients .now) (w .long) (w .taken) (omega (arith, c .before .before .hunt .ensures, c .before .if2 .left));
     }
 
 acceptance-requires : tie.Need-acceptance-requires
