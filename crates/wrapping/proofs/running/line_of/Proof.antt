@@ -1,52 +1,59 @@
+-- `running::line_of` meets its contract: the sums before j are written. Assumes nothing.
 use borrow.Author.Needs.{needs}
 use native.Mathlib.Omega.{arith}
+use mathlib.Core.Path.{_≡_, _∙_}
+use Prim.Native.Nat.{_-_, _≤_, _<_}
+use lib.ListN.{length}
+use mir.Syntax.{w32}
+use mir.ValLaws.{toZ-ofZ}
+use Rattle.algebra.specs.Sum.{sum}
+use Rattle.algebra.proofs.Lists.{Filled, fill-none, fill-first, filled-to}
+use Rattle.wrapping.specs.Feed.{productAt}
 use Rattle.wrapping.proofs.running.line_of.Statement.{statement}
 use Rattle.wrapping.proofs.running.line_of.Tie as tie
-use Rattle.wrapping.proofs.running.line_of.Reads as reads
-use Rattle.wrapping.proofs.running.line_of.Lts as lts
-use Rattle.wrapping.proofs.running.sum_of.Reads as sum-of-reads
 
 abbrev Inv-loop : tie.InvT-loop
-Inv-loop t apart start order x y₀ j₀ y j = ?
+Inv-loop t apart start order x y₀ j₀ y j = (j ≤ length y₀) × Filled 0 j y y₀ (λ j. sum (length x) (productAt t apart j x))
 
 abbrev μ-loop : tie.MeasureT-loop
-μ-loop t apart start order x y₀ j₀ y j = ?
+μ-loop t apart start order x y₀ j₀ y j = length y₀ - j
 
--- src/running.rt:59:5
+-- the output keeps its length, and j is one of its places
+long : (c : tie.At-loop Inv-loop μ-loop) → length (c .loop .y) ≡ length (c .before .before .args .y .now)
+long c = c .loop .inv .1 .long
+
+here : (c : tie.In-loop Inv-loop μ-loop) → c .before .loop .j < length (c .before .before .before .args .y .now)
+here c = omega (arith, long (c .before), c .loop-test .taken)
+
 loop-holds : tie.Need-loop-holds Inv-loop μ-loop
-loop-holds c = search needs
+loop-holds c = (omega arith, fill-none 0 _ _)
 
--- src/running.rt:60:16
 sum-of-requires : tie.Need-sum-of-requires Inv-loop μ-loop
-sum-of-requires c κs = search needs
+sum-of-requires c κs = (c .before .before .before .pre .0, omega (arith, here c, c .before .before .before .pre .1))
 
--- src/running.rt:60:9
 mul-t8 : tie.Need-mul-t8 Inv-loop μ-loop
 mul-t8 c = search needs
 
--- src/running.rt:60:9
 slice-set-from-y : tie.Need-slice-set-from-y Inv-loop μ-loop
 slice-set-from-y c = search needs
 
--- src/running.rt:61:9
 add-j : tie.Need-add-j Inv-loop μ-loop
 add-j c = search needs
 
--- src/running.rt:59:5
 loop-less : tie.Need-loop-less Inv-loop μ-loop
-loop-less c = search needs
+loop-less c = omega (arith, here (c .before))
 
--- src/running.rt:59:5
 loop-again : tie.Need-loop-again Inv-loop μ-loop
-loop-again c = search needs
+loop-again c = (omega (arith, here (c .before)), fill-first _ (here (c .before)) (c .before .before .loop .inv .1) (toZ-ofZ w32 (c .sum-of .result) (search needs) ∙ c .sum-of .ensures))
 
--- src/running.rt:54:1
 same-length : tie.Need-same-length Inv-loop μ-loop
-same-length c = search needs
+same-length c = long (c .before)
 
--- src/running.rt:54:1
 returns : tie.Need-returns Inv-loop μ-loop
-returns c = search needs
+returns c =
+    let S = c .before .before .before in
+    let L = c .before .loop in
+    filled-to (S .pre .1) (omega (arith, L .inv .0, S .pre .1)) (omega (arith, long (c .before), c .loop-test .left, S .pre .1)) (L .inv .1)
 
 pub line-of-spec : {M : Type 1} → statement M
 line-of-spec =

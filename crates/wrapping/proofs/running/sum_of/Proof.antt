@@ -1,27 +1,37 @@
+-- `running::sum_of` meets its contract: `ends-on`, of a sum that fits. Assumes nothing.
 use borrow.Author.Needs.{needs}
+use native.Mathlib.Omega.{arith}
+use mathlib.Core.Path.{_≡_, _∙_}
+use Prim.Native.Nat.{ℕ, _^_, _<_}
+use lib.IntN.{ℤ, natAbs}
+use lib.ListN.{length}
+use mir.Syntax.{w32}
+use mir.ValLaws.{toZ-ofZ}
+use Rattle.algebra.specs.Sum.{sum}
+use Rattle.wrapping.specs.Feed.{productAt}
+use Rattle.wrapping.proofs.Adder.{ends-on}
 use Rattle.wrapping.proofs.running.sum_of.Statement.{statement}
 use Rattle.wrapping.proofs.running.sum_of.Tie as tie
-use Rattle.wrapping.proofs.running.sum_of.Reads as reads
-use Rattle.wrapping.proofs.running.sum_of.Lts as lts
-use Rattle.std.proofs.num.wrapping_sub_u32.Reads as wrapping-sub-u32-reads
-use Rattle.wrapping.proofs.running.fed.Reads as fed-reads
-use Rattle.wrapping.proofs.word.signed.Reads as signed-reads
 
--- src/running.rt:50:9
 fed-requires : tie.Need-fed-requires
 fed-requires c κs = search needs
 
--- src/running.rt:51:12
 wrapping-sub-u32-requires : tie.Need-wrapping-sub-u32-requires
 wrapping-sub-u32-requires c κs = search needs
 
--- src/running.rt:51:5
 signed-requires : tie.Need-signed-requires
 signed-requires c κs = search needs
 
--- src/running.rt:46:1
 returns : tie.Need-returns
-returns c = search needs
+returns c =
+    let S = c .before .before .before .before in
+    let a = S .args in
+    let fed = c .before .before .fed .ensures in
+    let off = c .before .wrapping-sub-u32 in
+    let p : ℕ → ℤ = productAt (a .t .now) (a .apart) (a .j) (a .x .now) in
+    let small : natAbs (sum (length (a .x .now)) p) < 2 ^ 31 = omega (arith, fed .1, S .pre .0 .few) in
+    toZ-ofZ w32 (c .signed .result) (search needs) ∙ c .signed .ensures
+    ∙ ends-on (S .pre .0 .each) p (a .start) (off .result) (search needs) (omega arith) (off .ensures ∙ fed .0) small
 
 pub sum-of-spec : {M : Type 1} → statement M
 sum-of-spec = tie.close (tie.spec fed-requires wrapping-sub-u32-requires signed-requires returns)
