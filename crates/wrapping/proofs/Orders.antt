@@ -1,5 +1,5 @@
 -- Each of 0..n-1 once: a sum in such an order is the sum. Assumes nothing.
-use mathlib.Core.Path.{_≡_, refl, sym, ap, _∙_, subst}
+use mathlib.Core.Path.{_≡_, refl, sym, ap, _∙_}
 use mathlib.Core.Bool.{Bool, true, false, cond, _&&_}
 use mathlib.Core.List.{List, [], _∷_}
 use Prim.Native.Nat.{ℕ, zero, suc, _+_, _-_, _*_, _<_, _≤_}
@@ -11,8 +11,8 @@ use lib.ListN.{length, getD, drop, drop-of-length-le}
 use lib.Seq.{drop-cons}
 use native.Mathlib.Numerals.{add-one}
 use borrow.Author.Tests.{eqb-true, ltb-true, ltb-false, lt-ltb, le-ltb, eq-eqb, ne-eqb}
-use Rattle.algebra.specs.Sum.{sum, sumℕ}
-use Rattle.algebra.proofs.Sum.{sumℕ-cong, sumℕ-const, zero-sum}
+use Rattle.algebra.specs.Sum.{sumℕ}
+use Rattle.algebra.proofs.Sum.{sumℕ-add, sumℕ-cong, sumℕ-const, zero-sum}
 use Rattle.wrapping.specs.Order.{times, onceTo, isOrder, Order}
 
 one : ℕ → ℕ → ℕ
@@ -75,11 +75,6 @@ unfoldable pub sumOver : List ℕ → (ℕ → ℕ) → ℕ
 sumOver [] g = 0
 sumOver (x ∷ l) g = g x + sumOver l g
 
-add-sums : (n : ℕ) (f h : ℕ → ℕ) → sumℕ n (λ k. f k + h k) ≡ sumℕ n f + sumℕ n h
-unfolding sumℕ
-add-sums zero f h = refl
-add-sums (suc n) f h = omega (arith, add-sums n f h)
-
 by-times : (n : ℕ) (l : List ℕ) (g : ℕ → ℕ) → sumOver l g ≡ sumℕ n (λ k. times k l * g k) + sumOver l (past n g)
 unfolding times one sumOver
 by-times n [] g = sym (none n)
@@ -88,7 +83,7 @@ by-times n [] g = sym (none n)
     none n = omega (arith, zero-sum n (λ k. 0 * g k) (λ k h. zero-mul (g k)))
 by-times n (x ∷ l) g =
     let s : sumℕ n (λ k. (one x k + times k l) * g k) ≡ sumℕ n (λ k. one x k * g k) + sumℕ n (λ k. times k l * g k)
-    = sumℕ-cong n (λ k. (one x k + times k l) * g k) (λ k. one x k * g k + times k l * g k) (λ k h. add-mul (one x k) (times k l) (g k)) ∙ add-sums n (λ k. one x k * g k) (λ k. times k l * g k) in
+    = sumℕ-cong n (λ k. (one x k + times k l) * g k) (λ k. one x k * g k + times k l * g k) (λ k h. add-mul (one x k) (times k l) (g k)) ∙ sumℕ-add n (λ k. one x k * g k) (λ k. times k l * g k) in
     omega (arith, s, spike g x n, by-times n l g)
 
 -- each number of such a list is below n

@@ -6,7 +6,7 @@ use mathlib.Core.List.{List}
 use Prim.Native.Nat.{ℕ}
 use lib.IntN.{ℤ}
 use lib.ListN.{length}
-use Rattle.meaning.specs.Answer.{Outcome, outcome, accepted, lineTests, forwardLineOutcome, inverseLineOutcome}
+use Rattle.meaning.specs.Answer.{outcome, accepted, lineTests, forwardLineOutcome, inverseLineOutcome}
 use Rattle.wrapping.specs.Order.{isOrder}
 use Rattle.wrapping.specs.Outcome.{wrappedOutcome, forwardWrapped, inverseWrapped}
 

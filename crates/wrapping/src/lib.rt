@@ -11,7 +11,6 @@ use meaning::Answer;
 use meaning::is_kind;
 use meaning::is_size;
 ghost use mathlib.Core.Path.{_≡_};
-ghost use lib.ListN.{length};
 ghost use Rattle.algebra.specs.Lists.{at};
 ghost use Rattle.algebra.specs.Refusals.{numberOf};
 ghost use Rattle.meaning.specs.Answer.{Outcome};
@@ -68,28 +67,14 @@ fn total(
 }
 
 /// The forward line, its products fed in the order given to an adder that holds `start` and wraps.
-pub fn forward(
-    n: u32,
-    kind: u32,
-    start: u32,
-    order: &[u32],
-    x: &[i16],
-    y: &mut [i32],
-) -> Answer
+pub fn forward(n: u32, kind: u32, start: u32, order: &[u32], x: &[i16], y: &mut [i32]) -> Answer
     ensures { λ r. ⌜ _≡_ {A = Outcome} (r, now (y .exit)) (forwardWrapped n kind (now (order .entry)) (now (x .entry)) (now (y .entry))) ⌝ }
 {
     total(n, kind, true, start, order, x, y)
 }
 
 /// The inverse line, likewise.
-pub fn inverse(
-    n: u32,
-    kind: u32,
-    start: u32,
-    order: &[u32],
-    x: &[i16],
-    y: &mut [i32],
-) -> Answer
+pub fn inverse(n: u32, kind: u32, start: u32, order: &[u32], x: &[i16], y: &mut [i32]) -> Answer
     ensures { λ r. ⌜ _≡_ {A = Outcome} (r, now (y .exit)) (inverseWrapped n kind (now (order .entry)) (now (x .entry)) (now (y .entry))) ⌝ }
 {
     total(n, kind, false, start, order, x, y)

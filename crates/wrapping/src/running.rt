@@ -62,15 +62,7 @@ fn line_of(t: &[i16], apart: usize, start: u32, order: &[u32], x: &[i16], y: &mu
     }
 }
 
-pub fn line(
-    n: usize,
-    kind: u32,
-    forward: bool,
-    start: u32,
-    order: &[u32],
-    x: &[i16],
-    y: &mut [i32],
-)
+pub fn line(n: usize, kind: u32, forward: bool, start: u32, order: &[u32], x: &[i16], y: &mut [i32])
     requires { ⌜ TakenLine n kind (length (now x)) (length (now y)) × Order n (now order) ⌝ }
     ensures { λ _. ⌜ now (y .exit) ≡ sums forward kind n (at (now (x .entry))) ⌝ }
 {

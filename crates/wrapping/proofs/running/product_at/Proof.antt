@@ -1,6 +1,6 @@
 -- `running::product_at` meets its contract: both numbers are read, and a weight is small. Assumes nothing.
 use borrow.Author.Needs.{needs}
-use mathlib.Core.Path.{ap, _∙_}
+use mathlib.Core.Path.{_∙_}
 use mathlib.Core.Logic.{inl}
 use Prim.Native.Nat.{_+_, _*_}
 use lib.IntN.{_*ℤ_}

@@ -1,7 +1,7 @@
 -- `running::sum_of` meets its contract: `ends-on`, of a sum that fits. Assumes nothing.
 use borrow.Author.Needs.{needs}
 use native.Mathlib.Omega.{arith}
-use mathlib.Core.Path.{_≡_, _∙_}
+use mathlib.Core.Path.{_∙_}
 use Prim.Native.Nat.{ℕ, _^_, _<_}
 use lib.IntN.{ℤ, natAbs}
 use lib.ListN.{length}
