@@ -6,8 +6,24 @@ use crate::model;
 /// Which function of the header, with its numbers.
 #[derive(Clone, Copy, Debug, PartialEq, Eq)]
 pub enum What {
-    Weight { kind: u32, n: u32, i: u32, j: u32 },
-    Line { path: Path, n: u32, kind: u32 },
+    Weight {
+        kind: u32,
+        n: u32,
+        i: u32,
+        j: u32,
+    },
+    Line {
+        path: Path,
+        n: u32,
+        kind: u32,
+    },
+    /// A line whose sums wrap on the way; its order stands in the call.
+    Wrapped {
+        forward: bool,
+        n: u32,
+        kind: u32,
+        start: u32,
+    },
     Inverse(Shape),
     Forward(Shape),
 }
@@ -32,6 +48,8 @@ pub const PATHS: [Path; 4] = [
 #[derive(Clone, Debug)]
 pub struct Call {
     pub what: What,
+    /// The order of a wrapped line's products; of other calls empty.
+    pub order: Vec<u32>,
     pub input: Vec<i16>,
     /// A forward block's output is of 16 bits, so each of its numbers has to fit those.
     pub held: Vec<i32>,
@@ -61,6 +79,7 @@ impl Call {
     pub fn weight(kind: u32, n: u32, i: u32, j: u32) -> Call {
         Call {
             what: What::Weight { kind, n, i, j },
+            order: vec![],
             input: vec![],
             held: vec![],
         }
@@ -80,6 +99,17 @@ impl Call {
                     Path::Inverse | Path::InverseProduct => model::inverse_line,
                 };
                 line(n.into(), kind.into(), &input, &mut output)
+            }
+            What::Wrapped {
+                forward, n, kind, ..
+            } => {
+                let order: Vec<i64> = self.order.iter().map(|&k| k.into()).collect();
+                let line = if forward {
+                    model::forward_wrapped
+                } else {
+                    model::inverse_wrapped
+                };
+                line(n.into(), kind.into(), &order, &input, &mut output)
             }
             What::Inverse(shape) => model::inverse(&shape.into(), &input, &mut output),
             What::Forward(shape) => model::forward(&shape.into(), &input, &mut output),

@@ -28,7 +28,7 @@ fn inverse_blocks() {
         blocks(&mut c, Inverse);
     }
     let c = c.close();
-    assert_eq!(c.met[1..], [0; 9], "these blocks are taken");
+    assert_eq!(c.met[1..], [0; 21], "these blocks are taken");
 }
 
 #[test]
@@ -38,7 +38,7 @@ fn forward_blocks() {
         blocks(&mut c, Forward);
     }
     let c = c.close();
-    assert_eq!(c.met[1..], [0; 9], "these blocks are taken");
+    assert_eq!(c.met[1..], [0; 21], "these blocks are taken");
 }
 
 /// How often every shape meets every layout: some ten million numbers in each direction.

@@ -11,3 +11,4 @@ mod numbers;
 mod refusals;
 mod steps;
 mod weights;
+mod wrapped;

