@@ -1,6 +1,6 @@
 // The library for C and Rust: each public function of `transform`, `wrapping`, `step_run`, `step_lists` and `picture` under the name
-// and with the arguments that include/hoengtila.h declares. A wrapper is one call and has the contract of what it calls; none has a `requires`, so
-// whatever numbers and lengths a caller hands over, the contract says what comes back. Read it beside the header.
+// and with the arguments that include/hoengtila.h declares. A wrapper is one call and has the contract of what it calls; none has a
+// `requires`, so whatever numbers and lengths a caller hands over, the contract says what comes back. Read it beside the header.
 use meaning::Answer;
 use meaning::Shape;
 use picture::read::Picture;

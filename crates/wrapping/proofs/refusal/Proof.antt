@@ -4,6 +4,7 @@ use mathlib.Core.Path.{_≡_, sym, _∙_}
 use borrow.Author.Tests.{eq-eqb, ne-eqb, not-false}
 use mathlib.Core.Bool.{true}
 use Rattle.meaning.specs.Shape.{isSize, isKind}
+use Rattle.wrapping.specs.Order.{isOrder}
 use Rattle.wrapping.proofs.refusal.Statement.{statement}
 use Rattle.wrapping.proofs.refusal.Tie as tie
 
@@ -32,15 +33,19 @@ returns-4 c = rw (past3 (c .before .before) .0, past3 (c .before .before) .1, eq
 is-order-requires : tie.Need-is-order-requires
 is-order-requires c κs = search needs
 
+-- 21 is asked of n
+ordered : (c : tie.After-is-order) → let s = c .before .before .before .before .before .before .before .before .args in c .is-order .result ≡ isOrder (s .n) (s .order .now)
+ordered c = c .is-order .ensures
+
 returns-5 : tie.Need-returns-5
 returns-5 c =
     let p = past3 (c .before .before .before .before) in
-    rw (p .0, p .1, eq-eqb _ _ (c .before .before .before .if3 .left), eq-eqb _ _ (c .before .before .if4 .left), ← c .before .is-order .ensures, c .if5 .taken)
+    rw (p .0, p .1, eq-eqb _ _ (c .before .before .before .if3 .left), eq-eqb _ _ (c .before .before .if4 .left), ← ordered (c .before), c .if5 .taken)
 
 returns-6 : tie.Need-returns-6
 returns-6 c =
     let p = past3 (c .before .before .before .before) in
-    rw (p .0, p .1, eq-eqb _ _ (c .before .before .before .if3 .left), eq-eqb _ _ (c .before .before .if4 .left), ← c .before .is-order .ensures, c .if5 .left)
+    rw (p .0, p .1, eq-eqb _ _ (c .before .before .before .if3 .left), eq-eqb _ _ (c .before .before .if4 .left), ← ordered (c .before), c .if5 .left)
 
 pub refusal-spec : {M : Type 1} → statement M
 refusal-spec =
