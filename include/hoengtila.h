@@ -17,6 +17,7 @@
  *   8  inverse block: a coefficient other than 0 outside the kept part, which is the first `columns` columns and the
  *      first `rows` rows of the shape; place of the first
  *   9  forward block: a residual of size above 2^depth - 1; place of the first
+ *  21  a line whose sums wrap: the order is not each of 0..n-1 once
  *  23  writing a picture: a residual outside -32768..32767
  *  24  reading a picture: the header is not that of such a graymap, or has sizes that 1 or 2 would refuse
  *  25  reading a picture: too few or too many samples
@@ -86,6 +87,12 @@ hoengtila_answer hoengtila_line_forward(uint32_t n, uint32_t kind, const int16_t
 hoengtila_answer hoengtila_line_inverse(uint32_t n, uint32_t kind, const int16_t *x, size_t x_len, int32_t *y, size_t y_len);
 hoengtila_answer hoengtila_line_forward_product(uint32_t n, uint32_t kind, const int16_t *x, size_t x_len, int32_t *y, size_t y_len);
 hoengtila_answer hoengtila_line_inverse_product(uint32_t n, uint32_t kind, const int16_t *x, size_t x_len, int32_t *y, size_t y_len);
+
+/* Lines by adders of 32 bits that wrap: for each output the sum starts from `start`, takes the n products in the given order
+ * modulo 2^32, and has `start` taken off; `order` names the products by their inputs. Whatever `start` is, and in every order,
+ * they give what the lines above give. They refuse 1, 3, 6, 7, then 21: an order that is not each of 0..n-1 once. */
+hoengtila_answer hoengtila_line_forward_wrapped(uint32_t n, uint32_t kind, uint32_t start, const uint32_t *order, size_t order_len, const int16_t *x, size_t x_len, int32_t *y, size_t y_len);
+hoengtila_answer hoengtila_line_inverse_wrapped(uint32_t n, uint32_t kind, uint32_t start, const uint32_t *order, size_t order_len, const int16_t *x, size_t x_len, int32_t *y, size_t y_len);
 
 /* Blocks: numbers stand row by row. The inverse takes coefficients and gives residuals, which are not clipped; the forward
  * takes residuals and gives coefficients, 0 outside the kept part. */

@@ -9,6 +9,7 @@
 enum { MOST = 4096 };
 enum { WEIGHT, LINE_FORWARD, LINE_INVERSE, LINE_FORWARD_PRODUCT, LINE_INVERSE_PRODUCT, BLOCK_INVERSE, BLOCK_FORWARD, SHAPE_OF };
 enum { STEPS_RUN = 600, STEPS_LIST, STEPS_FORWARD };
+enum { WRAPPED_FORWARD = 900, WRAPPED_INVERSE };
 
 /* more numbers than 2,048 steps have */
 enum { MOST_STEPS = 8448 };
@@ -16,6 +17,7 @@ enum { MOST_STEPS = 8448 };
 /* an output has one number more than the library is told of, which is to stay as it is */
 enum { BEYOND = 0x5A5A };
 static int16_t in16[MOST];
+static uint32_t order32[MOST];
 static int16_t out16[MOST + 1];
 static int32_t out32[MOST + 1];
 static int32_t steps32[MOST_STEPS + 1];
@@ -90,6 +92,20 @@ static void line(uint32_t call) {
     case LINE_FORWARD_PRODUCT: a = hoengtila_line_forward_product(n, kind, in16, in, out32, out); break;
     default: a = hoengtila_line_inverse_product(n, kind, in16, in, out32, out); break;
     }
+    if (out32[out] != BEYOND) exit(3);
+    put_answer(a);
+    put(out32, sizeof *out32, out);
+}
+
+static void wrapped(uint32_t call) {
+    uint32_t n = number(), kind = number(), start = number(), order = length(), in = length(), out = length();
+    hoengtila_answer a;
+    get(order32, sizeof *order32, order);
+    get(in16, sizeof *in16, in);
+    get(out32, sizeof *out32, out);
+    out32[out] = BEYOND;
+    if (call == WRAPPED_FORWARD) a = hoengtila_line_forward_wrapped(n, kind, start, order32, order, in16, in, out32, out);
+    else a = hoengtila_line_inverse_wrapped(n, kind, start, order32, order, in16, in, out32, out);
     if (out32[out] != BEYOND) exit(3);
     put_answer(a);
     put(out32, sizeof *out32, out);
@@ -175,6 +191,7 @@ int main(void) {
         else if (call == STEPS_RUN) steps_run();
         else if (call == STEPS_LIST) steps_list();
         else if (call == STEPS_FORWARD) steps_forward();
+        else if (call == WRAPPED_FORWARD || call == WRAPPED_INVERSE) wrapped(call);
         else return 2;
         fflush(stdout);
     }

@@ -19,6 +19,13 @@ pub enum What {
         n: u32,
         kind: u32,
     },
+    /// A line whose sums wrap on the way; its order stands in the call.
+    Wrapped {
+        forward: bool,
+        n: u32,
+        kind: u32,
+        start: u32,
+    },
     Inverse(Shape),
     Forward(Shape),
 }
@@ -43,6 +50,8 @@ pub const PATHS: [Path; 4] = [
 #[derive(Clone, Debug)]
 pub struct Call {
     pub what: What,
+    /// The order of a wrapped line's products; of other calls empty.
+    pub order: Vec<u32>,
     pub input: Vec<i16>,
     /// A forward block's output is of 16 bits, so each of its numbers has to fit those.
     pub held: Vec<i32>,
@@ -99,6 +108,7 @@ impl Call {
     pub fn of(what: What) -> Call {
         Call {
             what,
+            order: vec![],
             input: vec![],
             held: vec![],
         }
@@ -119,6 +129,17 @@ impl Call {
                     Path::Inverse | Path::InverseProduct => model::inverse_line,
                 };
                 line(n.into(), kind.into(), &input, &mut output)
+            }
+            What::Wrapped {
+                forward, n, kind, ..
+            } => {
+                let order: Vec<i64> = self.order.iter().map(|&k| k.into()).collect();
+                let line = if forward {
+                    model::forward_wrapped
+                } else {
+                    model::inverse_wrapped
+                };
+                line(n.into(), kind.into(), &order, &input, &mut output)
             }
             What::Inverse(shape) => model::inverse(&shape.into(), &input, &mut output),
             What::Forward(shape) => model::forward(&shape.into(), &input, &mut output),

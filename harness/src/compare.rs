@@ -17,7 +17,7 @@ pub struct Comparison {
     calls: usize,
     numbers: usize,
     /// how often each number was handed back, and how many values stood at a rail
-    pub met: [usize; 21],
+    pub met: [usize; 32],
     pub rails: u64,
     started: Instant,
 }
@@ -33,7 +33,7 @@ impl Comparison {
             waiting: vec![],
             calls: 0,
             numbers: 0,
-            met: [0; 21],
+            met: [0; 32],
             rails: 0,
             started: Instant::now(),
         }
@@ -64,9 +64,14 @@ impl Comparison {
 
     fn compare(&mut self, call: &Call, found: &Outcome) {
         if let Some(difference) = difference(&call.by_model(), found) {
-            let Call { what, input, held } = call;
+            let Call {
+                what,
+                order,
+                input,
+                held,
+            } = call;
             panic!(
-                "{}: {what:?}: {difference}\ninput {input:?}\noutput before {held:?}\n{SEED_VARIABLE}={}",
+                "{}: {what:?}: {difference}\norder {order:?}\ninput {input:?}\noutput before {held:?}\n{SEED_VARIABLE}={}",
                 self.title,
                 seed()
             );
@@ -79,7 +84,7 @@ impl Comparison {
 
     /// Whether no call was turned down.
     pub fn all_taken(&self) -> bool {
-        self.met[1..] == [0; 20]
+        self.met[1..].iter().all(|count| *count == 0)
     }
 
     /// Compares what is left, and says how much there was.

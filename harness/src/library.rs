@@ -126,6 +126,28 @@ mod c {
             y: *mut i32,
             y_len: usize,
         ) -> Answer;
+        pub fn hoengtila_line_forward_wrapped(
+            n: u32,
+            kind: u32,
+            start: u32,
+            order: *const u32,
+            order_len: usize,
+            x: *const i16,
+            x_len: usize,
+            y: *mut i32,
+            y_len: usize,
+        ) -> Answer;
+        pub fn hoengtila_line_inverse_wrapped(
+            n: u32,
+            kind: u32,
+            start: u32,
+            order: *const u32,
+            order_len: usize,
+            x: *const i16,
+            x_len: usize,
+            y: *mut i32,
+            y_len: usize,
+        ) -> Answer;
         pub fn hoengtila_block_inverse(
             shape: Shape,
             coefficients: *const i16,
@@ -217,6 +239,56 @@ pub fn line_forward_product(n: u32, kind: u32, x: &[i16], y: &mut [i32]) -> Answ
 pub fn line_inverse_product(n: u32, kind: u32, x: &[i16], y: &mut [i32]) -> Answer {
     unsafe {
         c::hoengtila_line_inverse_product(n, kind, x.as_ptr(), x.len(), y.as_mut_ptr(), y.len())
+    }
+}
+
+/// The forward line of `n` points by adders of 32 bits that wrap: its products in the order given, from the number `start`.
+#[inline]
+pub fn line_forward_wrapped(
+    n: u32,
+    kind: u32,
+    start: u32,
+    order: &[u32],
+    x: &[i16],
+    y: &mut [i32],
+) -> Answer {
+    unsafe {
+        c::hoengtila_line_forward_wrapped(
+            n,
+            kind,
+            start,
+            order.as_ptr(),
+            order.len(),
+            x.as_ptr(),
+            x.len(),
+            y.as_mut_ptr(),
+            y.len(),
+        )
+    }
+}
+
+/// The inverse line of `n` points by adders of 32 bits that wrap: its products in the order given, from the number `start`.
+#[inline]
+pub fn line_inverse_wrapped(
+    n: u32,
+    kind: u32,
+    start: u32,
+    order: &[u32],
+    x: &[i16],
+    y: &mut [i32],
+) -> Answer {
+    unsafe {
+        c::hoengtila_line_inverse_wrapped(
+            n,
+            kind,
+            start,
+            order.as_ptr(),
+            order.len(),
+            x.as_ptr(),
+            x.len(),
+            y.as_mut_ptr(),
+            y.len(),
+        )
     }
 }
 

@@ -11,6 +11,7 @@ pub mod picture;
 pub mod small;
 pub mod steps;
 pub mod weights;
+pub mod wrapped;
 
 pub use block::{fair_ends, forward, inverse};
 pub use call::{Answer, Shape};
@@ -18,6 +19,7 @@ pub use file::{run_file, Cursor, Step};
 pub use line::{forward_line, inverse_line};
 pub use picture::{read_picture, write_picture};
 pub use small::{forward_4x4, inverse_4x4, Small};
+pub use wrapped::{forward_wrapped, inverse_wrapped};
 
 #[cfg(test)]
 mod numbers;

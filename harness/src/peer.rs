@@ -84,6 +84,8 @@ fn name(what: &What) -> u32 {
         What::Inverse(_) => 5,
         What::Forward(_) => 6,
         What::ShapeOf(_) => 7,
+        What::Wrapped { forward: true, .. } => 900,
+        What::Wrapped { forward: false, .. } => 901,
     }
 }
 
@@ -93,6 +95,7 @@ fn request(call: &Call) -> Vec<u8> {
         What::ShapeOf(numbers) => numbers.to_vec(),
         What::Weight { kind, n, i, j } => vec![*kind, *n, *i, *j],
         What::Line { n, kind, .. } => vec![*n, *kind],
+        What::Wrapped { n, kind, start, .. } => vec![*n, *kind, *start, call.order.len() as u32],
         What::Inverse(shape) | What::Forward(shape) => shape_numbers(shape).to_vec(),
     };
     numbers.insert(0, name(&call.what));
@@ -100,6 +103,7 @@ fn request(call: &Call) -> Vec<u8> {
         numbers.extend(lengths);
     }
     let mut bytes: Vec<u8> = numbers.iter().flat_map(|n| n.to_le_bytes()).collect();
+    bytes.extend(call.order.iter().flat_map(|k| k.to_le_bytes()));
     bytes.extend(call.input.iter().flat_map(|z| z.to_le_bytes()));
     if let What::Forward(_) = call.what {
         bytes.extend(call.held.iter().flat_map(|z| (*z as i16).to_le_bytes()));

@@ -87,6 +87,19 @@ fn run_linked(call: &Call) -> Outcome {
             };
             line(n, kind, input, &mut output)
         }
+        What::Wrapped {
+            forward,
+            n,
+            kind,
+            start,
+        } => {
+            let line = if forward {
+                library::line_forward_wrapped
+            } else {
+                library::line_inverse_wrapped
+            };
+            line(n, kind, start, &call.order, input, &mut output)
+        }
         What::Inverse(shape) => library::block_inverse(shape, input, &mut output),
         What::Forward(shape) => {
             let mut short: Vec<i16> = output.iter().map(|z| *z as i16).collect();

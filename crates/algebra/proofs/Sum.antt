@@ -65,7 +65,7 @@ sumℕ-mono zero f g h = omega arith
 sumℕ-mono (suc n) f g h = add-le-add (sumℕ-mono n f g (λ i p. h i (omega arith))) (h n (omega arith))
 
 -- the sum of two, and a count by rows as by columns
-sumℕ-add : (n : ℕ) (f g : ℕ → ℕ) → sumℕ n (λ i. f i + g i) ≡ sumℕ n f + sumℕ n g
+pub sumℕ-add : (n : ℕ) (f g : ℕ → ℕ) → sumℕ n (λ i. f i + g i) ≡ sumℕ n f + sumℕ n g
 unfolding sumℕ
 sumℕ-add zero f g = refl
 sumℕ-add (suc n) f g = omega (arith, sumℕ-add n f g)

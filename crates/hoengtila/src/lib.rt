@@ -1,6 +1,7 @@
-// The library for C and Rust: each public function of `transform`, `step_run`, `step_lists` and `picture`, and the one that makes a
-// shape, under the name and with the arguments that include/hoengtila.h declares. A wrapper is one call and has the contract of what it calls; none has a `requires`, so
-// whatever numbers and lengths a caller hands over, the contract says what comes back. Read it beside the header.
+// The library for C and Rust: each public function of `transform`, `wrapping`, `step_run`, `step_lists` and `picture`, and the one
+// that makes a shape, under the name and with the arguments that include/hoengtila.h declares. A wrapper is one call and has the
+// contract of what it calls; none has a `requires`, so whatever numbers and lengths a caller hands over, the contract says what comes
+// back. Read it beside the header.
 use meaning::Answer;
 use meaning::Shape;
 use picture::read::Picture;
@@ -18,6 +19,7 @@ ghost use Rattle.meaning.specs.Forward.{forwardOutcome};
 ghost use Rattle.transform.specs.Line.{weightOrZero};
 ghost use Rattle.steps.specs.Numbers.{listOf};
 ghost use Rattle.steps.specs.Outcome.{Result, runOutcome};
+ghost use Rattle.wrapping.specs.Outcome.{forwardWrapped, inverseWrapped};
 ghost use Rattle.picture.specs.Outcomes.{writeOutcome, readOutcome};
 ghost use Rattle.step_lists.specs.Listed.{Handed, listOutcome, lineOutcome};
 
@@ -77,6 +79,34 @@ pub extern "C" fn hoengtila_line_inverse_product(
     ensures { λ r. ⌜ _≡_ {A = Outcome} (r, now (y .exit)) (inverseLineOutcome n kind (now (x .entry)) (now (y .entry))) ⌝ }
 {
     transform::line::inverse_product(n, kind, x, y)
+}
+
+#[no_mangle]
+pub extern "C" fn hoengtila_line_forward_wrapped(
+    n: u32,
+    kind: u32,
+    start: u32,
+    order: &[u32],
+    x: &[i16],
+    y: &mut [i32],
+) -> Answer
+    ensures { λ r. ⌜ _≡_ {A = Outcome} (r, now (y .exit)) (forwardWrapped n kind (now (order .entry)) (now (x .entry)) (now (y .entry))) ⌝ }
+{
+    wrapping::forward(n, kind, start, order, x, y)
+}
+
+#[no_mangle]
+pub extern "C" fn hoengtila_line_inverse_wrapped(
+    n: u32,
+    kind: u32,
+    start: u32,
+    order: &[u32],
+    x: &[i16],
+    y: &mut [i32],
+) -> Answer
+    ensures { λ r. ⌜ _≡_ {A = Outcome} (r, now (y .exit)) (inverseWrapped n kind (now (order .entry)) (now (x .entry)) (now (y .entry))) ⌝ }
+{
+    wrapping::inverse(n, kind, start, order, x, y)
 }
 
 #[no_mangle]

@@ -30,6 +30,29 @@ pub fn line_call(
 ) -> Call {
     Call {
         what: What::Line { path, n, kind },
+        order: vec![],
+        input: shorts(x),
+        held: held(random, output, OF_32_BITS),
+    }
+}
+
+/// A line whose products are fed in that order to an adder that holds `start`.
+pub fn wrapped_call(
+    random: &mut Random,
+    direction: Direction,
+    [n, kind, start]: [u32; 3],
+    order: &[u32],
+    x: &[i64],
+    output: usize,
+) -> Call {
+    Call {
+        what: What::Wrapped {
+            forward: direction == Forward,
+            n,
+            kind,
+            start,
+        },
+        order: order.to_vec(),
         input: shorts(x),
         held: held(random, output, OF_32_BITS),
     }
@@ -75,6 +98,7 @@ pub fn block_call(
     };
     Call {
         what,
+        order: vec![],
         input: shorts(input),
         held: held(random, output, ends),
     }

@@ -12,3 +12,4 @@ mod refusals;
 mod shapes;
 mod steps;
 mod weights;
+mod wrapped;

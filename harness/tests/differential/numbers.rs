@@ -12,6 +12,7 @@ fn shape(width: u32, height: u32, depth: u32) -> Shape {
 fn run(c: &mut Comparison, what: What, input: &[i16]) -> Outcome {
     c.outcome(Call {
         what,
+        order: vec![],
         input: input.to_vec(),
         held: vec![7; input.len()],
     })

@@ -1,0 +1,49 @@
+-- `total` meets its contract: the first refusal that applies, or the line with number 0. Assumes nothing.
+use borrow.Author.Needs.{needs}
+use mathlib.Core.Path.{sym, ap, _∙_}
+use mathlib.Core.List.{List, []}
+use Prim.Native.Nat.{ℕ}
+use lib.ListN.{length}
+use Rattle.algebra.specs.Lists.{at}
+use Rattle.algebra.specs.Refusals.{Refusal}
+use Rattle.algebra.proofs.Refusals.{refused-first, passed-first}
+use Rattle.meaning.specs.Answer.{Outcome, refused, accepted}
+use Rattle.wrapping.specs.Outcome.{sums, wrappedTests}
+use Rattle.wrapping.proofs.Passed.{passed}
+use Rattle.wrapping.proofs.total.Statement.{statement}
+use Rattle.wrapping.proofs.total.Tie as tie
+
+abbrev tests : tie.Start → List Refusal
+tests s = wrappedTests (s .args .n) (s .args .kind) (length (s .args .x .now)) (length (s .args .y .now)) (s .args .order .now)
+
+abbrev given-back : tie.Start → ℕ → ℕ → Outcome
+given-back s number place = (refused number place, s .args .y .now)
+
+abbrev done : tie.Start → Outcome
+done s = (accepted 0, sums (s .args .forward) (s .args .kind) (s .args .n) (at (s .args .x .now)))
+
+refusal-requires : tie.Need-refusal-requires
+refusal-requires c κs = search needs
+
+returns : tie.Need-returns
+returns c =
+    let s = c .before .before .before in
+    ap (λ (number : ℕ). given-back s number 0) (c .before .refusal .ensures)
+    ∙ sym (refused-first [] (given-back s) (done s) (tests s) tt (λ e. c .if1 .taken (c .before .refusal .ensures ∙ e)))
+
+line-requires : tie.Need-line-requires
+line-requires c κs =
+    let s = c .before .before .before .before in
+    passed (s .args .n) (s .args .kind) (length (s .args .x .now)) (length (s .args .y .now)) (s .args .order .now) (sym (c .before .before .refusal .ensures) ∙ c .before .if1 .left)
+
+same-length : tie.Need-same-length
+same-length c = search needs
+
+returns-2 : tie.Need-returns-2
+returns-2 c =
+    let s = c .before .before .before .before .before .before in
+    _∙_ {b = done s} (λ i. (accepted 0, c .before .line .ensures i))
+    (sym (passed-first [] (given-back s) (done s) (tests s) tt (sym (c .before .before .before .before .refusal .ensures) ∙ c .before .before .before .if1 .left)))
+
+pub total-spec : {M : Type 1} → statement M
+total-spec = tie.close (tie.spec refusal-requires returns line-requires same-length returns-2)

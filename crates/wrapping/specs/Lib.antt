@@ -1,0 +1,4 @@
+pub mod Order
+pub mod Wrapped
+pub mod Feed
+pub mod Outcome
