@@ -7,6 +7,7 @@ use crate::model;
 #[derive(Clone, Copy, Debug, PartialEq, Eq)]
 pub enum What {
     Weight { kind: u32, n: u32, i: u32, j: u32 },
+    Stray { kind: u32, n: u32, j: u32 },
     Line { path: Path, n: u32, kind: u32 },
     Inverse(Shape),
     Forward(Shape),
@@ -37,7 +38,7 @@ pub struct Call {
     pub held: Vec<i32>,
 }
 
-/// What a call hands back, and what its output holds then. A weight is an output of one number.
+/// What a call hands back, and what its output holds then. A weight, or a D, is an output of one number.
 #[derive(Clone, Debug, PartialEq, Eq)]
 pub struct Outcome {
     pub answer: Answer,
@@ -66,6 +67,14 @@ impl Call {
         }
     }
 
+    pub fn stray(kind: u32, n: u32, j: u32) -> Call {
+        Call {
+            what: What::Stray { kind, n, j },
+            input: vec![],
+            held: vec![],
+        }
+    }
+
     /// What the model says of this call.
     pub fn by_model(&self) -> Outcome {
         let input: Vec<i64> = self.input.iter().map(|&z| z.into()).collect();
@@ -73,6 +82,9 @@ impl Call {
         let answer = match self.what {
             What::Weight { kind, n, i, j } => {
                 return Outcome::of_weight(narrow(model_weight(kind, n, i, j)))
+            }
+            What::Stray { kind, n, j } => {
+                return Outcome::of_weight(narrow(model_stray(kind, n, j)))
             }
             What::Line { path, n, kind } => {
                 let line = match path {
@@ -96,6 +108,15 @@ fn model_weight(kind: u32, n: u32, i: u32, j: u32) -> i64 {
     let inside = model::call::is_kind(kind.into()) && model::call::is_size(n.into());
     if inside && i < n && j < n {
         model::weights::weight(kind.into(), n as usize, i as usize, j as usize)
+    } else {
+        0
+    }
+}
+
+fn model_stray(kind: u32, n: u32, j: u32) -> i64 {
+    let inside = model::call::is_kind(kind.into()) && model::call::is_size(n.into());
+    if inside && j < n {
+        model::line::stray(kind.into(), n as usize, j as usize)
     } else {
         0
     }

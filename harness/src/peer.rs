@@ -83,6 +83,7 @@ fn name(what: &What) -> u32 {
         },
         What::Inverse(_) => 5,
         What::Forward(_) => 6,
+        What::Stray { .. } => 1300,
     }
 }
 
@@ -100,11 +101,12 @@ fn request(call: &Call) -> Vec<u8> {
     let lengths = [call.input.len() as u32, call.held.len() as u32];
     let mut numbers = match &call.what {
         What::Weight { kind, n, i, j } => vec![*kind, *n, *i, *j],
+        What::Stray { kind, n, j } => vec![*kind, *n, *j],
         What::Line { n, kind, .. } => vec![*n, *kind],
         What::Inverse(shape) | What::Forward(shape) => shape_numbers(shape),
     };
     numbers.insert(0, name(&call.what));
-    if !matches!(call.what, What::Weight { .. }) {
+    if !matches!(call.what, What::Weight { .. } | What::Stray { .. }) {
         numbers.extend(lengths);
     }
     let mut bytes: Vec<u8> = numbers.iter().flat_map(|n| n.to_le_bytes()).collect();
@@ -118,7 +120,7 @@ fn request(call: &Call) -> Vec<u8> {
 }
 
 fn read_reply(from: &mut impl Read, call: &Call) -> std::io::Result<Outcome> {
-    if let What::Weight { .. } = call.what {
+    if let What::Weight { .. } | What::Stray { .. } = call.what {
         return Ok(Outcome::of_weight(read_four(from)?));
     }
     let mut number = || read_four(from).map(|n| n as u32);

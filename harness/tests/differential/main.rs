@@ -10,4 +10,5 @@ mod lines;
 mod numbers;
 mod refusals;
 mod steps;
+mod strays;
 mod weights;
