@@ -55,7 +55,7 @@ function aim(m, name, over, under, bound, limit,    a, b) {
 function less(m, direction,    most, few) {
     if (!has(m, direction " 32x32 dense", "library") || !has(m, direction " 32x32 keeps-4x4", "library")) return
     most = value[m, direction " 32x32 dense", "library"]; few = value[m, direction " 32x32 keeps-4x4", "library"]
-    printf "%-8s %-22s %-20s %5.2f, more than %.2f\n", most > few ? "reached" : "short", direction " 32x32", "keeps 16x16/4x4", most / few, 1
+    printf "%-8s %-22s %-20s %5.2f, more than %.2f\n", (most > few ? "reached" : "short"), direction " 32x32", "keeps 16x16/4x4", most / few, 1
 }
 
 function aims(m,    k, f) {

@@ -1,6 +1,7 @@
 -- `numbers::agreeing` meets its contract: no more agree than were compared. Assumes nothing.
 use borrow.Author.Needs.{needs}
 use native.Mathlib.Omega.{arith}
+use native.Mathlib.Nat.{le-trans, div-le-self}
 use Prim.Native.Nat.{_≤_, _-_}
 use lib.ListN.{length}
 use mathlib.Core.Logic.{⊎-elim}
@@ -23,7 +24,7 @@ div-row : tie.Need-div-row Inv-loop μ-loop
 div-row c = search needs
 
 row-requires : tie.Need-row-requires Inv-loop μ-loop
-row-requires c κs = search needs
+row-requires c κs = le-trans (div-le-self _ _) (omega arith)
 
 rem-weight : tie.Need-rem-weight Inv-loop μ-loop
 rem-weight c = search needs
