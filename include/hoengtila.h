@@ -79,6 +79,10 @@ hoengtila_shape hoengtila_shape_of(uint32_t width, uint32_t height, uint32_t hor
 /* The weight of row i in column j at n points; 0 outside. */
 int32_t hoengtila_weight(uint32_t kind, uint32_t n, uint32_t i, uint32_t j);
 
+/* D(j): a line of n whole numbers of size at most M, taken forward and back with nothing rounded, comes back at place j as
+ * 4096 * n times what it was, but for at most M * D(j); 0 outside. */
+uint32_t hoengtila_stray(uint32_t kind, uint32_t n, uint32_t j);
+
 /* Lines: n numbers of 16 bits in, n exact sums of 32 bits out, with no shift.
  * The first two take the fast path, the others the full matrix product; they give the same. The fast path shares products
  * between weights: 10, 136 and 664 multiplications at 4, 16 and 32 points, where the product has 16, 256 and 1,024. At 8 points

@@ -10,6 +10,7 @@ enum { MOST = 4096 };
 enum { WEIGHT, LINE_FORWARD, LINE_INVERSE, LINE_FORWARD_PRODUCT, LINE_INVERSE_PRODUCT, BLOCK_INVERSE, BLOCK_FORWARD, SHAPE_OF };
 enum { STEPS_RUN = 600, STEPS_LIST, STEPS_FORWARD };
 enum { WRAPPED_FORWARD = 900, WRAPPED_INVERSE };
+enum { STRAY = 1300 };
 
 /* more numbers than 2,048 steps have */
 enum { MOST_STEPS = 8448 };
@@ -78,6 +79,12 @@ static void weight(void) {
     uint32_t kind = number(), n = number(), i = number(), j = number();
     int32_t w = hoengtila_weight(kind, n, i, j);
     put(&w, sizeof w, 1);
+}
+
+static void stray(void) {
+    uint32_t kind = number(), n = number(), j = number();
+    uint32_t d = hoengtila_stray(kind, n, j);
+    put(&d, sizeof d, 1);
 }
 
 static void line(uint32_t call) {
@@ -188,6 +195,7 @@ int main(void) {
         else if (call <= LINE_INVERSE_PRODUCT) line(call);
         else if (call <= BLOCK_FORWARD) block(call);
         else if (call == SHAPE_OF) shape_of();
+        else if (call == STRAY) stray();
         else if (call == STEPS_RUN) steps_run();
         else if (call == STEPS_LIST) steps_list();
         else if (call == STEPS_FORWARD) steps_forward();

@@ -26,6 +26,12 @@ pub enum What {
         kind: u32,
         start: u32,
     },
+    /// D of a place.
+    Stray {
+        kind: u32,
+        n: u32,
+        j: u32,
+    },
     Inverse(Shape),
     Forward(Shape),
 }
@@ -57,7 +63,7 @@ pub struct Call {
     pub held: Vec<i32>,
 }
 
-/// What a call hands back, and what its output holds then. A weight is an output of one number, a shape one of seven.
+/// What a call hands back, and what its output holds then. A weight, or a D, is an output of one number, a shape one of seven.
 #[derive(Clone, Debug, PartialEq, Eq)]
 pub struct Outcome {
     pub answer: Answer,
@@ -114,6 +120,10 @@ impl Call {
         }
     }
 
+    pub fn stray(kind: u32, n: u32, j: u32) -> Call {
+        Call::of(What::Stray { kind, n, j })
+    }
+
     /// What the model says of this call.
     pub fn by_model(&self) -> Outcome {
         let input: Vec<i64> = self.input.iter().map(|&z| z.into()).collect();
@@ -122,6 +132,9 @@ impl Call {
             What::ShapeOf(numbers) => return Outcome::of_shape(most_kept(numbers)),
             What::Weight { kind, n, i, j } => {
                 return Outcome::of_weight(narrow(model_weight(kind, n, i, j)))
+            }
+            What::Stray { kind, n, j } => {
+                return Outcome::of_weight(narrow(model_stray(kind, n, j)))
             }
             What::Line { path, n, kind } => {
                 let line = match path {
@@ -156,6 +169,15 @@ fn model_weight(kind: u32, n: u32, i: u32, j: u32) -> i64 {
     let inside = model::call::is_kind(kind.into()) && model::call::is_size(n.into());
     if inside && i < n && j < n {
         model::weights::weight(kind.into(), n as usize, i as usize, j as usize)
+    } else {
+        0
+    }
+}
+
+fn model_stray(kind: u32, n: u32, j: u32) -> i64 {
+    let inside = model::call::is_kind(kind.into()) && model::call::is_size(n.into());
+    if inside && j < n {
+        model::line::stray(kind.into(), n as usize, j as usize)
     } else {
         0
     }

@@ -94,6 +94,7 @@ mod c {
             depth: u32,
         ) -> Shape;
         pub fn hoengtila_weight(kind: u32, n: u32, i: u32, j: u32) -> i32;
+        pub fn hoengtila_stray(kind: u32, n: u32, j: u32) -> u32;
         pub fn hoengtila_line_forward(
             n: u32,
             kind: u32,
@@ -212,6 +213,12 @@ mod c {
 #[inline]
 pub fn weight(kind: u32, n: u32, i: u32, j: u32) -> i32 {
     unsafe { c::hoengtila_weight(kind, n, i, j) }
+}
+
+/// D(j): how many times the size of a line's numbers its round trip can stray at place j; 0 outside.
+#[inline]
+pub fn stray(kind: u32, n: u32, j: u32) -> u32 {
+    unsafe { c::hoengtila_stray(kind, n, j) }
 }
 
 /// The forward line of `n` points, by the fast path.

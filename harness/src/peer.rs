@@ -86,6 +86,7 @@ fn name(what: &What) -> u32 {
         What::ShapeOf(_) => 7,
         What::Wrapped { forward: true, .. } => 900,
         What::Wrapped { forward: false, .. } => 901,
+        What::Stray { .. } => 1300,
     }
 }
 
@@ -94,12 +95,13 @@ fn request(call: &Call) -> Vec<u8> {
     let mut numbers = match &call.what {
         What::ShapeOf(numbers) => numbers.to_vec(),
         What::Weight { kind, n, i, j } => vec![*kind, *n, *i, *j],
+        What::Stray { kind, n, j } => vec![*kind, *n, *j],
         What::Line { n, kind, .. } => vec![*n, *kind],
         What::Wrapped { n, kind, start, .. } => vec![*n, *kind, *start, call.order.len() as u32],
         What::Inverse(shape) | What::Forward(shape) => shape_numbers(shape).to_vec(),
     };
     numbers.insert(0, name(&call.what));
-    if !matches!(call.what, What::Weight { .. } | What::ShapeOf(_)) {
+    if !matches!(call.what, What::Weight { .. } | What::Stray { .. } | What::ShapeOf(_)) {
         numbers.extend(lengths);
     }
     let mut bytes: Vec<u8> = numbers.iter().flat_map(|n| n.to_le_bytes()).collect();
@@ -115,7 +117,7 @@ fn request(call: &Call) -> Vec<u8> {
 
 fn read_reply(from: &mut impl Read, call: &Call) -> std::io::Result<Outcome> {
     match call.what {
-        What::Weight { .. } => return Ok(Outcome::of_weight(read_four(from)?)),
+        What::Weight { .. } | What::Stray { .. } => return Ok(Outcome::of_weight(read_four(from)?)),
         What::ShapeOf(_) => return Ok(Outcome::of_numbers(read_fours(from, 7)?)),
         _ => (),
     }

@@ -78,6 +78,9 @@ fn run_linked(call: &Call) -> Outcome {
         What::Weight { kind, n, i, j } => {
             return Outcome::of_weight(library::weight(kind, n, i, j));
         }
+        What::Stray { kind, n, j } => {
+            return Outcome::of_weight(library::stray(kind, n, j) as i32);
+        }
         What::Line { path, n, kind } => {
             let line = match path {
                 Path::Forward => library::line_forward,

@@ -11,3 +11,4 @@ pub mod Lists
 pub mod First
 pub mod Unique
 pub mod Refusals
+pub mod Signs

@@ -1,5 +1,5 @@
-// The library for C and Rust: each public function of `transform`, `wrapping`, `step_run`, `step_lists` and `picture`, and the one
-// that makes a shape, under the name and with the arguments that include/hoengtila.h declares. A wrapper is one call and has the
+// The library for C and Rust: each public function of `transform`, `wrapping`, `round_trip`, `step_run`, `step_lists` and `picture`,
+// and the one that makes a shape, under the name and with the arguments that include/hoengtila.h declares. A wrapper is one call and has the
 // contract of what it calls; none has a `requires`, so whatever numbers and lengths a caller hands over, the contract says what comes
 // back. Read it beside the header.
 use meaning::Answer;
@@ -17,6 +17,7 @@ ghost use Rattle.meaning.specs.Answer.{Outcome, forwardLineOutcome, inverseLine
 ghost use Rattle.meaning.specs.Inverse.{inverseOutcome};
 ghost use Rattle.meaning.specs.Forward.{forwardOutcome};
 ghost use Rattle.transform.specs.Line.{weightOrZero};
+ghost use Rattle.round_trip.specs.RoundTrip.{strayOrZero};
 ghost use Rattle.steps.specs.Numbers.{listOf};
 ghost use Rattle.steps.specs.Outcome.{Result, runOutcome};
 ghost use Rattle.wrapping.specs.Outcome.{forwardWrapped, inverseWrapped};
@@ -41,6 +42,13 @@ pub extern "C" fn hoengtila_weight(kind: u32, n: u32, i: u32, j: u32) -> i32
     ensures { λ r. ⌜ r ≡ weightOrZero kind n i j ⌝ }
 {
     transform::line::weight(kind, n, i, j)
+}
+
+#[no_mangle]
+pub extern "C" fn hoengtila_stray(kind: u32, n: u32, j: u32) -> u32
+    ensures { λ r. ⌜ r ≡ strayOrZero kind n j ⌝ }
+{
+    round_trip::stray(kind, n, j)
 }
 
 #[no_mangle]

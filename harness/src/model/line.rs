@@ -17,6 +17,23 @@ pub fn inverse_sums(kind: i64, n: usize, x: &[i64]) -> Vec<i64> {
     (0..n).map(sum).collect()
 }
 
+/// Document 02, Wish 13: "take the exact forward sums and then the exact inverse sums, with nothing rounded".
+pub fn round_trip(kind: i64, x: &[i64]) -> Vec<i64> {
+    inverse_sums(kind, x.len(), &forward_sums(kind, x))
+}
+
+/// "D(j) is the sum over k of the sizes of G(j,k), less 4096*N at k=j before the size is taken; G(j,k) is the product of
+/// weight columns j and k."
+pub fn stray(kind: i64, n: usize, j: usize) -> i64 {
+    let product = |k| -> i64 {
+        (0..n)
+            .map(|i| weight(kind, n, i, j) * weight(kind, n, i, k))
+            .sum()
+    };
+    let less = |k| if k == j { 4096 * n as i64 } else { 0 };
+    (0..n).map(|k| (product(k) - less(k)).abs()).sum()
+}
+
 /// The forward line of `n` points from `x` to `y`.
 pub fn forward_line(n: i64, kind: i64, x: &[i64], y: &mut [i64]) -> Answer {
     run(n, kind, x, y, || forward_sums(kind, x))
@@ -50,6 +67,31 @@ mod tests {
     use super::*;
     use crate::model::weights::{DCT_II, DCT_VIII, DST_VII};
     use crate::random;
+
+    /// "for N=4, DST-VII, D(0) is 44"; and a line whose round trip strays as far.
+    #[test]
+    fn strays_as_far() {
+        assert_eq!(stray(DST_VII, 4, 0), 44);
+        for kind in [DCT_II, DST_VII, DCT_VIII] {
+            for n in [4, 8, 16, 32] {
+                for j in 0..n {
+                    let column = |k| -> i64 {
+                        (0..n)
+                            .map(|i| weight(kind, n, i, j) * weight(kind, n, i, k))
+                            .sum()
+                    };
+                    let off = |k| column(k) - if k == j { 4096 * n as i64 } else { 0 };
+                    let x: Vec<i64> = (0..n).map(|k| if off(k) < 0 { -7 } else { 7 }).collect();
+                    let far = (round_trip(kind, &x)[j] - 4096 * n as i64 * x[j]).abs();
+                    assert_eq!(
+                        far,
+                        7 * stray(kind, n, j),
+                        "kind {kind}, {n} points, place {j}"
+                    );
+                }
+            }
+        }
+    }
 
     /// The inverse is the forward line's weights the other way about: the sum of y * F(x) is the sum
     /// of x * I(y), whatever x and y are.

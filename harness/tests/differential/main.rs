@@ -11,5 +11,6 @@ mod numbers;
 mod refusals;
 mod shapes;
 mod steps;
+mod strays;
 mod weights;
 mod wrapped;

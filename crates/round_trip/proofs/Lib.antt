@@ -1,0 +1,4 @@
+pub mod Furthest
+pub mod Bounds
+pub mod Numbers
+pub mod Unique
