@@ -90,7 +90,8 @@ fn kept_part() -> [Vec<u8>; 6] {
 
 /// Two blocks with three stray bytes between them, a third with twenty bytes of its body missing, and a fourth.
 fn broken() -> Vec<u8> {
-    let other = [shape(8, 4, 1, 2, 8), data(TAG_RESIDUALS, &[-7; 32])].concat();
+    let numbers = alone(32, 0, 500);
+    let other = [shape(8, 4, 1, 2, 8), data(TAG_COEFFICIENTS, &numbers)].concat();
     let shorter = [&other[..40], &other[60..]].concat();
     [whole_case(), vec![9; 3], other, shorter, whole_case()].concat()
 }

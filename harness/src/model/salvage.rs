@@ -90,7 +90,10 @@ pub fn saved_of(file: &[u8]) -> (Vec<u8>, String) {
     assert_eq!(saved.number, 0);
     out.truncate(saved.bytes);
     let places = list.chunks_exact(2).take(saved.stretches);
-    (out, places.map(|p| format!("{} {}\n", p[0], p[1])).collect())
+    (
+        out,
+        places.map(|p| format!("{} {}\n", p[0], p[1])).collect(),
+    )
 }
 
 #[cfg(test)]
@@ -133,7 +136,11 @@ mod tests {
         let kept = [&SHAPE[..], &[4, 0, 2, 1, 1], &block()[8..]].concat();
         is(&[&[9], &kept], &[&kept], "0 1\n");
         let refused = [&SHAPE[..], &[4, 0, 2, 5, 1], &block()[8..]].concat();
-        is(&[&[9], &refused], &[], &format!("0 {}\n", refused.len() + 1));
+        is(
+            &[&[9], &refused],
+            &[],
+            &format!("0 {}\n", refused.len() + 1),
+        );
     }
 
     /// The text taken literally: a body has as many bytes as its length says, wherever they are from.
