@@ -7,7 +7,7 @@ use hoengtila_harness::files::stored;
 use hoengtila_harness::model::Cursor;
 use hoengtila_harness::random::seeded;
 
-const FILES: usize = 20_000;
+const FILES: usize = 10_000;
 
 /// "seconds on a slow machine are too many"
 const MOST_MICROSECONDS: u32 = 500_000;
