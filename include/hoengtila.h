@@ -22,6 +22,12 @@
  *  24  reading a picture: the header is not that of such a graymap, or has sizes that 1 or 2 would refuse
  *  25  reading a picture: too few or too many samples
  *
+ * Saving a broken block file has these, in this order, with bytes and stretches 0:
+ *
+ *  14  the file has more than 65,536 bytes
+ *   7  the output is shorter than the file, or the list has fewer than 2,048 numbers
+ *  26  more than 1,024 dropped stretches
+ *
  * Lists of steps have these, in this order, with count 0:
  *
  *   1  there is no list of n points: n is not 4, 16 or 32
@@ -71,6 +77,12 @@ typedef struct {
     uint32_t width;  /* of the header, also where 25 or 7 refuses; 0 where 24 does */
     uint32_t height;
 } hoengtila_picture;
+
+typedef struct {
+    uint32_t number;    /* 0, or the number of the refusal */
+    uint32_t bytes;     /* how long the new file is, from the start of the output */
+    uint32_t stretches; /* how many stretches were dropped: two numbers each, from the start of the list */
+} hoengtila_saved;
 
 /* The shape that keeps the most columns and rows that it can. Any numbers; nothing is refused here. For less, set `columns` and
  * `rows` after it: the inverse then skips what is dropped, and the forward writes 0 there. */
@@ -139,6 +151,12 @@ hoengtila_taken hoengtila_steps_forward(uint32_t n, const int16_t *x, size_t x_l
  * the picture; what stands beyond it stays. Reading refuses 24, 25, then 7: an output that has not width * height numbers. */
 hoengtila_written hoengtila_picture_write(uint32_t width, uint32_t height, const int32_t *residuals, size_t residuals_len, uint8_t *file, size_t file_len);
 hoengtila_picture hoengtila_picture_read(const uint8_t *file, size_t file_len, int32_t *residuals, size_t residuals_len);
+
+/* What can be saved of a broken block file: a new file of the fields that can be read. From a place where reading stops it goes on
+ * to the next whole shape field with a whole data field behind it, or with kept numbers (tag 4) and then a data field; what lies
+ * between is dropped. The list gets the offset and the length of each dropped stretch. What stands beyond the new file and beyond
+ * the list stays. Coefficients and residuals are not looked at, so a block may still meet 8 or 9 when it is run. */
+hoengtila_saved hoengtila_salvage(const uint8_t *file, size_t file_len, uint8_t *out, size_t out_len, uint32_t *list, size_t list_len);
 
 #ifdef __cplusplus
 }

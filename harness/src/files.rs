@@ -3,6 +3,7 @@
 use crate::model::file::{
     run_file, LARGEST_FILE, TAG_COEFFICIENTS, TAG_KEPT, TAG_RESIDUALS, TAG_SHAPE,
 };
+use crate::model::salvage::saved_of;
 
 pub struct Case {
     pub name: String,
@@ -87,6 +88,14 @@ fn kept_part() -> [Vec<u8>; 6] {
     ]
 }
 
+/// Two blocks with three stray bytes between them, a third with twenty bytes of its body missing, and a fourth.
+fn broken() -> Vec<u8> {
+    let numbers = alone(32, 0, 500);
+    let other = [shape(8, 4, 1, 2, 8), data(TAG_COEFFICIENTS, &numbers)].concat();
+    let shorter = [&other[..40], &other[60..]].concat();
+    [whole_case(), vec![9; 3], other, shorter, whole_case()].concat()
+}
+
 // ---- cases
 
 fn accepted() -> Vec<Case> {
@@ -101,6 +110,7 @@ fn accepted() -> Vec<Case> {
             &[four(), data(TAG_RESIDUALS, &rising), inverse_of_64()],
         ),
         case("waves", &waves()),
+        case("saved", &[saved_of(&broken()).0]),
         case(
             "rails",
             &[
@@ -269,6 +279,7 @@ pub fn refused() -> Vec<Case> {
             case.name
         );
     }
+    cases.push(case("broken", &[broken()]));
     // the fields behind it are not looked at: "The first refusal ends the run"
     cases.push(case(
         "refused_after_lines",

@@ -81,8 +81,18 @@ pub struct Picture {
     pub height: u32,
 }
 
+/// What saving a broken block file hands back: the number of the refusal or 0, how many bytes the new file has, and how many
+/// stretches were dropped.
+#[repr(C)]
+#[derive(Clone, Copy, Debug, PartialEq, Eq)]
+pub struct Saved {
+    pub number: u32,
+    pub bytes: u32,
+    pub stretches: u32,
+}
+
 mod c {
-    use super::{Answer, Listed, Picture, Shape, Taken, Written};
+    use super::{Answer, Listed, Picture, Saved, Shape, Taken, Written};
 
     // Nothing holds these lines to the header or to the Rattle source but the tests.
     unsafe extern "C" {
@@ -203,6 +213,14 @@ mod c {
             residuals: *mut i32,
             residuals_len: usize,
         ) -> Picture;
+        pub fn hoengtila_salvage(
+            file: *const u8,
+            file_len: usize,
+            out: *mut u8,
+            out_len: usize,
+            list: *mut u32,
+            list_len: usize,
+        ) -> Saved;
     }
 }
 
@@ -401,6 +419,22 @@ pub fn picture_read(file: &[u8], residuals: &mut [i32]) -> Picture {
             input.len(),
             output.as_mut_ptr(),
             output.len(),
+        )
+    }
+}
+
+/// What can be saved of a broken block file, at the start of `out`; each dropped stretch, its offset and its length, at the start
+/// of `list`, which has two numbers to a place.
+#[inline]
+pub fn salvage(file: &[u8], out: &mut [u8], list: &mut [u32]) -> Saved {
+    unsafe {
+        c::hoengtila_salvage(
+            file.as_ptr(),
+            file.len(),
+            out.as_mut_ptr(),
+            out.len(),
+            list.as_mut_ptr(),
+            list.len(),
         )
     }
 }

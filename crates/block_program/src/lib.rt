@@ -1,9 +1,10 @@
 // Internal: from a descriptor to an answer, for the programs that run a block file. Nothing can be said of the bytes that a
-// system reads and writes: what `read_input`, `answer` and `tell` do with them is to be read, and `tests/program` tries it.
+// system reads and writes: what `answer` and `tell` do with them is to be read, and `tests/program` tries it.
+use block_input::file_buffer;
+use block_input::read_input;
 use libc::STDERR_FILENO;
 ghost use mathlib.Core.Path.{_≡_};
 ghost use lib.ListN.{length};
-ghost use Rattle.io.specs.Counts.{Counts};
 ghost use Rattle.block_program.specs.Refused.{refusedText};
 
 // How a program ends: the file ran to its end, a refusal ended it, it could not be read, its answer could not be written.
@@ -15,48 +16,11 @@ pub const UNREAD: u32 = 2;
 
 pub const UNWRITTEN: u32 = 3;
 
-// One byte more than a file may have, so that the run can tell that there is one. A buffer's `ensures` gives its length alone.
-fn file_buffer() -> [u8; 65537]
-    ensures { λ r. ⌜ 65537 ≡ length r ⌝ }
-{
-    [0; 65537]
-}
-
+// A buffer's `ensures` gives its length alone.
 fn text_buffer() -> [u8; 524288]
     ensures { λ r. ⌜ 524288 ≡ length r ⌝ }
 {
     [0; 524288]
-}
-
-// What was read: how many bytes, and whether a read failed.
-pub struct Input {
-    pub count: usize,
-    pub failed: bool,
-}
-
-// Reads until `file` is full, the input ends or a read fails.
-pub fn read_input(fd: i32, file: &mut [u8]) -> Input
-    ensures { λ r. ⌜ Counts (r .count) (now (file .exit)) ⌝ }
-{
-    let mut count = 0;
-    while count < file.len() {
-        let got = libc::read(fd, &mut file[count..]);
-        if got < 0 {
-            return Input {
-                count,
-                failed: true,
-            };
-        }
-        let more = io::count(got, &file[count..]);
-        if more == 0 {
-            break;
-        }
-        count += more;
-    }
-    Input {
-        count,
-        failed: false,
-    }
 }
 
 // Whether a refusal ended the run: no other line of a run has the letter R (82).

@@ -1,11 +1,12 @@
-// The library for C and Rust: each public function of `transform`, `wrapping`, `round_trip`, `step_run`, `step_lists` and `picture`,
-// and the one that makes a shape, under the name and with the arguments that include/hoengtila.h declares. A wrapper is one call and has the
-// contract of what it calls; none has a `requires`, so whatever numbers and lengths a caller hands over, the contract says what comes
-// back. Read it beside the header.
+// The library for C and Rust: each public function of `transform`, `wrapping`, `round_trip`, `step_run`, `step_lists`, `picture` and
+// `salvage`, and the one that makes a shape, under the name and with the arguments that include/hoengtila.h declares. A wrapper is one
+// call and has the contract of what it calls; none has a `requires`, so whatever numbers and lengths a caller hands over, the contract
+// says what comes back. Read it beside the header.
 use meaning::Answer;
 use meaning::Shape;
 use picture::read::Picture;
 use picture::write::Written;
+use salvage::saving::Saved;
 use step_lists::Listed;
 use steps::Taken;
 ghost use mathlib.Core.Path.{_≡_};
@@ -22,6 +23,7 @@ ghost use Rattle.steps.specs.Numbers.{listOf};
 ghost use Rattle.steps.specs.Outcome.{Result, runOutcome};
 ghost use Rattle.wrapping.specs.Outcome.{forwardWrapped, inverseWrapped};
 ghost use Rattle.picture.specs.Outcomes.{writeOutcome, readOutcome};
+ghost use Rattle.salvage.specs.Outcomes.{savedOutcome};
 ghost use Rattle.step_lists.specs.Listed.{Handed, listOutcome, lineOutcome};
 
 #[no_mangle]
@@ -184,4 +186,11 @@ pub extern "C" fn hoengtila_picture_read(file: &[u8], residuals: &mut [i32]) -> 
     ensures { λ r. ⌜ _≡_ {A = Picture × List ℤ} (r, now (residuals .exit)) (readOutcome (now (file .entry)) (now (residuals .entry))) ⌝ }
 {
     picture::read::read(file, residuals)
+}
+
+#[no_mangle]
+pub extern "C" fn hoengtila_salvage(file: &[u8], out: &mut [u8], list: &mut [u32]) -> Saved
+    ensures { λ r. ⌜ _≡_ {A = Saved × List ℕ × List ℕ} (r, now (out .exit), now (list .exit)) (savedOutcome (now (file .entry)) (now (out .entry)) (now (list .entry))) ⌝ }
+{
+    salvage::saving::salvage(file, out, list)
 }

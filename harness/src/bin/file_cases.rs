@@ -5,17 +5,20 @@
 
 use hoengtila_harness::files::{stored, Case};
 use hoengtila_harness::model::run_file;
+use hoengtila_harness::model::salvage::saved_of;
 use std::path::Path;
 use std::{env, fs, io};
 
 /// The cases that the examples show.
-const EXAMPLES: [&str; 6] = [
+const EXAMPLES: [&str; 8] = [
     "whole_case",
     "both_directions",
     "shape_replaced",
     "kept_part",
     "refused_after_lines",
     "waves",
+    "broken",
+    "saved",
 ];
 
 fn write_cases(folder: &Path, cases: &[Case]) -> io::Result<()> {
@@ -43,6 +46,10 @@ fn write_examples(folder: &Path, cases: &[Case]) -> io::Result<()> {
             folder.join(format!("{}.txt", case.name)),
             run_file(&case.file),
         )?;
+        if case.name == "broken" {
+            let dropped = saved_of(&case.file).1;
+            fs::write(folder.join("broken_dropped.txt"), dropped)?;
+        }
     }
     Ok(())
 }

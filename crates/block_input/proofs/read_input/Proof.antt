@@ -6,8 +6,8 @@ use Prim.Native.Nat.{ℕ, _-_, _≤_}
 use lib.ListN.{length}
 use lib.Seq.{length-take-le}
 use Rattle.io.specs.Counts.{Counts}
-use Rattle.block_program.proofs.read_input.Statement.{statement}
-use Rattle.block_program.proofs.read_input.Tie as tie
+use Rattle.block_input.proofs.read_input.Statement.{statement}
+use Rattle.block_input.proofs.read_input.Tie as tie
 
 counted : (n : ℕ) (xs : List ℕ) → n ≤ length xs → Counts n xs
 counted n xs h = (h, sym (length-take-le n xs h))

@@ -2,8 +2,8 @@
 use mathlib.Core.Path.{sym}
 use Prim.Native.Nat.{ℕ}
 use lib.ListN.{length-replicate}
-use Rattle.block_program.proofs.file_buffer.Statement.{statement}
-use Rattle.block_program.proofs.file_buffer.Tie as tie
+use Rattle.block_input.proofs.file_buffer.Statement.{statement}
+use Rattle.block_input.proofs.file_buffer.Tie as tie
 
 returns : tie.Need-returns
 returns c = sym (length-replicate {A = ℕ} 65537 0)

@@ -1,0 +1,54 @@
+-- "an undamaged file comes back unchanged with an empty list". Assumes nothing.
+use mathlib.Core.Path.{_≡_, refl, sym, ap, _∙_, subst}
+use mathlib.Core.Bool.{Bool, true, false, cond, _&&_, false≢true}
+use mathlib.Core.List.{List, [], _∷_, _++_}
+use Prim.Native.Nat.{ℕ, zero, suc, _+_, _-_, _≤_, _<_}
+use native.Mathlib.Omega.{arith}
+use lib.ListN.{length, take, drop, take-append-drop, drop-of-length-le}
+use lib.Seq.{drop-drop}
+use Rattle.block_file.specs.declared.cursor.Cursor.{Cursor}
+use Rattle.block_file.specs.Cursor.{start, stepOf}
+use Rattle.salvage.specs.declared.search.Piece.{Piece}
+use Rattle.salvage.specs.Pieces.{reads, onward, pieceAt, pieces, joined, bytesOf, keptOf, written, droppedOf, dropped, readsAll, undamaged}
+use Rattle.salvage.proofs.Moves.{onward-read}
+use Rattle.salvage.proofs.Joining.{not-dropped}
+use Rattle.salvage.proofs.Cover.{by-pieces}
+
+-- all bytes of the pieces, kept or not, are what stands from the cursor on
+pub whole-file : (file : List ℕ) (c : Cursor) → c .at ≤ length file → joined (bytesOf file) (pieces file c) ≡ drop (c .at) file
+unfolding joined
+whole-file file =
+    by-pieces file (λ c ps. joined (bytesOf file) ps ≡ drop (c .at) file) (λ c e. sym (drop-of-length-le file {i = c .at} (omega arith)))
+    (λ c ps l m n h. let b = onward file c .at - c .at in
+    let e : c .at + b ≡ onward file c .at = omega arith in
+    ap (λ (s : List ℕ). take b (drop (c .at) file) ++ s) (h ∙ ap (λ (k : ℕ). drop k file) (sym e) ∙ sym (drop-drop b (c .at) file)) ∙ take-append-drop b (drop (c .at) file))
+
+both : (a b : Bool) → a && b ≡ true → (a ≡ true) × (b ≡ true)
+both true b e = (refl, e)
+both false b e = absurd (false≢true e)
+
+module _ (file : List ℕ) where
+  abbrev Kept : Cursor → List Piece → Type 0
+  Kept c ps = (k : ℕ) → length file ≤ c .at + k → readsAll k file c ≡ true → (joined (keptOf file) ps ≡ joined (bytesOf file) ps) × (joined droppedOf ps ≡ [])
+
+  kept-more : (p : Piece) (ps : List Piece) → p .kept ≡ true → (joined (keptOf file) ps ≡ joined (bytesOf file) ps) × (joined droppedOf ps ≡ [])
+      → (joined (keptOf file) (p ∷ ps) ≡ joined (bytesOf file) (p ∷ ps)) × (joined droppedOf (p ∷ ps) ≡ [])
+  unfolding joined keptOf
+  kept-more p ps e h = (rw e (ap (λ (s : List ℕ). bytesOf file p ++ s) (h .0)), rw (not-dropped p e) (h .1))
+
+  kept-step : (c : Cursor) (ps : List Piece) → c .at < length file → c .at < onward file c .at → Kept (onward file c) ps → Kept c (pieceAt file c ∷ ps)
+  unfolding readsAll
+  kept-step c ps l m h zero g e = absurd (omega arith)
+  kept-step c ps l m h (suc k) g e =
+      let b = both (reads file c) (readsAll k file (stepOf file c .next)) e in
+      kept-more (pieceAt file c) ps (b .0)
+      (h k (omega arith) (subst (λ (n : Cursor). readsAll k file n ≡ true) (onward-read file c (b .0)) (b .1)))
+
+  kept-all : (c : Cursor) → c .at ≤ length file → Kept c (pieces file c)
+  unfolding joined
+  kept-all = by-pieces file Kept (λ c e k g h. (refl, refl)) (λ c ps l m n h. kept-step c ps l m h)
+
+  pub undamaged-file : undamaged file ≡ true → (written file ≡ file) × (dropped file ≡ [])
+  undamaged-file e =
+      let h = kept-all start (omega arith) (length file) (omega arith) e in
+      (h .0 ∙ whole-file file start (omega arith), h .1)

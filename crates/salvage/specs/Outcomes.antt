@@ -1,0 +1,32 @@
+-- Document 02, Wish 12: "Refusals, with nothing written: 14 as before; 7 for an output shorter than the file or a list of under
+-- 1,024 places; 26 for more than 1,024 dropped stretches." A place of the list is two numbers, an offset and a length.
+use mathlib.Core.List.{List, [], _∷_, _++_}
+use Prim.Native.Nat.{ℕ, _/_}
+use lib.Dec.{ltb}
+use lib.ListN.{length, drop}
+use Rattle.algebra.specs.Refusals.{Refusal, firstOf}
+use Rattle.meaning.specs.Answer.{test}
+use Rattle.block_file.specs.Cursor.{tooLong}
+use Rattle.salvage.specs.declared.saving.Saved.{Saved}
+use Rattle.salvage.specs.Pieces.{written, dropped}
+
+abbrev pub saveTests : List ℕ → List ℕ → List ℕ → List Refusal
+saveTests file out list =
+    test (tooLong file) 14
+    ∷ test (ltb (length out) (length file)) 7
+    ∷ test (ltb (length list) 2048) 7
+    ∷ test (ltb 2048 (length (dropped file))) 26
+    ∷ []
+
+-- a text at the start of an area, the rest of which stays
+abbrev pub over : List ℕ → List ℕ → List ℕ
+over text area = text ++ drop (length text) area
+
+-- what is handed back, and what the two areas hold then
+abbrev pub savedOutcome : List ℕ → List ℕ → List ℕ → Saved × List ℕ × List ℕ
+savedOutcome file out list =
+    firstOf (saveTests file out list) (λ number place. (record { number = number; bytes = 0; stretches = 0 }, out, list)) (
+      record { number = 0; bytes = length (written file); stretches = length (dropped file) / 2 },
+      over (written file) out,
+      over (dropped file) list,
+    )

@@ -1,0 +1,102 @@
+// The pieces of a file, one by one, and the search behind a place where reading stops.
+use block_file::cursor::Cursor;
+use block_file::cursor::Step;
+ghost use mathlib.Core.Path.{_≡_};
+ghost use Prim.Native.Nat.{_≤_, _<_};
+ghost use lib.ListN.{length};
+ghost use Rattle.block_file.specs.Field.{isData};
+ghost use Rattle.block_file.specs.Cursor.{stepOf};
+ghost use Rattle.salvage.specs.Pieces.{dataFollows, goesOn, nextAfter, onward, pieceAt};
+
+// A field that was read, or a stretch that is dropped.
+pub struct Piece {
+    pub offset: usize,
+    pub bytes: usize,
+    pub kept: bool,
+}
+
+// A piece, and the cursor behind it.
+pub struct Found {
+    pub piece: Piece,
+    pub next: Cursor,
+}
+
+fn is_data(tag: u32) -> bool
+    ensures { λ r. ⌜ r ≡ isData tag ⌝ }
+{
+    if tag == 2 {
+        return true;
+    }
+    tag == 3
+}
+
+fn data_follows(file: &[u8], cursor: Cursor) -> bool
+    ensures { λ r. ⌜ r ≡ dataFollows (now (file .entry)) cursor ⌝ }
+{
+    let field = cursor.step(file);
+    if is_data(field.tag) {
+        return true;
+    }
+    if field.tag != 4 {
+        return false;
+    }
+    let next = field.next;
+    let last = next.step(file);
+    is_data(last.tag)
+}
+
+fn goes_on(file: &[u8], at: usize) -> bool
+    ensures { λ r. ⌜ r ≡ goesOn (now (file .entry)) at ⌝ }
+{
+    let start = Cursor::new();
+    let shape = start.shape;
+    let here = Cursor { at, shape };
+    let first = here.step(file);
+    if first.tag != 1 {
+        return false;
+    }
+    data_follows(file, first.next)
+}
+
+fn next_after(file: &[u8], at: usize) -> usize
+    requires { ⌜ at < length (now file) ⌝ }
+    ensures { λ r. ⌜ r ≡ nextAfter (now (file .entry)) at ⌝ }
+{
+    let mut i = at + 1;
+    while i < file.len() {
+        if goes_on(file, i) {
+            return i;
+        }
+        i += 1;
+    }
+    i
+}
+
+fn onward(file: &[u8], cursor: Cursor, step: Step) -> Cursor
+    requires { ⌜ (cursor .at < length (now file)) × (step ≡ stepOf (now file) cursor) ⌝ }
+    ensures { λ r. ⌜ (r ≡ onward (now (file .entry)) cursor) × ((cursor .at < r .at) × (r .at ≤ length (now (file .entry)))) ⌝ }
+{
+    if step.number == 0 {
+        return step.next;
+    }
+    let shape = cursor.shape;
+    Cursor {
+        at: next_after(file, cursor.at),
+        shape,
+    }
+}
+
+pub fn piece_at(file: &[u8], cursor: Cursor) -> Found
+    requires { ⌜ cursor .at < length (now file) ⌝ }
+    ensures { λ r. ⌜ (r .piece ≡ pieceAt (now (file .entry)) cursor) × ((r .next ≡ onward (now (file .entry)) cursor) × ((cursor .at < r .next .at) × (r .next .at ≤ length (now (file .entry))))) ⌝ }
+{
+    let step = cursor.step(file);
+    let next = onward(file, cursor, step);
+    let offset = cursor.at;
+    let piece = Piece {
+        offset,
+        bytes: next.at - offset,
+        kept: step.number == 0,
+    };
+    Found { piece, next }
+}
