@@ -6,7 +6,7 @@ use lib.Dec.{T}
 use lib.IntN.{negℤ}
 use Rattle.algebra.specs.Equal.{eqZ}
 use Rattle.algebra.proofs.Table.{allTo, allTo-at, and-left, and-right, eqZ→eq}
-use Rattle.meaning.specs.Weights.{cosines, turn, D, weight}
+use Rattle.meaning.specs.Weights.{cosines, turn, dct2, weight}
 use Rattle.meaning.specs.Shape.{isSize}
 use Rattle.meaning.proofs.Cases.{size-cases}
 use Rattle.halves.specs.Halves.{Halves}
@@ -40,19 +40,19 @@ module _ (n h : ℕ) where
 
 -- each size by half of it
 pub halves-4 : Halves 4 2
-unfolding weight D turn cosines
+unfolding weight dct2 turn cosines
 halves-4 = by-test 4 2 refl tt
 
 pub halves-8 : Halves 8 4
-unfolding weight D turn cosines
+unfolding weight dct2 turn cosines
 halves-8 = by-test 8 4 refl tt
 
 pub halves-16 : Halves 16 8
-unfolding weight D turn cosines
+unfolding weight dct2 turn cosines
 halves-16 = by-test 16 8 refl tt
 
 pub halves-32 : Halves 32 16
-unfolding weight D turn cosines
+unfolding weight dct2 turn cosines
 halves-32 = by-test 32 16 refl tt
 
 pub halves : (n : ℕ) → isSize n ≡ true → Halves n (n / 2)

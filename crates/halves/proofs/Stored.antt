@@ -2,7 +2,7 @@
 use mathlib.Core.Path.{refl}
 use mathlib.Core.List.{List, [], _∷_}
 use lib.IntN.{ℤ, pos, negsuc}
-use Rattle.meaning.specs.Weights.{cosines, turn, D, weight}
+use Rattle.meaning.specs.Weights.{cosines, turn, dct2, weight}
 use Rattle.halves.specs.Halves.{odd}
 use Rattle.halves.specs.Lines.{Half}
 use Rattle.halves.proofs.Tables.{half-by}
@@ -13,7 +13,7 @@ odd8 =
     pos 50 ∷ pos 18 ∷ negsuc 88 ∷ negsuc 49 ∷ pos 18 ∷ pos 75 ∷ pos 75 ∷ negsuc 88 ∷ []
 
 pub table-odd8 : Half (odd 8) 4 odd8
-unfolding cosines turn D weight
+unfolding cosines turn dct2 weight
 table-odd8 = half-by (odd 8) 4 2 odd8 refl tt tt refl
 
 abbrev odd16 : List ℤ
@@ -24,7 +24,7 @@ odd16 =
     pos 25 ∷ pos 9 ∷ negsuc 69 ∷ negsuc 24 ∷ pos 90 ∷ pos 43 ∷ negsuc 79 ∷ negsuc 56 ∷ pos 43 ∷ pos 70 ∷ pos 9 ∷ negsuc 79 ∷ negsuc 56 ∷ pos 87 ∷ pos 87 ∷ negsuc 89 ∷ []
 
 pub table-odd16 : Half (odd 16) 8 odd16
-unfolding cosines turn D weight
+unfolding cosines turn dct2 weight
 table-odd16 = half-by (odd 16) 8 4 odd16 refl tt tt refl
 
 abbrev odd32 : List ℤ
@@ -39,5 +39,5 @@ odd32 =
     pos 13 ∷ pos 4 ∷ negsuc 37 ∷ negsuc 12 ∷ pos 61 ∷ pos 22 ∷ negsuc 77 ∷ negsuc 30 ∷ pos 88 ∷ pos 38 ∷ negsuc 89 ∷ negsuc 45 ∷ pos 85 ∷ pos 54 ∷ negsuc 72 ∷ negsuc 60 ∷ pos 54 ∷ pos 67 ∷ negsuc 30 ∷ negsuc 72 ∷ pos 4 ∷ pos 78 ∷ pos 22 ∷ negsuc 81 ∷ negsuc 45 ∷ pos 85 ∷ pos 67 ∷ negsuc 87 ∷ negsuc 81 ∷ pos 90 ∷ pos 90 ∷ negsuc 89 ∷ []
 
 pub table-odd32 : Half (odd 32) 16 odd32
-unfolding cosines turn D weight
+unfolding cosines turn dct2 weight
 table-odd32 = half-by (odd 32) 16 8 odd32 refl tt tt refl

@@ -11,7 +11,7 @@ use Rattle.algebra.specs.Lists.{at, tabulate, block}
 use Rattle.algebra.specs.First.{firstAt}
 use Rattle.meaning.specs.declared.Shape.{Shape}
 use Rattle.meaning.specs.declared.Answer.{Answer}
-use Rattle.meaning.specs.Weights.{first, fold, S, C, cosines, turn, D, weight}
+use Rattle.meaning.specs.Weights.{first, fold, S, C, cosines, turn, dct2, weight}
 use Rattle.meaning.specs.Line.{forwardSum, inverseSum, forwardLine}
 use Rattle.meaning.specs.Shape.{isSize, isKind, isDepth, most, keeps, shapeOf}
 use Rattle.meaning.specs.Plan.{shortRange}
@@ -140,7 +140,7 @@ pub data Hold : List Item → Type 0 where
   _and_ : {i : Item} {is : List Item} → Says i → Hold is → Hold (i ∷ is)
 
 pub items-hold : Hold items
-unfolding sum sumℕ tabulate block firstAt first fold S C cosines turn D weight forwardSum inverseSum forwardLine isSize isKind isDepth most keeps shortRange columnSum middleAt rails rowSum residual inverseBlock rowValue columnValue coefficient forwardBlock
+unfolding sum sumℕ tabulate block firstAt first fold S C cosines turn dct2 weight forwardSum inverseSum forwardLine isSize isKind isDepth most keeps shortRange columnSum middleAt rails rowSum residual inverseBlock rowValue columnValue coefficient forwardBlock
 items-hold =
     refl and refl and refl and refl and refl and refl and refl and refl and refl and refl and refl and refl and refl
     and refl and refl and refl and refl and refl and refl and refl and refl and refl and refl and refl and refl and refl

@@ -18,7 +18,7 @@ use Rattle.algebra.specs.Sum.{sum, sumℕ}
 use Rattle.algebra.proofs.Order.{abs-neg, within, fits-in}
 use Rattle.algebra.proofs.Sum.{sumℕ-le, abs-part}
 use Rattle.algebra.proofs.Table.{allTo, allTo-at, and-left, and-right}
-use Rattle.meaning.specs.Weights.{first, signed, fold, S, C, cosines, turn, D, weight}
+use Rattle.meaning.specs.Weights.{first, signed, fold, S, C, cosines, turn, dct2, weight}
 use Rattle.meaning.specs.Line.{forwardSum, inverseSum}
 use Rattle.meaning.specs.Shape.{isSize, isKind}
 use Rattle.meaning.proofs.Cases.{line-cases, size-in, pick}
@@ -74,7 +74,7 @@ sizes-at rows columns kind n t i h =
 
 module _ (kind n : ℕ) (k : isKind kind ≡ true) (s : isSize n ≡ true) where
   tested : T (sizesTo (largestRow kind n) (largestColumn kind n) kind n)
-  unfolding sumℕ weight S C D fold first turn cosines
+  unfolding sumℕ weight S C dct2 fold first turn cosines
   tested = line-cases (λ kind n. T (sizesTo (largestRow kind n) (largestColumn kind n) kind n)) tt tt tt tt tt tt tt tt tt tt tt tt kind n k s
 
   -- ---- of weights
@@ -86,7 +86,7 @@ module _ (kind n : ℕ) (k : isKind kind ≡ true) (s : isSize n ≡ true) where
   columnLargest j h = sizes-at (largestRow kind n) (largestColumn kind n) kind n tested j h .column
 
   pub largestReached : rowSize kind n 0 ≡ largestRow kind n
-  unfolding sumℕ weight S C D fold first turn cosines
+  unfolding sumℕ weight S C dct2 fold first turn cosines
   largestReached = line-cases (λ kind n. rowSize kind n 0 ≡ largestRow kind n) refl refl refl refl refl refl refl refl refl refl refl refl kind n k s
 
   inside : T (leb (largestRow kind n) (64 * n) && leb (largestColumn kind n) (64 * n))
@@ -186,12 +186,12 @@ turn-size m =
     let k = min m (128 - m) in
     rw abs-signed (all-low 90 cosines tt (min k (64 - k)))
 
-pub D-size : (n i j : ℕ) → natAbs (D n i j) ≤ 90
-unfolding D
-D-size n i j = turn-size ((i * (2 * j + 1) * (32 / n)) % 128)
+pub dct2-size : (n i j : ℕ) → natAbs (dct2 n i j) ≤ 90
+unfolding dct2
+dct2-size n i j = turn-size ((i * (2 * j + 1) * (32 / n)) % 128)
 
 pub weightSize : (kind n i j : ℕ) → natAbs (weight kind n i j) ≤ 90
 unfolding weight
 weightSize kind n i j =
     let Low : ℤ → Type 0 = λ z. natAbs z ≤ 90 in
-    pick Low (eqb kind 1) (S-size n i j) (pick Low (eqb kind 2) (C-size n i j) (pick Low (eqb kind 0) (D-size n i j) zero-le))
+    pick Low (eqb kind 1) (S-size n i j) (pick Low (eqb kind 2) (C-size n i j) (pick Low (eqb kind 0) (dct2-size n i j) zero-le))

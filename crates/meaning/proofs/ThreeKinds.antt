@@ -6,7 +6,7 @@ use native.Mathlib.Omega.{arith}
 use lib.Dec.{eqb}
 use lib.IntN.{negℤ, natAbs}
 use borrow.Author.Tests.{eq-eqb, ne-eqb}
-use Rattle.meaning.specs.Weights.{weight, S, C, D, signed}
+use Rattle.meaning.specs.Weights.{weight, S, C, dct2, signed}
 use Rattle.meaning.specs.Shape.{isKind}
 use Rattle.meaning.proofs.Cases.{kind-cases}
 use Rattle.meaning.proofs.Sizes.{S-size}
@@ -20,13 +20,13 @@ module _ (kind : ℕ) where
   unfolding weight
   dst e n i j = rw e
 
-  pub dct8 : kind ≡ 2 → (n i j : ℕ) → weight kind n i j ≡ C n i j
+  pub is-dct8 : kind ≡ 2 → (n i j : ℕ) → weight kind n i j ≡ C n i j
   unfolding weight
-  dct8 e n i j = rw e
+  is-dct8 e n i j = rw e
 
-  pub dct2 : kind ≡ 0 → (n i j : ℕ) → weight kind n i j ≡ D n i j
+  pub is-dct2 : kind ≡ 0 → (n i j : ℕ) → weight kind n i j ≡ dct2 n i j
   unfolding weight
-  dct2 e n i j = rw e
+  is-dct2 e n i j = rw e
 
   pub dct : kind ≡ 2 → (n i j : ℕ) → weight kind n i j ≡ signed (eqb (i % 2) 1) (S n i (n - 1 - j))
   unfolding weight C

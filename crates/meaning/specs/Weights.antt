@@ -43,9 +43,9 @@ unfoldable pub turn : ℕ → ℤ
 turn m = let k = min m (128 - m) in signed (ltb 32 k) (pos (getD cosines (min k (64 - k)) 0))
 
 -- DCT-II of n points: m = i*(2j+1)*(32/n) modulo 128, so that row 0 is c 0 at every place
-unfoldable pub D : ℕ → ℕ → ℕ → ℤ
-D n i j = turn ((i * (2 * j + 1) * (32 / n)) % 128)
+unfoldable pub dct2 : ℕ → ℕ → ℕ → ℤ
+dct2 n i j = turn ((i * (2 * j + 1) * (32 / n)) % 128)
 
 -- "1 (DST-VII) or 2 (DCT-VIII)", and 0 (DCT-II)
 unfoldable pub weight : ℕ → ℕ → ℕ → ℕ → ℤ
-weight kind n i j = cond (eqb kind 1) (S n i j) (cond (eqb kind 2) (C n i j) (cond (eqb kind 0) (D n i j) (pos 0)))
+weight kind n i j = cond (eqb kind 1) (S n i j) (cond (eqb kind 2) (C n i j) (cond (eqb kind 0) (dct2 n i j) (pos 0)))

@@ -1,4 +1,4 @@
--- `front_512` meets its contract: the numbers before k are copied. Assumes nothing.
+-- `front` meets its contract: the numbers before k are copied. Assumes nothing.
 use borrow.Author.Needs.{needs}
 use native.Mathlib.Omega.{arith}
 use mathlib.Core.Path.{_≡_, refl, sym, ap, _∙_}
@@ -10,14 +10,17 @@ use mir.Syntax.{w16}
 use mir.ValLaws.{toZ-ofZ}
 use Rattle.algebra.specs.Lists.{at}
 use Rattle.algebra.proofs.Lists.{Filled, fill-none, fill-first}
-use Rattle.tables.proofs.stage.front_512.Statement.{statement}
-use Rattle.tables.proofs.stage.front_512.Tie as tie
+use Rattle.tables.proofs.stage.front.Statement.{statement}
+use Rattle.tables.proofs.stage.front.Tie as tie
 
 abbrev Inv-loop : tie.InvT-loop
 Inv-loop t u₀ most k₀ u k = (k ≤ most) × Filled 0 k u u₀ (at t)
 
 abbrev μ-loop : tie.MeasureT-loop
 μ-loop t u₀ most k₀ u k = most - k
+
+long : (c : tie.At-loop Inv-loop μ-loop) → length (c .loop .u) ≡ length (c .before .before .args .u .now)
+long c = c .loop .inv .1 .long
 
 least-requires : tie.Need-least-requires Inv-loop μ-loop
 least-requires c κs = search needs
@@ -31,11 +34,11 @@ mul-u c = omega (arith, c .before .before .least .ensures, c .loop-test .taken)
 shared-slice-copy-out-u : tie.Need-shared-slice-copy-out-u Inv-loop μ-loop
 shared-slice-copy-out-u c = omega (arith, c .before .before .least .ensures, c .loop-test .taken)
 
-mul-u-2 : tie.Need-mul-u-2 Inv-loop μ-loop
-mul-u-2 c = omega (arith, c .before .before .before .least .ensures, c .before .loop-test .taken)
+mul-t11 : tie.Need-mul-t11 Inv-loop μ-loop
+mul-t11 c = omega (arith, long (c .before .before), c .before .before .before .least .ensures, c .before .loop-test .taken)
 
-array-set-from-u : tie.Need-array-set-from-u Inv-loop μ-loop
-array-set-from-u c = omega (arith, c .before .before .before .least .ensures, c .before .loop-test .taken)
+slice-set-from-u : tie.Need-slice-set-from-u Inv-loop μ-loop
+slice-set-from-u c = omega (arith, long (c .before .before), c .before .before .before .least .ensures, c .before .loop-test .taken)
 
 add-k : tie.Need-add-k Inv-loop μ-loop
 add-k c = search needs
@@ -52,6 +55,9 @@ loop-again c =
           (toZ-ofZ w16 (at (L .before .before .args .t .now) (L .loop .k)) (record { sfits = c .u .given })),
     )
 
+same-length : tie.Need-same-length Inv-loop μ-loop
+same-length c = long (c .before)
+
 returns : tie.Need-returns Inv-loop μ-loop
 returns c =
     let L = c .before in
@@ -60,8 +66,8 @@ returns c =
       same = λ k h g. ap (at (L .loop .u)) (sym (zero-add k)) ∙ L .loop .inv .1 .done k (omega (arith, L .before .least .ensures, c .loop-test .left));
     }
 
-pub front-512-spec : {M : Type 1} → statement M
-front-512-spec =
+pub front-spec : {M : Type 1} → statement M
+front-spec =
     tie.close
     (tie.spec
     Inv-loop
@@ -70,9 +76,10 @@ front-512-spec =
     loop-holds
     mul-u
     shared-slice-copy-out-u
-    mul-u-2
-    array-set-from-u
+    mul-t11
+    slice-set-from-u
     add-k
     loop-less
     loop-again
+    same-length
     returns)
