@@ -1,0 +1,3 @@
+pub mod Edge
+pub mod Summing
+pub mod Ceil
