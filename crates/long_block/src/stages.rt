@@ -55,7 +55,7 @@ fn middles(
     reach: u32,
     m: &mut [i32],
 ) -> u32
-    requires { ⌜ Down (now t) h (now c) w pairs columns reach × ((h ≤ 32) × (h * columns ≤ length (now m))) ⌝ }
+    requires { ⌜ Down (now t) h (now c) w pairs columns reach × (h * columns ≤ length (now m)) ⌝ }
     ensures { λ r. ⌜ (now (m .exit) ≡ block columns h (λ x y. middle (rangeOf reach) (columnAt (now (t .entry)) h (now (c .entry)) w pairs x y)) ++ drop (h * columns) (now (m .entry))) × (r ≡ sumℕ h (λ y. sumℕ columns (λ x. railOf reach (columnAt (now (t .entry)) h (now (c .entry)) w pairs x y)))) ⌝ }
 {
     let mut rails = 0;
