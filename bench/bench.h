@@ -21,11 +21,10 @@ void reference_prepare(void), triple_prepare(void), rows_prepare(void), folded_p
 int weight(int kind, int n, int i, int j);
 int log2_of(int n);
 
-/* of kinds 1 and 2; of any kind; of a shape's columns and rows */
+/* the most that is kept of kinds 1 and 2; what a shape keeps */
 static inline int kept(int n) { return n < KEPT ? n : KEPT; }
-static inline int kept_of(uint32_t kind, uint32_t n) { return kind == DCT_II ? (int)n : kept((int)n); }
-static inline int columns_of(hoengtila_shape s) { return kept_of(s.horizontal, s.width); }
-static inline int rows_of(hoengtila_shape s) { return kept_of(s.vertical, s.height); }
+static inline int columns_of(hoengtila_shape s) { return (int)s.columns; }
+static inline int rows_of(hoengtila_shape s) { return (int)s.rows; }
 
 /* "The middle value is (e+64)>>7, clipped to -32768..32767"; the other three roundings take a shift */
 static inline int16_t middle_of(int32_t e) {

@@ -34,7 +34,12 @@ inverse_block *inverse_of(int i) { return inverses[i]; }
 forward_block *forward_of(int i) { return forwards[i]; }
 
 static hoengtila_shape shape_of(uint32_t width, uint32_t height, uint32_t kind) {
-    return (hoengtila_shape){width, height, kind, kind, DEPTH};
+    return hoengtila_shape_of(width, height, kind, kind, DEPTH);
+}
+
+static hoengtila_shape keeping(hoengtila_shape s, uint32_t columns, uint32_t rows) {
+    s.columns = columns, s.rows = rows;
+    return s;
 }
 
 static int make_blocks(bench_case *cases, int forward) {
@@ -45,6 +50,7 @@ static int make_blocks(bench_case *cases, int forward) {
     for (int s = 0; s < 5; s++)
         for (int f = 0; f < 3; f++)
             cases[count++] = (bench_case){0, forward, shape_of(sizes[s][0], sizes[s][1], DST_VII), fills[f]};
+    cases[count++] = (bench_case){0, forward, keeping(shape_of(32, 32, DST_VII), 4, 4), "keeps-4x4"};
     cases[count++] = (bench_case){0, forward, shape_of(16, 16, DCT_VIII), "dct8"};
     for (int s = 0; s < 5; s++)
         for (int f = 0; f < 3; f++)
@@ -70,9 +76,16 @@ int make_cases(bench_case *cases) {
 
 int implementations_of(const bench_case *c) { return c->line ? 2 : IMPLEMENTATIONS; }
 
-/* The library and the reference have all kinds, the halves kind 0 alone, and the others kinds 1 and 2. */
-int has_kinds(int i, hoengtila_shape s) {
+static int keeps_the_most(hoengtila_shape s) {
+    hoengtila_shape most = hoengtila_shape_of(s.width, s.height, s.horizontal, s.vertical, s.depth);
+    return s.columns == most.columns && s.rows == most.rows;
+}
+
+/* The library and the reference have every shape; of the others the halves have kind 0 alone, the rest kinds 1 and 2, and all
+ * keep the most. */
+int has_shape(int i, hoengtila_shape s) {
     if (i < 2) return 1;
+    if (!keeps_the_most(s)) return 0;
     return i == IMPLEMENTATIONS - 1 ? s.horizontal == DCT_II && s.vertical == DCT_II : s.horizontal != DCT_II && s.vertical != DCT_II;
 }
 
@@ -83,7 +96,7 @@ const char *case_name(const bench_case *c, int i, char *name) {
     return name;
 }
 
-/* "dense": every number that may be other than 0 is; "corner": the first four columns and rows; "one": the first. */
+/* "dense", and "keeps": every number that may be other than 0 is; "corner": the first four columns and rows; "one": the first. */
 static int filled(const bench_case *c, uint32_t x, uint32_t y) {
     if (strstr(c->fill, "one")) return x == 0 && y == 0;
     if (strstr(c->fill, "corner")) return x < 4 && y < 4;

@@ -51,6 +51,13 @@ function aim(m, name, over, under, bound, limit,    a, b) {
         name, over "/" under, a / b, bound, limit
 }
 
+# What the library takes of a block that keeps less, beside one that keeps the most.
+function less(m, direction,    most, few) {
+    if (!has(m, direction " 32x32 dense", "library") || !has(m, direction " 32x32 keeps-4x4", "library")) return
+    most = value[m, direction " 32x32 dense", "library"]; few = value[m, direction " 32x32 keeps-4x4", "library"]
+    printf "%-8s %-22s %-20s %5.2f, more than %.2f\n", (most > few ? "reached" : "short"), direction " 32x32", "keeps 16x16/4x4", most / few, 1
+}
+
 function aims(m,    k, f) {
     print "\naims, in " m
     for (k = 1; k <= 2; k++) aim(m, "inverse " large[k] " dense", "reference", "library", "at least", 2)
@@ -59,6 +66,8 @@ function aims(m,    k, f) {
     for (k = 1; k <= 2; k++) for (f = 1; f <= 3; f++) aim(m, "inverse " small[k] " " fill[f], "reference", "library", "at least", 1)
     for (k = 1; k <= 2; k++) aim(m, "inverse " small[k] " dct2-dense", "halves", "library", "at least", 1)
     for (k = 1; k <= 2; k++) aim(m, "inverse " large[k] " dct2-dense", "halves", "library", "at least", k)
+    less(m, "inverse")
+    less(m, "forward")
 }
 
 END {

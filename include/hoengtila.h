@@ -11,10 +11,11 @@
  *   3  the horizontal kind, or a line's kind, is not 0 (DCT-II), 1 (DST-VII) or 2 (DCT-VIII)
  *   4  the vertical kind is not 0, 1 or 2
  *   5  the depth is outside 8..12
+ *  20  the kept columns or the kept rows are 0, or more than hoengtila_shape_of gives
  *   6  the input's length is not width * height (line: n)
  *   7  the output's length is not width * height (line: n; writing a picture: it is too short)
- *   8  inverse block: a coefficient other than 0 outside the kept part (the first 16 columns and rows, all of
- *      them in a direction of kind 0); place of the first
+ *   8  inverse block: a coefficient other than 0 outside the kept part, which is the first `columns` columns and the
+ *      first `rows` rows of the shape; place of the first
  *   9  forward block: a residual of size above 2^depth - 1; place of the first
  *  23  writing a picture: a residual outside -32768..32767
  *  24  reading a picture: the header is not that of such a graymap, or has sizes that 1 or 2 would refuse
@@ -41,12 +42,16 @@
 extern "C" {
 #endif
 
+/* Seven numbers. hoengtila_shape_of fills the last two from the first five; a struct that is written by hand needs them, since
+ * where they are left 0 every call refuses it with 20. */
 typedef struct {
     uint32_t width;
     uint32_t height;
     uint32_t horizontal; /* kind of the rows: 0 DCT-II, 1 DST-VII, 2 DCT-VIII */
     uint32_t vertical;   /* kind of the columns */
     uint32_t depth;      /* bits of a sample, 8..12 */
+    uint32_t columns;    /* kept columns: at least 1, at most min(width, 16), or min(width, 32) where horizontal is 0 */
+    uint32_t rows;       /* kept rows: at least 1, at most min(height, 16), or min(height, 32) where vertical is 0 */
 } hoengtila_shape;
 
 typedef struct {
@@ -65,6 +70,10 @@ typedef struct {
     uint32_t width;  /* of the header, also where 25 or 7 refuses; 0 where 24 does */
     uint32_t height;
 } hoengtila_picture;
+
+/* The shape that keeps the most columns and rows that it can. Any numbers; nothing is refused here. For less, set `columns` and
+ * `rows` after it: the inverse then skips what is dropped, and the forward writes 0 there. */
+hoengtila_shape hoengtila_shape_of(uint32_t width, uint32_t height, uint32_t horizontal, uint32_t vertical, uint32_t depth);
 
 /* The weight of row i in column j at n points; 0 outside. */
 int32_t hoengtila_weight(uint32_t kind, uint32_t n, uint32_t i, uint32_t j);

@@ -9,7 +9,7 @@
 using Block = std::array<std::int16_t, 16>;
 
 static void print_forward(const Block &residuals) {
-    const hoengtila_shape shape = {4, 4, 1, 1, 8};
+    const hoengtila_shape shape = hoengtila_shape_of(4, 4, 1, 1, 8);
     Block coefficients;
     coefficients.fill(-1);
     const hoengtila_answer answer =

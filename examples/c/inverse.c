@@ -6,7 +6,7 @@
 enum { WIDTH = 4, HEIGHT = 4, AREA = WIDTH * HEIGHT };
 
 int main(void) {
-    hoengtila_shape shape = {WIDTH, HEIGHT, 1, 1, 10};
+    hoengtila_shape shape = hoengtila_shape_of(WIDTH, HEIGHT, 1, 1, 10);
     int16_t coefficients[AREA] = {64};
     int32_t residuals[AREA];
     hoengtila_answer answer = hoengtila_block_inverse(shape, coefficients, AREA, residuals, AREA);

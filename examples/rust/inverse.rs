@@ -6,13 +6,7 @@ mod library;
 use library::{block_inverse, Shape};
 
 fn main() {
-    let shape = Shape {
-        width: 4,
-        height: 4,
-        horizontal: 1,
-        vertical: 1,
-        depth: 10,
-    };
+    let shape = Shape::new(4, 4, 1, 1, 10);
     let mut coefficients = [0; 16];
     coefficients[0] = 64;
     let mut residuals = [0; 16];

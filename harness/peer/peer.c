@@ -7,7 +7,7 @@
 #include <stdlib.h>
 
 enum { MOST = 4096 };
-enum { WEIGHT, LINE_FORWARD, LINE_INVERSE, LINE_FORWARD_PRODUCT, LINE_INVERSE_PRODUCT, BLOCK_INVERSE, BLOCK_FORWARD };
+enum { WEIGHT, LINE_FORWARD, LINE_INVERSE, LINE_FORWARD_PRODUCT, LINE_INVERSE_PRODUCT, BLOCK_INVERSE, BLOCK_FORWARD, SHAPE_OF };
 enum { STEPS_RUN = 600, STEPS_LIST, STEPS_FORWARD };
 
 /* more numbers than 2,048 steps have */
@@ -45,6 +45,8 @@ static hoengtila_shape shape(void) {
     s.horizontal = number();
     s.vertical = number();
     s.depth = number();
+    s.columns = number();
+    s.rows = number();
     return s;
 }
 
@@ -56,6 +58,18 @@ static void put_answer(hoengtila_answer a) {
     put(&a.number, sizeof a.number, 1);
     put(&a.place, sizeof a.place, 1);
     put(&a.rails, sizeof a.rails, 1);
+}
+
+static void shape_of(void) {
+    uint32_t width = number(), height = number(), horizontal = number(), vertical = number(), depth = number();
+    hoengtila_shape s = hoengtila_shape_of(width, height, horizontal, vertical, depth);
+    put(&s.width, sizeof s.width, 1);
+    put(&s.height, sizeof s.height, 1);
+    put(&s.horizontal, sizeof s.horizontal, 1);
+    put(&s.vertical, sizeof s.vertical, 1);
+    put(&s.depth, sizeof s.depth, 1);
+    put(&s.columns, sizeof s.columns, 1);
+    put(&s.rows, sizeof s.rows, 1);
 }
 
 static void weight(void) {
@@ -157,6 +171,7 @@ int main(void) {
         if (call == WEIGHT) weight();
         else if (call <= LINE_INVERSE_PRODUCT) line(call);
         else if (call <= BLOCK_FORWARD) block(call);
+        else if (call == SHAPE_OF) shape_of();
         else if (call == STEPS_RUN) steps_run();
         else if (call == STEPS_LIST) steps_list();
         else if (call == STEPS_FORWARD) steps_forward();

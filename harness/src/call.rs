@@ -6,8 +6,19 @@ use crate::model;
 /// Which function of the header, with its numbers.
 #[derive(Clone, Copy, Debug, PartialEq, Eq)]
 pub enum What {
-    Weight { kind: u32, n: u32, i: u32, j: u32 },
-    Line { path: Path, n: u32, kind: u32 },
+    /// Width, height, both kinds and depth, of which a shape is filled.
+    ShapeOf([u32; 5]),
+    Weight {
+        kind: u32,
+        n: u32,
+        i: u32,
+        j: u32,
+    },
+    Line {
+        path: Path,
+        n: u32,
+        kind: u32,
+    },
     Inverse(Shape),
     Forward(Shape),
 }
@@ -37,7 +48,7 @@ pub struct Call {
     pub held: Vec<i32>,
 }
 
-/// What a call hands back, and what its output holds then. A weight is an output of one number.
+/// What a call hands back, and what its output holds then. A weight is an output of one number, a shape one of seven.
 #[derive(Clone, Debug, PartialEq, Eq)]
 pub struct Outcome {
     pub answer: Answer,
@@ -46,21 +57,48 @@ pub struct Outcome {
 
 impl Outcome {
     pub fn of_weight(weight: i32) -> Outcome {
+        Outcome::of_numbers(vec![weight])
+    }
+
+    pub fn of_shape(shape: Shape) -> Outcome {
+        Outcome::of_numbers(shape_numbers(&shape).map(|n| n as i32).to_vec())
+    }
+
+    /// Of a call that hands back no answer.
+    pub fn of_numbers(output: Vec<i32>) -> Outcome {
         Outcome {
             answer: Answer {
                 number: 0,
                 place: 0,
                 rails: 0,
             },
-            output: vec![weight],
+            output,
         }
     }
 }
 
+/// In the header's order.
+pub fn shape_numbers(shape: &Shape) -> [u32; 7] {
+    [
+        shape.width,
+        shape.height,
+        shape.horizontal,
+        shape.vertical,
+        shape.depth,
+        shape.columns,
+        shape.rows,
+    ]
+}
+
 impl Call {
     pub fn weight(kind: u32, n: u32, i: u32, j: u32) -> Call {
+        Call::of(What::Weight { kind, n, i, j })
+    }
+
+    /// A call that is handed numbers alone.
+    pub fn of(what: What) -> Call {
         Call {
-            what: What::Weight { kind, n, i, j },
+            what,
             input: vec![],
             held: vec![],
         }
@@ -71,6 +109,7 @@ impl Call {
         let input: Vec<i64> = self.input.iter().map(|&z| z.into()).collect();
         let mut output: Vec<i64> = self.held.iter().map(|&z| z.into()).collect();
         let answer = match self.what {
+            What::ShapeOf(numbers) => return Outcome::of_shape(most_kept(numbers)),
             What::Weight { kind, n, i, j } => {
                 return Outcome::of_weight(narrow(model_weight(kind, n, i, j)))
             }
@@ -106,15 +145,26 @@ fn narrow(z: i64) -> i32 {
     i32::try_from(z).expect("the model's number leaves 32 bits")
 }
 
+/// A shape that keeps the most, by the model: tests that reach the library through a peer cannot call it here.
+pub fn most_kept(numbers: [u32; 5]) -> Shape {
+    let [width, height, horizontal, vertical, depth] = numbers;
+    let most = |kind: u32, n: u32| model::call::most(kind.into(), n.into()) as u32;
+    Shape {
+        width,
+        height,
+        horizontal,
+        vertical,
+        depth,
+        columns: most(horizontal, width),
+        rows: most(vertical, height),
+    }
+}
+
 impl From<Shape> for model::Shape {
     fn from(shape: Shape) -> model::Shape {
-        model::Shape::new(
-            shape.width.into(),
-            shape.height.into(),
-            shape.horizontal.into(),
-            shape.vertical.into(),
-            shape.depth.into(),
-        )
+        let [width, height, horizontal, vertical, depth, columns, rows] =
+            shape_numbers(&shape).map(i64::from);
+        model::Shape::new(width, height, horizontal, vertical, depth).keeping(columns, rows)
     }
 }
 

@@ -17,7 +17,7 @@ pub struct Comparison {
     calls: usize,
     numbers: usize,
     /// how often each number was handed back, and how many values stood at a rail
-    pub met: [usize; 10],
+    pub met: [usize; 21],
     pub rails: u64,
     started: Instant,
 }
@@ -33,7 +33,7 @@ impl Comparison {
             waiting: vec![],
             calls: 0,
             numbers: 0,
-            met: [0; 10],
+            met: [0; 21],
             rails: 0,
             started: Instant::now(),
         }
@@ -75,6 +75,11 @@ impl Comparison {
         self.numbers += found.output.len();
         self.met[found.answer.number as usize] += 1;
         self.rails += u64::from(found.answer.rails);
+    }
+
+    /// Whether no call was turned down.
+    pub fn all_taken(&self) -> bool {
+        self.met[1..] == [0; 20]
     }
 
     /// Compares what is left, and says how much there was.

@@ -1,6 +1,8 @@
 //! Block files: fields, and the files that the crate `file_cases` stores and the examples show.
 
-use crate::model::file::{run_file, LARGEST_FILE, TAG_COEFFICIENTS, TAG_RESIDUALS, TAG_SHAPE};
+use crate::model::file::{
+    run_file, LARGEST_FILE, TAG_COEFFICIENTS, TAG_KEPT, TAG_RESIDUALS, TAG_SHAPE,
+};
 
 pub struct Case {
     pub name: String,
@@ -23,6 +25,10 @@ pub fn field(tag: u8, body: &[u8]) -> Vec<u8> {
 
 pub fn shape(width: u8, height: u8, horizontal: u8, vertical: u8, depth: u8) -> Vec<u8> {
     field(TAG_SHAPE, &[width, height, horizontal, vertical, depth])
+}
+
+pub fn kept(columns: u8, rows: u8) -> Vec<u8> {
+    field(TAG_KEPT, &[columns, rows])
 }
 
 pub fn data(tag: u8, numbers: &[i16]) -> Vec<u8> {
@@ -66,6 +72,21 @@ fn waves() -> [Vec<u8>; 4] {
     ]
 }
 
+/// A block that keeps less than it can: the forward's zeros, an inverse of what is left, and the shape anew with all of it.
+fn kept_part() -> [Vec<u8>; 6] {
+    let residuals: Vec<i16> = (0..64).map(|k| 13 * (k % 8) - 9 * (k / 8)).collect();
+    let few = [[400, -30, 7], [-85, 12, 0]].map(|row| [&row[..], &[0; 5]].concat());
+    let coefficients = [few.concat(), vec![0; 48]].concat();
+    [
+        shape(8, 8, 1, 2, 8),
+        kept(3, 2),
+        data(TAG_RESIDUALS, &residuals),
+        data(TAG_COEFFICIENTS, &coefficients),
+        shape(8, 8, 1, 2, 8),
+        data(TAG_RESIDUALS, &residuals),
+    ]
+}
+
 // ---- cases
 
 fn accepted() -> Vec<Case> {
@@ -106,6 +127,41 @@ fn accepted() -> Vec<Case> {
                 whole_case(),
             ],
         ),
+        case("kept_part", &kept_part()),
+        case("kept_alone", &[four(), kept(1, 4)]),
+        case(
+            "kept_twice",
+            &[
+                four(),
+                kept(1, 1),
+                inverse_of_64(),
+                kept(4, 2),
+                data(TAG_COEFFICIENTS, &alone(16, 7, -900)),
+                data(TAG_RESIDUALS, &rising),
+            ],
+        ),
+        case(
+            "kept_until_the_next_shape",
+            &[
+                shape(32, 4, 1, 2, 8),
+                kept(3, 2),
+                data(TAG_RESIDUALS, &wide),
+                shape(32, 4, 1, 2, 8),
+                data(TAG_RESIDUALS, &wide),
+                data(TAG_COEFFICIENTS, &alone(128, 111, 999)),
+            ],
+        ),
+        case(
+            "kept_of_kind_0",
+            &[
+                shape(32, 4, 0, 0, 8),
+                kept(32, 4),
+                data(TAG_COEFFICIENTS, &alone(128, 127, 999)),
+                kept(31, 3),
+                data(TAG_COEFFICIENTS, &alone(128, 94, 999)),
+                data(TAG_RESIDUALS, &wide),
+            ],
+        ),
         case(
             "kind_0",
             &[
@@ -139,8 +195,31 @@ fn refused_fields() -> Vec<(&'static str, Vec<u8>, Vec<u8>)> {
         ("09", four(), data(TAG_RESIDUALS, &alone(16, 3, 1024))),
         ("10_header", none(), vec![TAG_SHAPE, 0]),
         ("10_body", none(), vec![TAG_SHAPE, 0, 5, 4, 4]),
-        ("11", none(), field(4, &[1, 2])),
+        ("10_kept_header", four(), vec![TAG_KEPT, 0]),
+        ("10_kept_body", four(), vec![TAG_KEPT, 0, 2, 4]),
+        ("11", none(), field(5, &[1, 2])),
         ("12", none(), field(TAG_SHAPE, &[4, 4, 1, 1])),
+        ("12_kept", none(), field(TAG_KEPT, &[4, 4, 4])),
+        ("20_no_column", four(), kept(0, 4)),
+        ("20_no_row", four(), kept(4, 0)),
+        ("20_columns", four(), kept(5, 4)),
+        ("20_rows", shape(32, 32, 0, 1, 8), kept(32, 17)),
+        (
+            "08_kept_columns",
+            [four(), kept(1, 4)].concat(),
+            data(TAG_COEFFICIENTS, &alone(16, 1, 1)),
+        ),
+        (
+            "08_kept_rows",
+            [four(), kept(4, 3)].concat(),
+            data(TAG_COEFFICIENTS, &alone(16, 12, -1)),
+        ),
+        // "A data field's length stays"
+        (
+            "06_kept",
+            [four(), kept(2, 2)].concat(),
+            data(TAG_COEFFICIENTS, &[0; 4]),
+        ),
     ]
 }
 
@@ -163,6 +242,20 @@ pub fn refused() -> Vec<Case> {
         &[field(TAG_SHAPE, &[4; 6])[..5].to_vec()],
     ));
     cases.push(case("13_before_06", &[data(TAG_RESIDUALS, &[0; 3])]));
+    cases.push(case("13_kept", &[kept(1, 1), four()]));
+    cases.push(case(
+        "12_kept_before_13_and_10",
+        &[field(TAG_KEPT, &[0; 3])[..4].to_vec()],
+    ));
+    cases.push(case("13_kept_before_10", &[kept(0, 0)[..3].to_vec()]));
+    cases.push(case(
+        "12_kept_before_10",
+        &[four(), field(TAG_KEPT, &[0; 9])[..5].to_vec()],
+    ));
+    cases.push(case(
+        "10_kept_before_20",
+        &[four(), kept(0, 0)[..4].to_vec()],
+    ));
     cases.push(case(
         "06_before_10",
         &[four(), data(TAG_RESIDUALS, &[0; 15])[..9].to_vec()],

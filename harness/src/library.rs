@@ -4,7 +4,8 @@
 //! The archive is linked where the build is told where it stands (`build.rs`). Each function is `#[inline]`, so that a
 //! program that calls none of them needs no archive.
 
-/// What a block is: its sides, a kind for each direction (0 DCT-II, 1 DST-VII, 2 DCT-VIII), and its bit depth.
+/// What a block is: its sides, a kind for each direction (0 DCT-II, 1 DST-VII, 2 DCT-VIII), its bit depth, and how many
+/// columns and rows are kept.
 #[repr(C)]
 #[derive(Clone, Copy, Debug, PartialEq, Eq)]
 pub struct Shape {
@@ -13,6 +14,25 @@ pub struct Shape {
     pub horizontal: u32,
     pub vertical: u32,
     pub depth: u32,
+    pub columns: u32,
+    pub rows: u32,
+}
+
+impl Shape {
+    /// A shape that keeps the most that is allowed.
+    #[inline]
+    pub fn new(width: u32, height: u32, horizontal: u32, vertical: u32, depth: u32) -> Shape {
+        unsafe { c::hoengtila_shape_of(width, height, horizontal, vertical, depth) }
+    }
+
+    /// The same with other kept numbers.
+    pub fn keeping(self, columns: u32, rows: u32) -> Shape {
+        Shape {
+            columns,
+            rows,
+            ..self
+        }
+    }
 }
 
 /// What a call hands back beside its output: the number of the refusal or 0, its place, and the rail count.
@@ -66,6 +86,13 @@ mod c {
 
     // Nothing holds these lines to the header or to the Rattle source but the tests.
     unsafe extern "C" {
+        pub fn hoengtila_shape_of(
+            width: u32,
+            height: u32,
+            horizontal: u32,
+            vertical: u32,
+            depth: u32,
+        ) -> Shape;
         pub fn hoengtila_weight(kind: u32, n: u32, i: u32, j: u32) -> i32;
         pub fn hoengtila_line_forward(
             n: u32,

@@ -242,11 +242,19 @@ pub fn is_kept(shape: &Shape, place: usize) -> bool {
 
 /// How many columns and rows are kept.
 fn kept(shape: &Shape) -> [usize; 2] {
-    let of = |kind: u32, n: u32| call::kept(kind.into(), n.into()) as usize;
-    [
-        of(shape.horizontal, shape.width),
-        of(shape.vertical, shape.height),
-    ]
+    [shape.columns as usize, shape.rows as usize]
+}
+
+/// The shape with other kept numbers, each of those that are allowed, the ends often: one, or all.
+pub fn keeping_any(random: &mut Random, shape: &Shape) -> Shape {
+    let mut any = |kind: u32, n: u32| {
+        let most = call::most(kind.into(), n.into());
+        let between = random.between(1, most);
+        random.choose(&[1, most, between, between]) as u32
+    };
+    let columns = any(shape.horizontal, shape.width);
+    let rows = any(shape.vertical, shape.height);
+    shape.keeping(columns, rows)
 }
 
 /// Zero in every place that is not kept.
@@ -267,19 +275,19 @@ pub fn block_about_the_rails(random: &mut Random, shape: &Shape) -> Vec<i64> {
     let [columns, rows] = kept(shape);
     let column = |_| column_about_the_rails(random, shape.vertical, h, rows);
     let all: Vec<Vec<i64>> = (0..columns).map(column).collect();
-    grid(
-        w,
-        h,
-        |x, y| if x < columns && y < rows { all[x][y] } else { 0 },
-    )
+    grid(w, h, |x, y| {
+        if x < columns && y < rows {
+            all[x][y]
+        } else {
+            0
+        }
+    })
 }
 
 fn column_about_the_rails(random: &mut Random, kind: u32, h: usize, rows: usize) -> Vec<i64> {
     let sum = random.choose(&AT_THE_RAILS) + random.between(-200, 200);
     let y = random.below(h);
-    let weights: Vec<i64> = (0..rows)
-        .map(|i| weight(kind.into(), h, i, y))
-        .collect();
+    let weights: Vec<i64> = (0..rows).map(|i| weight(kind.into(), h, i, y)).collect();
     let total: i64 = weights.iter().map(|w| w.abs()).sum();
     let most = (2 * sum.abs() / total).min(32767);
     // random numbers that bring the sum near, and the one with the largest weight for the rest

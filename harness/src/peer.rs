@@ -4,8 +4,8 @@
 //! A request is the call's name as one number and its arguments, a reply what the call hands back and what its output
 //! then holds; the little end first.
 
-use crate::call::{Call, Outcome, Path, What};
-use crate::library::{Answer, Shape};
+use crate::call::{shape_numbers, Call, Outcome, Path, What};
+use crate::library::Answer;
 use std::io::{BufReader, Read, Write};
 use std::process::{Child, ChildStdin, ChildStdout, Command, Stdio};
 use std::thread;
@@ -83,28 +83,20 @@ fn name(what: &What) -> u32 {
         },
         What::Inverse(_) => 5,
         What::Forward(_) => 6,
+        What::ShapeOf(_) => 7,
     }
-}
-
-fn shape_numbers(shape: &Shape) -> Vec<u32> {
-    vec![
-        shape.width,
-        shape.height,
-        shape.horizontal,
-        shape.vertical,
-        shape.depth,
-    ]
 }
 
 fn request(call: &Call) -> Vec<u8> {
     let lengths = [call.input.len() as u32, call.held.len() as u32];
     let mut numbers = match &call.what {
+        What::ShapeOf(numbers) => numbers.to_vec(),
         What::Weight { kind, n, i, j } => vec![*kind, *n, *i, *j],
         What::Line { n, kind, .. } => vec![*n, *kind],
-        What::Inverse(shape) | What::Forward(shape) => shape_numbers(shape),
+        What::Inverse(shape) | What::Forward(shape) => shape_numbers(shape).to_vec(),
     };
     numbers.insert(0, name(&call.what));
-    if !matches!(call.what, What::Weight { .. }) {
+    if !matches!(call.what, What::Weight { .. } | What::ShapeOf(_)) {
         numbers.extend(lengths);
     }
     let mut bytes: Vec<u8> = numbers.iter().flat_map(|n| n.to_le_bytes()).collect();
@@ -118,8 +110,10 @@ fn request(call: &Call) -> Vec<u8> {
 }
 
 fn read_reply(from: &mut impl Read, call: &Call) -> std::io::Result<Outcome> {
-    if let What::Weight { .. } = call.what {
-        return Ok(Outcome::of_weight(read_four(from)?));
+    match call.what {
+        What::Weight { .. } => return Ok(Outcome::of_weight(read_four(from)?)),
+        What::ShapeOf(_) => return Ok(Outcome::of_numbers(read_fours(from, 7)?)),
+        _ => (),
     }
     let mut number = || read_four(from).map(|n| n as u32);
     let answer = Answer {

@@ -71,6 +71,10 @@ fn run_linked(call: &Call) -> Outcome {
     let mut output = call.held.clone();
     let input = &call.input;
     let answer = match call.what {
+        What::ShapeOf([width, height, horizontal, vertical, depth]) => {
+            let shape = library::Shape::new(width, height, horizontal, vertical, depth);
+            return Outcome::of_shape(shape);
+        }
         What::Weight { kind, n, i, j } => {
             return Outcome::of_weight(library::weight(kind, n, i, j));
         }

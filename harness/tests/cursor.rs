@@ -12,9 +12,17 @@ use std::process::{Command, Stdio};
 const CASES: usize = 3000;
 
 /// The numbers of a shape; a cursor that holds none has zeros, which 1 refuses.
-fn numbers(shape: Option<Shape>) -> [i64; 5] {
-    shape.map_or([0; 5], |s| {
-        [s.width, s.height, s.horizontal, s.vertical, s.depth]
+fn numbers(shape: Option<Shape>) -> [i64; 7] {
+    shape.map_or([0; 7], |s| {
+        [
+            s.width,
+            s.height,
+            s.horizontal,
+            s.vertical,
+            s.depth,
+            s.columns,
+            s.rows,
+        ]
     })
 }
 
@@ -84,22 +92,27 @@ fn place(random: &mut Random, file: &[u8]) -> usize {
     }
 }
 
-/// The shape that a file's own fields give, another that is taken, one that 1 to 5 refuse, or none.
+/// The shape that a file's own fields give, another that is taken, one that 1 to 5 or 20 refuse, or none.
 fn shape(random: &mut Random, file: &[u8]) -> Option<Shape> {
     let sides = [4, 8, 16, 32];
     let (width, height) = (random.choose(&sides), random.choose(&sides));
-    let kinds = [random.between(1, 2), random.between(1, 2)];
+    let kinds = [random.between(0, 2), random.between(0, 2)];
     let depth = random.between(8, 12);
+    let most = Shape::new(width, height, kinds[0], kinds[1], depth);
+    let mut kept = [
+        random.between(1, most.columns),
+        random.between(1, most.rows),
+    ];
     let mut numbers = [width, height, kinds[0], kinds[1], depth];
-    match random.below(5) {
+    match random.below(6) {
         0 | 1 => return Cursor::new().step(file).next.shape,
         2 => return None,
         3 => numbers[random.below(5)] = random.choose(&[0, 3, 5, 7, 13, 64, 256, 0xFFFF_FFFF]),
+        4 => kept[random.below(2)] = random.choose(&[0, 17, 33, 256, 257, 0xFFFF_FFFF]),
         _ => (),
     }
-    Some(Shape::new(
-        numbers[0], numbers[1], numbers[2], numbers[3], numbers[4],
-    ))
+    let [width, height, horizontal, vertical, depth] = numbers;
+    Some(Shape::new(width, height, horizontal, vertical, depth).keeping(kept[0], kept[1]))
 }
 
 /// A stored file, now and then with a byte changed or an end cut off.
@@ -121,7 +134,7 @@ fn steps_from_any_cursor() {
         std::env::var("HOENGTILA_CURSOR").expect("HOENGTILA_CURSOR names the program");
     let mut random = random::seeded();
     let files: Vec<Vec<u8>> = stored().into_iter().map(|case| case.file).collect();
-    let mut met = [0; 15];
+    let mut met = [0; 21];
     for k in 0..CASES {
         let file = file(&mut random, &files);
         let at = place(&mut random, &file);
@@ -136,7 +149,7 @@ fn steps_from_any_cursor() {
         );
     }
     // every number that the reader has, 14 at places other than the start among them
-    for number in [0, 1, 2, 3, 4, 5, 6, 10, 11, 12, 13, 14] {
+    for number in [0, 1, 2, 3, 4, 5, 20, 6, 10, 11, 12, 13, 14] {
         assert!(met[number] > 0, "{number} was not met");
     }
     println!("cursor: {CASES} steps from cursors of any kind are the model's");

@@ -5,16 +5,22 @@ use crate::print::few;
 use crate::tables;
 use meaning::Shape;
 
-fn row(is_forward: bool, number: i16, other: i16, r: [u32; 9]) {
-    let place = r[7] as usize;
-    let next = r[8] as usize;
-    few(place, number, next, other);
-    let shape = Shape::new(r[0], r[1], r[2], r[3], r[4]);
-    let numbers = only(place, number, next, other);
-    line(is_forward, shape, numbers, r[5] as usize, r[6] as usize);
+fn shape_of(r: [u32; 11]) -> Shape {
+    let most = Shape::new(r[0], r[1], r[2], r[3], r[4]);
+    most.keeping(r[5], r[6])
 }
 
-fn rows(is_forward: bool, number: i16, other: i16, table: &[[u32; 9]]) {
+fn row(is_forward: bool, number: i16, other: i16, r: [u32; 11]) {
+    let input = r[7] as usize;
+    let output = r[8] as usize;
+    let place = r[9] as usize;
+    let next = r[10] as usize;
+    few(place, number, next, other);
+    let numbers = only(place, number, next, other);
+    line(is_forward, shape_of(r), numbers, input, output);
+}
+
+fn rows(is_forward: bool, number: i16, other: i16, table: &[[u32; 11]]) {
     let mut k: usize = 0;
     while k < table.len() {
         row(is_forward, number, other, table[k]);
@@ -35,7 +41,7 @@ pub fn items() {
     row(true, 0, 0, tables::ITEM_10);
 }
 
-// 1 to 7 alone, and the order of all: 4096 at place 16 is 8's for the inverse and 9's for the forward.
+// 1 to 7 and 20 alone, and the order of all: 4096 at place 16 is 8's for the inverse and 9's for the forward.
 pub fn refusals(is_forward: bool) {
     let alone = tables::ALONE;
     rows(is_forward, 0, 0, &alone);

@@ -90,6 +90,8 @@ fn outcome(shape: Shape, input: usize, output: usize, answer: Answer) {
             shape.horizontal as u64,
             shape.vertical as u64,
             shape.depth as u64,
+            shape.columns as u64,
+            shape.rows as u64,
             input as u64,
             output as u64,
             answer.number as u64,

@@ -101,6 +101,14 @@ module _ (file : List ℕ) (at : ℕ) (shape : Shape) where
         behind = behind;
       }
 
+  -- data follows a shape
+  pub data-held : Whole file at shape → isData (byteAt file at) ≡ true → shapeNumber shape ≡ 0
+  data-held w d = w .held (either (isKeeping (byteAt file at)))
+    where
+      either : (b : Bool) → b || isData (byteAt file at) ≡ true
+      either true = refl
+      either false = d
+
   -- "the empty body tells the two apart": a field that is read has a body
   pub some-body : Whole file at shape → 0 < lengthAt file at
   some-body w =

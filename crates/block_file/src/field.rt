@@ -50,10 +50,10 @@ fn keeping_number(bytes: usize, shape: Shape) -> u32
     if bytes != 2 {
         return 12;
     }
-    if shape.refusal() != 0 {
-        return 13;
+    if shape.refusal() == 0 {
+        return 0;
     }
-    0
+    13
 }
 
 // What the header decides of a data field: of tag 03 as of tag 02.

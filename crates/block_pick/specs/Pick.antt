@@ -6,16 +6,17 @@ use Prim.Native.Nat.{ℕ, zero, suc, _-_}
 use lib.Dec.{eqb}
 use lib.ListN.{length}
 use Rattle.block_file.specs.declared.cursor.Cursor.{Cursor}
+use Rattle.block_file.specs.Field.{isData}
 use Rattle.block_file.specs.Cursor.{start, stepOf}
 
--- whether a field with a tag is passed over on the way to the n-th data field from here: a shape is, and so is every data field
--- but the one meant. At the end, and at a field that the reader refuses, the tag is 0
+-- whether a field with a tag is passed over on the way to the n-th data field from here: one that gives a shape or its kept part
+-- is, and so is every data field but the one meant. At the end, and at a field that the reader refuses, the tag is 0
 unfoldable pub passes : ℕ → ℕ → Bool
-passes tag n = not (eqb tag 0) && (eqb tag 1 || not (eqb n 1))
+passes tag n = not (eqb tag 0) && (not (isData tag) || not (eqb n 1))
 
 -- how many data fields are left to count behind it
 unfoldable pub left : ℕ → ℕ → ℕ
-left tag n = cond (eqb tag 1) n (n - 1)
+left tag n = cond (isData tag) (n - 1) n
 
 -- over at most k fields from a cursor on
 unfoldable pub reach : ℕ → List ℕ → ℕ → Cursor → Cursor

@@ -1,7 +1,17 @@
 // "names a block".
 use block_file::cursor::Cursor;
 ghost use mathlib.Core.Path.{_≡_};
+ghost use Rattle.block_file.specs.Field.{isData};
 ghost use Rattle.block_pick.specs.Pick.{passes, left, picked};
+
+fn is_data(tag: u32) -> bool
+    ensures { λ r. ⌜ r ≡ isData tag ⌝ }
+{
+    if tag == 2 {
+        return true;
+    }
+    tag == 3
+}
 
 fn passes(tag: u32, n: usize) -> bool
     ensures { λ r. ⌜ r ≡ passes tag n ⌝ }
@@ -9,22 +19,22 @@ fn passes(tag: u32, n: usize) -> bool
     if tag == 0 {
         return false;
     }
-    if tag == 1 {
-        return true;
+    if is_data(tag) {
+        return n != 1;
     }
-    n != 1
+    true
 }
 
 fn left(tag: u32, n: usize) -> usize
     ensures { λ r. ⌜ r ≡ left tag n ⌝ }
 {
-    if tag == 1 {
-        return n;
-    }
     if n == 0 {
         return 0;
     }
-    n - 1
+    if is_data(tag) {
+        return n - 1;
+    }
+    n
 }
 
 /// The cursor at the n-th data field of a file, of which the first is 1; where there is none, the cursor at which the reader

@@ -35,10 +35,9 @@ le-or-lt a b = go (leb a b) refl
 abbrev turnOf : List ℕ → Cursor → Field → Turn
 turnOf file c f =
     cond (not (eqb (f .number) 0)) (refusedTurn (f .number) (c .at) (f .next))
-    (cond (eqb (f .tag) 1) (record { text = []; ends = false; next = f .next })
     (cond (eqb (f .tag) 2) (inverseTurn (c .shape) (numbers (take (f .bytes) (drop (f .start) file))) (c .at) (f .next))
     (cond (eqb (f .tag) 3) (forwardTurn (c .shape) (numbers (take (f .bytes) (drop (f .start) file))) (c .at) (f .next))
-    (record { text = []; ends = true; next = f .next }))))
+    (record { text = []; ends = eqb (f .tag) 0; next = f .next })))
 
 abbrev Moves : List ℕ → Cursor → Turn → Type 0
 Moves file c t = t .ends ≡ false → (c .at < length file) × (c .at < t .next .at)
@@ -72,10 +71,9 @@ module _ (file : List ℕ) (c : Cursor) where
       (λ h l w. let f = whole file (c .at) (c .shape) in
       let body = numbers (take (f .bytes) (drop (f .start) file)) in
       let on : (c .at < length file) × (c .at < f .next .at) = (h, omega arith) in
-      both (eqb (f .tag) 1) (record { text = []; ends = false; next = f .next }) _ (λ e. on)
-      (both (eqb (f .tag) 2) (inverseTurn (c .shape) body (c .at) (f .next)) _ (inverse-moves (c .shape) body (f .next) on)
-      (both (eqb (f .tag) 3) (forwardTurn (c .shape) body (c .at) (f .next)) (record { text = []; ends = true; next = f .next }) (forward-moves (c .shape) body (f .next) on)
-      (never (record { text = []; ends = true; next = f .next }) refl))))
+      both (eqb (f .tag) 2) (inverseTurn (c .shape) body (c .at) (f .next)) _ (inverse-moves (c .shape) body (f .next) on)
+      (both (eqb (f .tag) 3) (forwardTurn (c .shape) body (c .at) (f .next)) (record { text = []; ends = eqb (f .tag) 0; next = f .next }) (forward-moves (c .shape) body (f .next) on)
+      (λ e. on)))
 
   -- ---- at the end of a file that is not too long nothing is printed
   turn-end : length file ≤ 65536 → length file ≤ c .at → turnAt file c ≡ record { text = []; ends = true; next = c }

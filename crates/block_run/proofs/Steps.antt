@@ -2,7 +2,7 @@
 use mathlib.Core.Path.{_≡_, refl, sym, ap, subst, _∙_}
 use mathlib.Core.Bool.{Bool, true, false, cond, not, false≢true}
 use mathlib.Core.List.{List, []}
-use Prim.Native.Nat.{ℕ, _+_, _*_, _-_, _≤_}
+use Prim.Native.Nat.{ℕ, _+_, _*_, _-_, _≤_, _<_}
 use native.Mathlib.Omega.{arith}
 use borrow.Author.Tests.{eq-eqb, ne-eqb}
 use lib.Dec.{eqb}
@@ -23,7 +23,7 @@ use Rattle.block_text.specs.Text.{inverseText, forwardText}
 use Rattle.block_run.specs.Run.{Turn, blank, refusedTurn, blockTurn, inverseTurn, forwardTurn, turnAt}
 use Rattle.block_run.specs.Does.{Fits, Does, Follows}
 use Rattle.block_file.proofs.Shapes.{shape-range}
-use Rattle.block_file.proofs.Whole.{Whole}
+use Rattle.block_file.proofs.Whole.{Whole, data-held}
 use Rattle.block_file.proofs.Found.{found-cases}
 
 -- a block's turn goes on behind its field, refused or not
@@ -65,19 +65,19 @@ module _ (file : List ℕ) (c : Cursor) where
   read-field : Whole file (c .at) (c .shape) → length file ≤ 65536 → Read file c (whole file (c .at) (c .shape))
   read-field w l = record { place = omega (arith, body-long (w .body)); inside = omega (arith, w .body) }
 
-  -- a shape has five bytes
-  pub read-shape : foundAt file c .number ≡ 0 → foundAt file c .tag ≡ 1 → (foundAt file c .next .at ≡ c .at + 8) × (foundAt file c .next .at ≤ 65536)
-  read-shape =
-      found-cases file c (λ f. f .number ≡ 0 → f .tag ≡ 1 → (f .next .at ≡ c .at + 8) × (f .next .at ≤ 65536))
-      (λ n h z e. absurd (omega (arith, e)))
-      (λ h l w z e. (omega (arith, w .five e), omega (arith, w .body)))
+  -- a field is at least its header
+  pub read-on : (foundAt file c .tag ≡ 0 → ⊥) → (c .at < foundAt file c .next .at) × (foundAt file c .next .at ≤ 65536)
+  read-on =
+      found-cases file c (λ f. (f .tag ≡ 0 → ⊥) → (c .at < f .next .at) × (f .next .at ≤ 65536))
+      (λ n h e. absurd (e refl))
+      (λ h l w e. (omega arith, omega (arith, w .body)))
 
   -- data fits the shape that holds
   pub read-data : foundAt file c .number ≡ 0 → isData (foundAt file c .tag) ≡ true → Fits (c .shape) (bytesOf file c) × Read file c (foundAt file c)
   read-data =
       found-cases file c (λ f. f .number ≡ 0 → isData (f .tag) ≡ true → Fits (c .shape) (take (f .bytes) (drop (f .start) file)) × Read file c f)
       (λ n h z e. absurd (false≢true e))
-      (λ h l w z e. (record { held = w .held e; long = body-long (w .body) ∙ w .numbers e }, read-field w l))
+      (λ h l w z e. (record { held = data-held file (c .at) (c .shape) w e; long = body-long (w .body) ∙ w .numbers e }, read-field w l))
 
   pub data-follows : {t : Turn} {at : ℕ} {o o₁ : List ℕ} {d : Done} → Fits (c .shape) (bytesOf file c) × Read file c (foundAt file c)
       → Does t (35 + 6 * length (bytesOf file c)) at o o₁ d → t .next ≡ foundAt file c .next → Follows (c .at) at d
@@ -90,10 +90,9 @@ module _ (file : List ℕ) (c : Cursor) where
   abbrev ofStep : Step → Turn
   ofStep st =
       cond (not (eqb (st .number) 0)) (refusedTurn (st .number) (c .at) (st .next))
-      (cond (eqb (st .tag) 1) (record { text = []; ends = false; next = st .next })
       (cond (eqb (st .tag) 2) (inverseTurn (c .shape) (numbers (bytesOf file c)) (c .at) (st .next))
       (cond (eqb (st .tag) 3) (forwardTurn (c .shape) (numbers (bytesOf file c)) (c .at) (st .next))
-      (record { text = []; ends = true; next = st .next }))))
+      (record { text = []; ends = eqb (st .tag) 0; next = st .next })))
 
   by-step : (st : Step) → st ≡ stepOf file c → ofStep st ≡ turnAt file c
   unfolding turnAt
@@ -103,14 +102,11 @@ module _ (file : List ℕ) (c : Cursor) where
     pub turn-refused : (st .number ≡ 0 → ⊥) → refusedTurn (st .number) (c .at) (st .next) ≡ turnAt file c
     turn-refused h = sym (rw (ne-eqb (st .number) 0 h)) ∙ by-step st e
 
-    pub turn-shape : st .number ≡ 0 → st .tag ≡ 1 → record { text = []; ends = false; next = st .next } ≡ turnAt file c
-    turn-shape h t = sym (rw (eq-eqb (st .number) 0 h, eq-eqb (st .tag) 1 t)) ∙ by-step st e
-
     pub turn-inverse : st .number ≡ 0 → st .tag ≡ 2 → inverseTurn (c .shape) (numbers (bytesOf file c)) (c .at) (st .next) ≡ turnAt file c
     turn-inverse h t = sym (rw (eq-eqb (st .number) 0 h, t)) ∙ by-step st e
 
     pub turn-forward : st .number ≡ 0 → st .tag ≡ 3 → forwardTurn (c .shape) (numbers (bytesOf file c)) (c .at) (st .next) ≡ turnAt file c
     turn-forward h t = sym (rw (eq-eqb (st .number) 0 h, t)) ∙ by-step st e
 
-    pub turn-none : st .number ≡ 0 → (st .tag ≡ 1 → ⊥) → (st .tag ≡ 2 → ⊥) → (st .tag ≡ 3 → ⊥) → record { text = []; ends = true; next = st .next } ≡ turnAt file c
-    turn-none h a b d = sym (rw (eq-eqb (st .number) 0 h, ne-eqb (st .tag) 1 a, ne-eqb (st .tag) 2 b, ne-eqb (st .tag) 3 d)) ∙ by-step st e
+    pub turn-silent : st .number ≡ 0 → (st .tag ≡ 2 → ⊥) → (st .tag ≡ 3 → ⊥) → record { text = []; ends = eqb (st .tag) 0; next = st .next } ≡ turnAt file c
+    turn-silent h b d = sym (rw (eq-eqb (st .number) 0 h, ne-eqb (st .tag) 2 b, ne-eqb (st .tag) 3 d)) ∙ by-step st e

@@ -46,16 +46,16 @@ forwardTurn shape residuals offset next =
     let outcome = forwardOutcome shape residuals (blank shape) in
     blockTurn (outcome .0) (forwardText (shape .width) (shape .height) (outcome .1)) offset next
 
--- by the number and the tag: a refusal, a shape, a block, or the end. "the offset being that of the field's tag": the
+-- by the number and the tag: a refusal, a block, or a shape or its kept part, for which nothing is printed, or the end, where the
+-- tag is 0. "the offset being that of the field's tag": the
 -- cursor's place, "(0 for 14)": 14 is met at the start
 unfoldable pub turnAt : List ℕ → Cursor → Turn
 turnAt file cursor =
     let step = stepOf file cursor in
     cond (not (eqb (step .number) 0)) (refusedTurn (step .number) (cursor .at) (step .next))
-    (cond (eqb (step .tag) 1) (record { text = []; ends = false; next = step .next })
     (cond (eqb (step .tag) 2) (inverseTurn (cursor .shape) (numbers (bytesOf file cursor)) (cursor .at) (step .next))
     (cond (eqb (step .tag) 3) (forwardTurn (cursor .shape) (numbers (bytesOf file cursor)) (cursor .at) (step .next))
-    (record { text = []; ends = true; next = step .next }))))
+    (record { text = []; ends = eqb (step .tag) 0; next = step .next })))
 
 -- at most k fields from a cursor on: "lines printed before it stand"
 unfoldable pub printedFrom : ℕ → List ℕ → Cursor → List ℕ

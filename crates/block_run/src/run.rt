@@ -160,7 +160,7 @@ fn forward_turn(
     )
 }
 
-// The field at the cursor's place: a refusal, a shape, a block, or the end.
+// The field at the cursor's place: a refusal, a block, a shape or its kept part, or the end.
 fn turn(file: &[u8], cursor: Cursor, text: &mut [u8], at: usize) -> Done
     requires { ⌜ (cursor .at ≤ 65536) × (at + 12323 ≤ length (now text)) ⌝ }
     ensures { λ r. ⌜ Does (turnAt (now (file .entry)) cursor) 12323 at (now (text .entry)) (now (text .exit)) r × Follows (cursor .at) at r ⌝ }
@@ -174,13 +174,6 @@ fn turn(file: &[u8], cursor: Cursor, text: &mut [u8], at: usize) -> Done
     if number != 0 {
         return refused(number, offset, next, text, at);
     }
-    if tag == 1 {
-        return Done {
-            at,
-            ends: false,
-            next,
-        };
-    }
     if tag == 2 {
         return inverse_turn(shape, cursor.body(file), offset, next, text, at);
     }
@@ -189,7 +182,7 @@ fn turn(file: &[u8], cursor: Cursor, text: &mut [u8], at: usize) -> Done
     }
     Done {
         at,
-        ends: true,
+        ends: tag == 0,
         next,
     }
 }

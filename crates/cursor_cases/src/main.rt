@@ -1,4 +1,4 @@
-// Drives the reader from any cursor: standard input holds a cursor, its place in eight bytes and its shape in five times four,
+// Drives the reader from any cursor: standard input holds a cursor, its place in eight bytes and its shape in seven times four,
 // and then a file. Prints a new cursor, the step's number and tag and its next cursor, and the body. `tests/cursor` holds it to
 // the independent model.
 use block_file::cursor::Cursor;
@@ -38,17 +38,19 @@ fn word(bytes: &[u8], from: usize) -> u32
 }
 
 fn cursor_of(bytes: &[u8]) -> Cursor
-    requires { ⌜ 28 ≤ length (now bytes) ⌝ }
+    requires { ⌜ 36 ≤ length (now bytes) ⌝ }
 {
     let high = word(bytes, 0) as usize;
     let low = word(bytes, 4) as usize;
-    let shape = Shape::new(
-        word(bytes, 8),
-        word(bytes, 12),
-        word(bytes, 16),
-        word(bytes, 20),
-        word(bytes, 24),
-    );
+    let shape = Shape {
+        width: word(bytes, 8),
+        height: word(bytes, 12),
+        horizontal: word(bytes, 16),
+        vertical: word(bytes, 20),
+        depth: word(bytes, 24),
+        columns: word(bytes, 28),
+        rows: word(bytes, 32),
+    };
     Cursor {
         at: high * 4294967296 + low,
         shape,
@@ -68,6 +70,8 @@ fn print_cursor(cursor: Cursor) {
     print_number(shape.horizontal as u64);
     print_number(shape.vertical as u64);
     print_number(shape.depth as u64);
+    print_number(shape.columns as u64);
+    print_number(shape.rows as u64);
     io::write_all(STDOUT_FILENO, b"\n");
 }
 
@@ -83,9 +87,9 @@ fn print_step(cursor: Cursor, file: &[u8]) {
 fn main() {
     let mut input = input_buffer();
     let count = io::read_full(libc::STDIN_FILENO, &mut input);
-    if count < 28 {
+    if count < 36 {
         return;
     }
     let given = &input[..count];
-    print_step(cursor_of(given), &given[28..]);
+    print_step(cursor_of(given), &given[36..]);
 }

@@ -1,5 +1,5 @@
-// The library for C and Rust: each public function of `transform`, `step_run`, `step_lists` and `picture` under the name and with the
-// arguments that include/hoengtila.h declares. A wrapper is one call and has the contract of what it calls; none has a `requires`, so
+// The library for C and Rust: each public function of `transform`, `step_run`, `step_lists` and `picture`, and the one that makes a
+// shape, under the name and with the arguments that include/hoengtila.h declares. A wrapper is one call and has the contract of what it calls; none has a `requires`, so
 // whatever numbers and lengths a caller hands over, the contract says what comes back. Read it beside the header.
 use meaning::Answer;
 use meaning::Shape;
@@ -11,6 +11,7 @@ ghost use mathlib.Core.Path.{_≡_};
 ghost use mathlib.Core.List.{List};
 ghost use Prim.Native.Nat.{ℕ};
 ghost use lib.IntN.{ℤ};
+ghost use Rattle.meaning.specs.Shape.{shapeOf};
 ghost use Rattle.meaning.specs.Answer.{Outcome, forwardLineOutcome, inverseLineOutcome};
 ghost use Rattle.meaning.specs.Inverse.{inverseOutcome};
 ghost use Rattle.meaning.specs.Forward.{forwardOutcome};
@@ -19,6 +20,19 @@ ghost use Rattle.steps.specs.Numbers.{listOf};
 ghost use Rattle.steps.specs.Outcome.{Result, runOutcome};
 ghost use Rattle.picture.specs.Outcomes.{writeOutcome, readOutcome};
 ghost use Rattle.step_lists.specs.Listed.{Handed, listOutcome, lineOutcome};
+
+#[no_mangle]
+pub extern "C" fn hoengtila_shape_of(
+    width: u32,
+    height: u32,
+    horizontal: u32,
+    vertical: u32,
+    depth: u32,
+) -> Shape
+    ensures { λ r. ⌜ r ≡ shapeOf width height horizontal vertical depth ⌝ }
+{
+    Shape::new(width, height, horizontal, vertical, depth)
+}
 
 #[no_mangle]
 pub extern "C" fn hoengtila_weight(kind: u32, n: u32, i: u32, j: u32) -> i32

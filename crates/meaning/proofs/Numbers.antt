@@ -13,7 +13,7 @@ use Rattle.meaning.specs.declared.Shape.{Shape}
 use Rattle.meaning.specs.declared.Answer.{Answer}
 use Rattle.meaning.specs.Weights.{first, fold, S, C, cosines, turn, dct2, weight}
 use Rattle.meaning.specs.Line.{forwardSum, inverseSum, forwardLine}
-use Rattle.meaning.specs.Shape.{isSize, isKind, isDepth, most, keeps, shapeOf}
+use Rattle.meaning.specs.Shape.{isSize, isKind, isDepth, most, keeps, shapeOf, keeping}
 use Rattle.meaning.specs.Plan.{shortRange}
 use Rattle.meaning.specs.Answer.{Outcome, refused, accepted, forwardLineOutcome}
 use Rattle.meaning.specs.Inverse.{columnSum, rounded, middleAt, rails, rowSum, residual, inverseBlock, inverseOutcome}
@@ -131,6 +131,14 @@ items =
     ∷ inverseRefused (mixed 2 0 32 32 10) (alone 1024 1008 (pos 1)) 1024 8 1008
     ∷ inverseRefused (mixed 3 0 4 4 10) (all 16 (pos 0)) 16 3 0
     ∷ inverseRefused (mixed 0 3 4 4 10) (all 16 (pos 0)) 16 4 0
+    -- the kept part of the shape: 8 by it, and 20 at either end, after 5 and before 6
+    ∷ takes (keeping (sized 4 4 10) 3 4) (alone 16 2 (pos 1))
+    ∷ inverseRefused (keeping (sized 4 4 10) 3 4) (alone 16 3 (pos 1)) 16 8 3
+    ∷ inverseRefused (keeping (sized 4 4 10) 4 3) (alone 16 12 (pos 1)) 16 8 12
+    ∷ inverseRefused (keeping (sized 4 4 10) 0 4) (all 16 (pos 0)) 16 20 0
+    ∷ inverseRefused (keeping (sized 32 4 10) 17 4) (all 128 (pos 0)) 128 20 0
+    ∷ inverseRefused (keeping (sized 4 4 13) 4 5) (all 16 (pos 0)) 16 5 0
+    ∷ inverseRefused (keeping (sized 4 4 10) 4 5) (all 15 (pos 0)) 15 20 0
     ∷ []
 
 -- what a list of items says, all of it
@@ -144,4 +152,4 @@ unfolding sum sumℕ tabulate block firstAt first fold S C cosines turn dct2 wei
 items-hold =
     refl and refl and refl and refl and refl and refl and refl and refl and refl and refl and refl and refl and refl
     and refl and refl and refl and refl and refl and refl and refl and refl and refl and refl and refl and refl and refl
-    and refl and refl and refl and refl and refl and refl and refl and refl and none
+    and refl and refl and refl and refl and refl and refl and refl and refl and refl and refl and refl and refl and refl and refl and refl and none

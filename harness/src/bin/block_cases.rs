@@ -62,24 +62,27 @@ fn filled(width: i64, [columns, rows]: [i64; 2], turns: [i64; 2]) -> Vec<i64> {
     (0..ROOM).map(number).collect()
 }
 
-/// Width, height, both kinds, depth.
-type Sides = [i64; 5];
+/// Width, height, both kinds, depth, kept columns and rows.
+type Numbers = [i64; 7];
+
+fn shape_of([width, height, horizontal, vertical, depth, columns, rows]: Numbers) -> Shape {
+    Shape::new(width, height, horizontal, vertical, depth).keeping(columns, rows)
+}
 
 /// Calls on the first `input` numbers of the block, with `output` marks for the output, and prints the line.
 fn line(
     direction: Direction,
-    sides: Sides,
+    numbers: Numbers,
     what: &str,
     block: &[i64],
     [input, output]: [usize; 2],
 ) {
-    let [width, height, horizontal, vertical, depth] = sides;
-    let shape = Shape::new(width, height, horizontal, vertical, depth);
+    let shape = shape_of(numbers);
     let before: Vec<i64> = (0..output).map(|k| MARKS[k % 2]).collect();
     let mut after = before.clone();
     let answer = direction.run(&shape, &block[..input], &mut after);
-    let name = direction.name();
-    print!("{what}: {name} {width} {height} {horizontal} {vertical} {depth}");
+    print!("{what}: {}", direction.name());
+    numbers.iter().for_each(|n| print!(" {n}"));
     print!(" {input} {output}");
     print!(" {} {} {}", answer.number, answer.place, answer.rails);
     let changed = (0..output).filter(|&k| before[k] != after[k]).count();
@@ -99,80 +102,99 @@ fn print_numbers(numbers: &[i64]) {
 
 /// A call of a block of which at most two numbers are not 0: its shape, the lengths of input and output, and the
 /// places of the first number and of the second, which is the one that stands where both are the same.
-type Row = (Sides, [usize; 2], [usize; 2]);
+type Row = (Numbers, [usize; 2], [usize; 2]);
 
-const ITEM_7: &[Row] = &[([4, 4, 1, 1, 10], [16, 16], [4, 8])];
+const ITEM_7: &[Row] = &[([4, 4, 1, 1, 10, 4, 4], [16, 16], [4, 8])];
 
-const ITEM_8: &[Row] = &[([4, 4, 1, 1, 10], [16, 16], [0, 1])];
+const ITEM_8: &[Row] = &[([4, 4, 1, 1, 10, 4, 4], [16, 16], [0, 1])];
 
-const ITEM_9: &[Row] = &[([32, 4, 1, 1, 8], [128, 128], [15, 16])];
+const ITEM_9: &[Row] = &[([32, 4, 1, 1, 8, 16, 4], [128, 128], [15, 16])];
 
-const ITEM_10: &[Row] = &[([5, 4, 0, 0, 7], [20, 20], [0, 0])];
+const ITEM_10: &[Row] = &[([5, 4, 0, 0, 7, 5, 4], [20, 20], [0, 0])];
 
 /// A first coefficient alone, of kind 0 twice.
-const FLAT: &[Row] = &[([4, 4, 0, 0, 10], [16, 16], [0, 1])];
+const FLAT: &[Row] = &[([4, 4, 0, 0, 10, 4, 4], [16, 16], [0, 1])];
 
-/// 1 to 7: one thing is wrong in each.
+/// 1 to 5, 20, 6 and 7: one thing is wrong in each.
 const ALONE: &[Row] = &[
-    ([5, 4, 1, 1, 8], [20, 20], [0, 0]),
-    ([0, 4, 1, 1, 8], [0, 0], [0, 0]),
-    ([4294967295, 4, 1, 1, 8], [16, 16], [0, 0]),
-    ([4, 2, 1, 1, 8], [8, 8], [0, 0]),
-    ([4, 64, 1, 1, 8], [256, 256], [0, 0]),
-    ([4, 4, 4, 1, 8], [16, 16], [0, 0]),
-    ([4, 4, 3, 1, 8], [16, 16], [0, 0]),
-    ([4, 4, 1, 4, 8], [16, 16], [0, 0]),
-    ([4, 4, 1, 3, 8], [16, 16], [0, 0]),
-    ([4, 4, 1, 1, 7], [16, 16], [0, 0]),
-    ([4, 4, 1, 1, 13], [16, 16], [0, 0]),
-    ([4, 4, 1, 1, 8], [15, 16], [0, 0]),
-    ([4, 4, 1, 1, 8], [17, 16], [0, 0]),
-    ([4, 4, 1, 1, 8], [16, 15], [0, 0]),
-    ([4, 4, 1, 1, 8], [16, 17], [0, 0]),
+    ([5, 4, 1, 1, 8, 5, 4], [20, 20], [0, 0]),
+    ([0, 4, 1, 1, 8, 0, 4], [0, 0], [0, 0]),
+    ([4294967295, 4, 1, 1, 8, 16, 4], [16, 16], [0, 0]),
+    ([4, 2, 1, 1, 8, 4, 2], [8, 8], [0, 0]),
+    ([4, 64, 1, 1, 8, 4, 16], [256, 256], [0, 0]),
+    ([4, 4, 4, 1, 8, 4, 4], [16, 16], [0, 0]),
+    ([4, 4, 3, 1, 8, 4, 4], [16, 16], [0, 0]),
+    ([4, 4, 1, 4, 8, 4, 4], [16, 16], [0, 0]),
+    ([4, 4, 1, 3, 8, 4, 4], [16, 16], [0, 0]),
+    ([4, 4, 1, 1, 7, 4, 4], [16, 16], [0, 0]),
+    ([4, 4, 1, 1, 13, 4, 4], [16, 16], [0, 0]),
+    ([4, 4, 1, 1, 8, 0, 4], [16, 16], [0, 0]),
+    ([4, 4, 1, 1, 8, 4, 0], [16, 16], [0, 0]),
+    ([4, 4, 1, 1, 8, 5, 4], [16, 16], [0, 0]),
+    ([4, 4, 1, 1, 8, 4, 5], [16, 16], [0, 0]),
+    ([4, 4, 1, 1, 8, 4294967295, 4], [16, 16], [0, 0]),
+    ([32, 4, 1, 1, 8, 17, 4], [128, 128], [0, 0]),
+    ([4, 32, 1, 2, 8, 4, 17], [128, 128], [0, 0]),
+    ([32, 8, 0, 1, 8, 33, 8], [256, 256], [0, 0]),
+    ([8, 32, 0, 0, 8, 8, 33], [256, 256], [0, 0]),
+    ([4, 4, 1, 1, 8, 4, 4], [15, 16], [0, 0]),
+    ([4, 4, 1, 1, 8, 4, 4], [17, 16], [0, 0]),
+    ([4, 4, 1, 1, 8, 4, 4], [16, 15], [0, 0]),
+    ([4, 4, 1, 1, 8, 4, 4], [16, 17], [0, 0]),
 ];
 
 /// Everything is wrong, then all but the width, and so on.
 const ORDER: &[Row] = &[
-    ([5, 5, 4, 3, 13], [17, 18], [16, 16]),
-    ([32, 5, 4, 3, 13], [17, 18], [16, 16]),
-    ([32, 4, 4, 3, 13], [17, 18], [16, 16]),
-    ([32, 4, 1, 3, 13], [17, 18], [16, 16]),
-    ([32, 4, 1, 2, 13], [17, 18], [16, 16]),
-    ([32, 4, 1, 2, 12], [17, 18], [16, 16]),
-    ([32, 4, 1, 2, 12], [128, 18], [16, 16]),
-    ([32, 4, 1, 2, 12], [128, 128], [16, 16]),
+    ([5, 5, 4, 3, 13, 17, 0], [17, 18], [16, 16]),
+    ([32, 5, 4, 3, 13, 17, 0], [17, 18], [16, 16]),
+    ([32, 4, 4, 3, 13, 17, 0], [17, 18], [16, 16]),
+    ([32, 4, 1, 3, 13, 17, 0], [17, 18], [16, 16]),
+    ([32, 4, 1, 2, 13, 17, 0], [17, 18], [16, 16]),
+    ([32, 4, 1, 2, 12, 17, 0], [17, 18], [16, 16]),
+    ([32, 4, 1, 2, 12, 16, 4], [17, 18], [16, 16]),
+    ([32, 4, 1, 2, 12, 16, 4], [128, 18], [16, 16]),
+    ([32, 4, 1, 2, 12, 16, 4], [128, 128], [16, 16]),
 ];
 
 /// The places of 8.
 const OUTSIDE: &[Row] = &[
-    ([32, 4, 2, 1, 9], [128, 128], [31, 31]),
-    ([32, 4, 2, 1, 9], [128, 128], [117, 50]),
-    ([32, 4, 2, 1, 9], [128, 128], [111, 0]),
-    ([8, 32, 2, 1, 9], [256, 256], [128, 128]),
-    ([8, 32, 2, 1, 9], [256, 256], [255, 130]),
-    ([8, 32, 2, 1, 9], [256, 256], [127, 0]),
-    ([32, 32, 1, 2, 10], [1024, 1024], [512, 496]),
-    ([32, 32, 1, 2, 10], [1024, 1024], [1023, 495]),
-    ([32, 32, 1, 2, 10], [1024, 1024], [495, 0]),
-    ([32, 32, 0, 2, 10], [1024, 1024], [1023, 512]),
-    ([32, 32, 0, 2, 10], [1024, 1024], [511, 0]),
-    ([32, 32, 1, 0, 10], [1024, 1024], [1008, 31]),
-    ([32, 32, 1, 0, 10], [1024, 1024], [1007, 0]),
-    ([32, 32, 0, 0, 10], [1024, 1024], [1023, 512]),
+    ([32, 4, 2, 1, 9, 16, 4], [128, 128], [31, 31]),
+    ([32, 4, 2, 1, 9, 16, 4], [128, 128], [117, 50]),
+    ([32, 4, 2, 1, 9, 16, 4], [128, 128], [111, 0]),
+    ([8, 32, 2, 1, 9, 8, 16], [256, 256], [128, 128]),
+    ([8, 32, 2, 1, 9, 8, 16], [256, 256], [255, 130]),
+    ([8, 32, 2, 1, 9, 8, 16], [256, 256], [127, 0]),
+    ([32, 32, 1, 2, 10, 16, 16], [1024, 1024], [512, 496]),
+    ([32, 32, 1, 2, 10, 16, 16], [1024, 1024], [1023, 495]),
+    ([32, 32, 1, 2, 10, 16, 16], [1024, 1024], [495, 0]),
+    ([32, 32, 0, 2, 10, 32, 16], [1024, 1024], [1023, 512]),
+    ([32, 32, 0, 2, 10, 32, 16], [1024, 1024], [511, 0]),
+    ([32, 32, 1, 0, 10, 16, 32], [1024, 1024], [1008, 31]),
+    ([32, 32, 1, 0, 10, 16, 32], [1024, 1024], [1007, 0]),
+    ([32, 32, 0, 0, 10, 32, 32], [1024, 1024], [1023, 512]),
+    ([8, 8, 1, 2, 9, 3, 5], [64, 64], [3, 3]),
+    ([8, 8, 1, 2, 9, 3, 5], [64, 64], [63, 40]),
+    ([8, 8, 1, 2, 9, 3, 5], [64, 64], [34, 0]),
+    ([32, 32, 1, 2, 10, 4, 16], [1024, 1024], [4, 4]),
+    ([32, 32, 1, 2, 10, 4, 16], [1024, 1024], [483, 0]),
+    ([32, 32, 0, 0, 10, 31, 1], [1024, 1024], [32, 31]),
+    ([32, 32, 0, 0, 10, 1, 31], [1024, 1024], [960, 0]),
+    ([16, 4, 2, 0, 8, 1, 1], [64, 64], [16, 1]),
+    ([16, 4, 2, 0, 8, 1, 1], [64, 64], [0, 0]),
 ];
 
 /// The places of 9.
-const SMALL: &[Row] = &[([4, 8, 1, 2, 8], [32, 32], [30, 7])];
+const SMALL: &[Row] = &[([4, 8, 1, 2, 8, 4, 8], [32, 32], [30, 7])];
 
-const LARGE: &[Row] = &[([32, 32, 2, 2, 12], [1024, 1024], [1023, 1000])];
+const LARGE: &[Row] = &[([32, 32, 2, 2, 12, 16, 16], [1024, 1024], [1023, 1000])];
 
 fn rows(direction: Direction, number: i64, other: i64, table: &[Row]) {
-    for &(sides, lengths, [place, next]) in table {
+    for &(numbers, lengths, [place, next]) in table {
         let mut block = vec![0; ROOM];
         block[place] = number;
         block[next] = other;
         let what = format!("at {place} {number} {next} {other}");
-        line(direction, sides, &what, &block, lengths);
+        line(direction, numbers, &what, &block, lengths);
     }
 }
 
@@ -208,12 +230,11 @@ fn too_large() {
 }
 
 /// All high, all low, and by turns, in every place that counts.
-fn blocks(direction: Direction, sides: Sides, [low, high]: [i64; 2]) {
-    let [w, h, x, y, depth] = sides;
+fn blocks(direction: Direction, numbers: Numbers, [low, high]: [i64; 2]) {
+    let [w, h, .., columns, rows] = numbers;
     let area = (w * h) as usize;
-    let shape = Shape::new(w, h, x, y, depth);
     let counts = match direction {
-        Inverse => [shape.kept_columns(), shape.kept_rows()],
+        Inverse => [columns, rows],
         Forward => [w, h],
     };
     let every = [
@@ -223,15 +244,18 @@ fn blocks(direction: Direction, sides: Sides, [low, high]: [i64; 2]) {
     ];
     for (what, turns) in every {
         let block = filled(w, counts, turns);
-        line(direction, sides, what, &block, [area, area]);
+        line(direction, numbers, what, &block, [area, area]);
     }
 }
 
-/// Every width, height and pair of kinds.
-fn shapes(direction: Direction, depth: i64, ends: [i64; 2]) {
+/// Every width, height and pair of kinds, with so many columns and rows less than the most, but never none.
+fn shapes(direction: Direction, depth: i64, ends: [i64; 2], less: [i64; 2]) {
     for [w, h] in SIDES.into_iter().flat_map(|w| SIDES.map(|h| [w, h])) {
         for [x, y] in PAIRS {
-            blocks(direction, [w, h, x, y, depth], ends);
+            let most = Shape::new(w, h, x, y, depth);
+            let columns = (most.columns - less[0]).max(1);
+            let rows = (most.rows - less[1]).max(1);
+            blocks(direction, [w, h, x, y, depth, columns, rows], ends);
         }
     }
 }
@@ -299,14 +323,15 @@ fn main() {
     refusals(Forward);
     too_large();
     let ends = [-32768, 32767];
-    blocks(Inverse, [4, 4, 1, 1, 10], ends);
-    for depth in [8, 12] {
-        shapes(Inverse, depth, ends);
+    blocks(Inverse, [4, 4, 1, 1, 10, 4, 4], ends);
+    for (depth, less) in [(8, [0, 0]), (12, [0, 0]), (10, [1, 3]), (9, [12, 0])] {
+        shapes(Inverse, depth, ends, less);
     }
-    blocks(Forward, [4, 4, 1, 1, 8], [-256, 256]);
-    for depth in 8..=12 {
+    blocks(Forward, [4, 4, 1, 1, 8, 4, 4], [-256, 256]);
+    let all = (8..=12).map(|depth| (depth, [0, 0]));
+    for (depth, less) in all.chain([(10, [3, 1]), (12, [0, 12])]) {
         let largest = (1 << depth) - 1;
-        shapes(Forward, depth, [-largest, largest]);
+        shapes(Forward, depth, [-largest, largest], less);
     }
     all_by_value();
 }

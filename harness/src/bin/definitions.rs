@@ -7,7 +7,7 @@ use hoengtila_harness::model::block::middle;
 use hoengtila_harness::model::weights::weight;
 use hoengtila_harness::model::{self, Answer, Shape};
 use hoengtila_harness::random::{seed, Random, SEED_VARIABLE};
-use hoengtila_harness::wrong::{Wrong, NO_DEPTH, NO_KIND, NO_SIZE};
+use hoengtila_harness::wrong::{Wrong, NO_DEPTH, NO_KIND, NO_SIZE, ORDER};
 
 const SIZES: [i64; 4] = [4, 8, 16, 32];
 const KINDS: [i64; 3] = [0, 1, 2];
@@ -21,9 +21,9 @@ use lib.IntN.{ℤ, pos, negsuc}
 use Rattle.algebra.specs.Sum.{sum, sumℕ}
 use Rattle.algebra.specs.Lists.{tabulate, block}
 use Rattle.algebra.specs.First.{firstAt}
-use Rattle.meaning.specs.Weights.{first, fold, S, C, weight}
+use Rattle.meaning.specs.Weights.{first, fold, S, C, cosines, turn, D, weight}
 use Rattle.meaning.specs.Line.{forwardSum, inverseSum, forwardLine, inverseLine}
-use Rattle.meaning.specs.Shape.{isSize, isKind, isDepth, keptColumns, keptRows}
+use Rattle.meaning.specs.Shape.{isSize, isKind, isDepth, most, keeps}
 use Rattle.meaning.specs.Plan.{shortRange}
 use Rattle.meaning.specs.Answer.{forwardLineOutcome, inverseLineOutcome}
 use Rattle.meaning.specs.Inverse.{columnSum, middle, middleAt, rails, rowSum, residual, inverseBlock, inverseOutcome}
@@ -31,11 +31,12 @@ use Rattle.meaning.specs.Forward.{rowValue, columnValue, coefficient, forwardBl
 ";
 
 /// The definitions that the checker opens only where a proof names them.
-const WEIGHTS: &str = "first fold S C weight tabulate block";
+const WEIGHTS: &str = "first fold S C cosines turn D weight tabulate block";
 const MIDDLE: &str = "shortRange";
-const LINE: &str = "first fold S C weight sum tabulate isSize isKind \
+const LINE: &str = "first fold S C cosines turn D weight sum tabulate isSize isKind \
     forwardSum inverseSum forwardLine inverseLine";
-const BLOCK: &str = "first fold S C weight sum sumℕ tabulate block firstAt isSize isKind isDepth keptColumns keptRows \
+const BLOCK: &str =
+    "first fold S C cosines turn D weight sum sumℕ tabulate block firstAt isSize isKind isDepth most keeps \
     shortRange forwardSum inverseSum columnSum middleAt rails rowSum residual inverseBlock \
     rowValue columnValue coefficient forwardBlock";
 
@@ -56,8 +57,14 @@ fn list(numbers: &[i64]) -> String {
 
 fn shape_term(shape: &Shape) -> String {
     format!(
-        "(record {{ width = {}; height = {}; horizontal = {}; vertical = {}; depth = {} }})",
-        shape.width, shape.height, shape.horizontal, shape.vertical, shape.depth
+        "(record {{ width = {}; height = {}; horizontal = {}; vertical = {}; depth = {}; columns = {}; rows = {} }})",
+        shape.width,
+        shape.height,
+        shape.horizontal,
+        shape.vertical,
+        shape.depth,
+        shape.columns,
+        shape.rows
     )
 }
 
@@ -77,8 +84,8 @@ struct Theorems {
     text: String,
     count: usize,
     random: Random,
-    /// how many cases have each number, 0 to 9, and how many have a rail count above 0
-    met: [usize; 10],
+    /// how many cases have each number, and how many have a rail count above 0
+    met: [usize; 21],
     railed: usize,
 }
 
@@ -88,7 +95,7 @@ impl Theorems {
             text: String::new(),
             count: 0,
             random: Random::new(seed),
-            met: [0; 10],
+            met: [0; 21],
             railed: 0,
         }
     }
@@ -118,11 +125,12 @@ impl Theorems {
 
     /// How often each refusal was met. An answer that no case has would be compared by nothing.
     fn met_line(&self) -> String {
-        assert!(self.met.iter().all(|count| *count > 0) && self.railed > 0);
-        let counts = self.met[1..].iter().map(|count| format!(" {count}"));
-        let counts: String = counts.collect();
+        assert!(self.met[0] > 0 && self.railed > 0);
+        assert!(ORDER.iter().all(|number| self.met[*number] > 0));
+        let counts = ORDER.map(|number| format!(" {}", self.met[number]));
+        let counts: String = counts.concat();
         format!(
-            "-- refused with 1 to 9:{counts}; rail count above 0: {}",
+            "-- refused with {ORDER:?}:{counts}; rail count above 0: {}",
             self.railed
         )
     }
@@ -216,10 +224,14 @@ fn held(random: &mut Random, count: usize) -> Vec<i64> {
     random.numbers(count, -99, 99)
 }
 
-/// The k-th shape of its sides: kinds and depths take turns.
+/// The k-th shape of its sides: kinds and depths take turns, and every other one keeps less than it can.
 fn shape_in_turn(k: usize, width: i64, height: i64) -> Shape {
     let k = k as i64;
-    Shape::new(width, height, k % 3, k / 3 % 3, 8 + k % 5)
+    let most = Shape::new(width, height, k % 3, k / 3 % 3, 8 + k % 5);
+    if k % 2 == 0 {
+        return most;
+    }
+    most.keeping(1 + k * 5 % most.columns, 1 + k * 3 % most.rows)
 }
 
 /// Zero in every place that is not kept.
@@ -257,17 +269,19 @@ fn refused_line(t: &mut Theorems, direction: Direction, number: usize) {
 fn refused_block(t: &mut Theorems, direction: Direction, number: usize) {
     let random = &mut t.random;
     let wrong = Wrong::first(random, number);
-    // 8 needs a side with places outside the kept part
+    // 8 needs a side with places outside the kept part, unless less is kept
     let width = wrong.pick(random, 1, &[if number == 8 { 32 } else { 8 }, 4], &NO_SIZE);
     let tall = number == 8 && width < 32;
     let height = wrong.pick(random, 2, &[if tall { 32 } else { 4 }], &NO_SIZE);
-    let shape = Shape::new(
+    let most = Shape::new(
         width,
         height,
         wrong.pick(random, 3, &KINDS, &NO_KIND),
         wrong.pick(random, 4, &KINDS, &NO_KIND),
         wrong.pick(random, 5, &[8, 9, 10, 11, 12], &NO_DEPTH),
     );
+    let [columns, rows] = wrong.kept(random, [most.columns, most.rows]);
+    let shape = most.keeping(columns, rows);
     let area = if width.max(height) <= 64 {
         shape.area().max(1)
     } else {
@@ -292,8 +306,7 @@ fn lone_bad_number(t: &mut Theorems, direction: Direction, shape: &Shape) {
         Inverse => {
             clear_outside(shape, &mut input);
             let outside = |&p: &usize| {
-                p as i64 % shape.width >= shape.kept_columns()
-                    || p as i64 / shape.width >= shape.kept_rows()
+                p as i64 % shape.width >= shape.columns || p as i64 / shape.width >= shape.rows
             };
             let places: Vec<usize> = (0..area).filter(outside).collect();
             t.random.choose(&places)
@@ -403,12 +416,13 @@ fn refused_blocks(t: &mut Theorems, direction: Direction) {
         Forward => 9,
         Inverse => 8,
     };
-    for number in (1..=7).chain([hunt]) {
+    for number in [1, 2, 3, 4, 5, 20, 6, 7, hunt] {
         for _ in 0..3 {
             refused_block(t, direction, number);
         }
     }
-    for (k, (width, height)) in [(32, 4), (4, 32), (32, 8)].into_iter().enumerate() {
+    // each has places outside its kept part: the first keeps the most, the others less
+    for (k, width, height) in [(4, 32, 4), (1, 32, 4), (3, 4, 32), (5, 32, 8)] {
         lone_bad_number(t, direction, &shape_in_turn(k, width, height));
     }
 }

@@ -9,10 +9,11 @@ use std::path::Path;
 use std::{env, fs, io};
 
 /// The cases that the examples show.
-const EXAMPLES: [&str; 5] = [
+const EXAMPLES: [&str; 6] = [
     "whole_case",
     "both_directions",
     "shape_replaced",
+    "kept_part",
     "refused_after_lines",
     "waves",
 ];

@@ -39,7 +39,7 @@ pub fn forward(shape: &Shape, residuals: &[i64], coefficients: &mut [i64]) -> An
     Answer::accepted(0)
 }
 
-/// 1 to 7, then the hunt's number with its place. The hunt runs only where 1 to 7 do not apply.
+/// The shape's, 6 and 7, then the hunt's number with its place. The hunt runs only where those do not apply.
 fn refusal(
     shape: &Shape,
     input: usize,
@@ -65,7 +65,7 @@ fn column_and_row(shape: &Shape, place: usize) -> (i64, i64) {
 }
 
 fn is_kept(shape: &Shape, x: i64, y: i64) -> bool {
-    x < shape.kept_columns() && y < shape.kept_rows()
+    x < shape.columns && y < shape.rows
 }
 
 /// 8: "a non-zero coefficient outside the kept part; place of the first, row by row".
@@ -110,12 +110,12 @@ fn clipped(m: i64) -> i64 {
 /// line over its kept rows, giving h sums e."
 fn unclipped(shape: &Shape, coefficients: &[i64]) -> Vec<Vec<i64>> {
     let column = |x: i64| {
-        let kept = (0..shape.kept_rows()).map(|y| coefficients[(x + y * shape.width) as usize]);
+        let kept = (0..shape.rows).map(|y| coefficients[(x + y * shape.width) as usize]);
         let kept: Vec<i64> = kept.collect();
         let sums = inverse_sums(shape.vertical, shape.height as usize, &kept);
         sums.into_iter().map(rounded).collect()
     };
-    (0..shape.kept_columns()).map(column).collect()
+    (0..shape.columns).map(column).collect()
 }
 
 /// "how many middle values of kept columns, over all h rows": document 02, Wish 2, "only where the clip altered it".
@@ -174,12 +174,19 @@ mod tests {
     use crate::random::{self, Random};
 
     fn random_shape(random: &mut Random) -> Shape {
-        Shape::new(
+        let most = Shape::new(
             random.choose(&[4, 8, 16, 32]),
             random.choose(&[4, 8, 16, 32]),
             random.between(0, 2),
             random.between(0, 2),
             random.between(8, 12),
+        );
+        if random.once_in(2) {
+            return most;
+        }
+        most.keeping(
+            random.between(1, most.columns),
+            random.between(1, most.rows),
         )
     }
 
@@ -235,6 +242,70 @@ mod tests {
             let answer = inverse(&shape, &[0; 3], &mut [0; 3]);
             assert_eq!(answer, Answer::refused(k as i64 + 1, 0));
             numbers[k] = right[k];
+        }
+    }
+
+    /// "20 for kept numbers out of range, after 5", and before 6.
+    #[test]
+    fn kept_numbers_out_of_range() {
+        let number = |shape: Shape| inverse(&shape, &[0; 3], &mut [0; 3]).number;
+        for (kinds, most) in [([1, 2], [16, 16]), ([0, 1], [32, 16]), ([2, 0], [16, 32])] {
+            let shape = Shape::new(32, 32, kinds[0], kinds[1], 10);
+            assert_eq!([shape.columns, shape.rows], most);
+            for [columns, rows] in [[1, 1], most, [most[0], 1], [1, most[1]]] {
+                assert_eq!(number(shape.keeping(columns, rows)), 6);
+            }
+            for [columns, rows] in [[0, 1], [1, 0], [most[0] + 1, 1], [1, most[1] + 1]] {
+                assert_eq!(number(shape.keeping(columns, rows)), 20);
+            }
+        }
+        assert_eq!(number(Shape::new(8, 4, 1, 1, 8).keeping(9, 4)), 20);
+        assert_eq!(number(Shape::new(8, 4, 1, 1, 8).keeping(8, 5)), 20);
+        assert_eq!(number(Shape::new(8, 4, 1, 1, 13).keeping(0, 0)), 5);
+    }
+
+    /// What is dropped is what a block that keeps less does not see: its inverse is that of the rest, its forward has zeros
+    /// there, and 8 and the rail count follow.
+    #[test]
+    fn less_kept_is_the_rest_of_more() {
+        let mut random = random::seeded();
+        for _ in 0..30 {
+            let less = random_shape(&mut random);
+            let most = Shape::new(
+                less.width,
+                less.height,
+                less.horizontal,
+                less.vertical,
+                less.depth,
+            );
+            let area = less.area() as usize;
+            let inside = |place: usize| {
+                let (x, y) = column_and_row(&less, place);
+                is_kept(&less, x, y)
+            };
+            let coefficients: Vec<i64> = (0..area)
+                .map(|place| i64::from(inside(place)) * random.between(-32768, 32767))
+                .collect();
+            let (mut one, mut other) = (vec![0; area], vec![0; area]);
+            let answer = inverse(&less, &coefficients, &mut one);
+            let rails = answer.rails;
+            assert_eq!(inverse(&most, &coefficients, &mut other).rails, rails);
+            assert_eq!((answer, &one), (Answer::accepted(rails), &other));
+            if let Some(place) = (0..area).find(|&place| !inside(place)) {
+                let mut outside = coefficients.clone();
+                outside[place] = 1;
+                let refused = Answer::refused(8, place as i64);
+                assert_eq!(inverse(&less, &outside, &mut one), refused);
+            }
+
+            let largest = (1 << less.depth) - 1;
+            let residuals = random.numbers(area, -largest, largest);
+            forward(&less, &residuals, &mut one);
+            forward(&most, &residuals, &mut other);
+            let rest: Vec<i64> = (0..area)
+                .map(|place| i64::from(inside(place)) * other[place])
+                .collect();
+            assert_eq!(one, rest);
         }
     }
 }

@@ -8,9 +8,12 @@ pub struct Shape {
     pub horizontal: i64,
     pub vertical: i64,
     pub depth: i64,
+    pub columns: i64,
+    pub rows: i64,
 }
 
 impl Shape {
+    /// "Kept columns are the first min(w,16), kept rows the first min(h,16)": what is kept where nobody says otherwise.
     pub fn new(width: i64, height: i64, horizontal: i64, vertical: i64, depth: i64) -> Shape {
         Shape {
             width,
@@ -18,6 +21,17 @@ impl Shape {
             horizontal,
             vertical,
             depth,
+            columns: most(horizontal, width),
+            rows: most(vertical, height),
+        }
+    }
+
+    /// The same with other kept numbers.
+    pub fn keeping(self, columns: i64, rows: i64) -> Shape {
+        Shape {
+            columns,
+            rows,
+            ..self
         }
     }
 
@@ -26,17 +40,13 @@ impl Shape {
         self.width * self.height
     }
 
-    /// "Kept columns are the first min(w,16)".
-    pub fn kept_columns(&self) -> i64 {
-        kept(self.horizontal, self.width)
+    /// "at least 1 and at most what document 01 keeps, or at most what Wish 1 keeps for kind 0"
+    fn keeps(&self) -> bool {
+        (1..=most(self.horizontal, self.width)).contains(&self.columns)
+            && (1..=most(self.vertical, self.height)).contains(&self.rows)
     }
 
-    /// "kept rows the first min(h,16)".
-    pub fn kept_rows(&self) -> i64 {
-        kept(self.vertical, self.height)
-    }
-
-    /// 1 to 5, the first that applies.
+    /// 1 to 5, then 20: the first that applies.
     pub fn refusal(&self) -> Option<Answer> {
         first_refusal(&[
             (1, !is_size(self.width)),
@@ -44,6 +54,7 @@ impl Shape {
             (3, !is_kind(self.horizontal)),
             (4, !is_kind(self.vertical)),
             (5, !is_depth(self.depth)),
+            (20, !self.keeps()),
         ])
     }
 }
@@ -91,13 +102,9 @@ pub fn is_kind(kind: i64) -> bool {
     kind == 0 || kind == 1 || kind == 2
 }
 
-/// 16 at most, but "All 32 columns or rows are kept in a direction of kind 0".
-pub fn kept(kind: i64, n: i64) -> i64 {
-    if kind == 0 {
-        n
-    } else {
-        n.min(16)
-    }
+/// What can be kept in a direction: 16 at most, but "All 32 columns or rows are kept in a direction of kind 0".
+pub fn most(kind: i64, n: i64) -> i64 {
+    n.min(if kind == 0 { 32 } else { 16 })
 }
 
 pub fn is_depth(d: i64) -> bool {

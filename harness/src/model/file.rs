@@ -6,6 +6,8 @@ use super::call::{Answer, Shape};
 pub const TAG_SHAPE: u8 = 1;
 pub const TAG_COEFFICIENTS: u8 = 2;
 pub const TAG_RESIDUALS: u8 = 3;
+/// Wish 8: "a new tag 04, length 2"
+pub const TAG_KEPT: u8 = 4;
 
 /// 14 is for a file above this many bytes.
 pub const LARGEST_FILE: usize = 65_536;
@@ -69,7 +71,7 @@ impl Cursor {
         }
     }
 
-    /// "a held shape that 1 to 5 would refuse counts as none"
+    /// "a held shape that 1 to 5 would refuse counts as none", and 20 "counts with 1 to 5"
     fn held(self) -> Option<Shape> {
         self.shape.filter(|shape| shape.refusal().is_none())
     }
@@ -77,10 +79,11 @@ impl Cursor {
     /// The field at the place and the shape that holds after it, or the number of its refusal.
     fn field(self, file: &[u8]) -> Result<(Field<'_>, Option<Shape>), i64> {
         let field = self.read(&file[self.at..])?;
-        if field.tag != TAG_SHAPE {
-            return Ok((field, self.shape));
-        }
-        let shape = shape_of(field.body);
+        let shape = match (field.tag, self.shape) {
+            (TAG_SHAPE, _) => shape_of(field.body),
+            (TAG_KEPT, Some(held)) => held.keeping(field.body[0].into(), field.body[1].into()),
+            (_, held) => return Ok((field, held)),
+        };
         match shape.refusal() {
             Some(refusal) => Err(refusal.number),
             None => Ok((field, Some(shape))),
@@ -96,6 +99,8 @@ impl Cursor {
         match *tag {
             TAG_SHAPE if length != 5 => return Err(12),
             TAG_SHAPE => (),
+            TAG_KEPT if length != 2 => return Err(12),
+            TAG_KEPT => drop(self.held().ok_or(13)?),
             TAG_COEFFICIENTS | TAG_RESIDUALS => {
                 let shape = self.held().ok_or(13)?;
                 if length as i64 != 2 * shape.area() {
@@ -256,6 +261,45 @@ mod tests {
     }
 
     #[test]
+    fn refusals_of_kept_numbers() {
+        let first: [(&[u8], &str); 5] = [
+            (&[4], "R 10 0\n"),
+            (&[4, 0, 3], "R 12 0\n"),
+            (&[4, 1, 2, 1, 1], "R 12 0\n"),
+            (&[4, 0, 2], "R 13 0\n"),
+            (&[4, 0, 2, 1, 1], "R 13 0\n"),
+        ];
+        for (file, text) in first {
+            assert_eq!(run_file(file), text, "{file:?}");
+        }
+        let after_shape: [(&[u8], &str); 6] = [
+            (&[4, 0, 5, 0], "R 12 8\n"),
+            (&[4, 0, 2, 0], "R 10 8\n"),
+            (&[4, 0, 2, 0, 1], "R 20 8\n"),
+            (&[4, 0, 2, 5, 1], "R 20 8\n"),
+            (&[4, 0, 2, 4, 5], "R 20 8\n"),
+            (&[4, 0, 2, 1, 1, 4, 0, 2, 4, 4], ""),
+        ];
+        for (field, text) in after_shape {
+            assert_eq!(run_file(&[&SHAPE, field].concat()), text, "{field:?}");
+        }
+    }
+
+    /// "holds until the next tag 01 or 04"
+    #[test]
+    fn kept_numbers_hold_until_the_next_field_that_gives_some() {
+        let mut outside = data(2, 0);
+        outside[3 + 2 * 5 + 1] = 64; // column 1, row 1
+        let after = |fields: &[&[u8]]| run_file(&[&[&SHAPE[..]], fields].concat().concat());
+        assert_eq!(after(&[&[4, 0, 2, 1, 4], &outside]), "R 8 13\n");
+        assert_eq!(after(&[&[4, 0, 2, 4, 1], &outside]), "R 8 13\n");
+        let text = after(&[&[4, 0, 2, 1, 1], &[4, 0, 2, 2, 2], &outside]);
+        assert!(text.starts_with("I 4 4 0 "), "{text}");
+        assert_eq!(after(&[&[4, 0, 2, 1, 1], &SHAPE, &outside]), text);
+        assert_eq!(after(&[&outside]), text);
+    }
+
+    #[test]
     fn the_largest_file_is_read_and_a_larger_one_refused() {
         let mut file = vec![0; LARGEST_FILE + 1];
         assert_eq!(run_file(&file), "R 14 0\n");
@@ -290,15 +334,14 @@ mod tests {
             &[0; LARGEST_FILE + 1],
             14,
         );
-        let refused = Some(Shape::new(4, 4, 1, 3, 8));
-        stays(
-            Cursor {
-                at: 0,
-                shape: refused,
-            },
-            &data(2, 0),
-            13,
-        );
+        let four = Shape::new(4, 4, 1, 1, 8);
+        for refused in [Shape::new(4, 4, 1, 3, 8), four.keeping(4, 0)] {
+            let shape = Some(refused);
+            stays(Cursor { at: 0, shape }, &data(2, 0), 13);
+            stays(Cursor { at: 0, shape }, &[4, 0, 2, 1, 1], 13);
+        }
+        let shape = Some(four);
+        stays(Cursor { at: 0, shape }, &[4, 0, 2, 1, 5], 20);
     }
 
     #[test]

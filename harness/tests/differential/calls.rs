@@ -1,8 +1,8 @@
 //! Calls with random numbers in their outputs, and the shapes that they are made of.
 
-use hoengtila_harness::call::{Call, Path, What};
+use hoengtila_harness::call::{most_kept, Call, Path, What};
 use hoengtila_harness::library::Shape;
-use hoengtila_harness::patterns::{residual_ends, Ends, SIXTEEN_BITS};
+use hoengtila_harness::patterns::{keeping_any, residual_ends, Ends, SIXTEEN_BITS};
 use hoengtila_harness::random::Random;
 
 pub const SIZES: [u32; 4] = [4, 8, 16, 32];
@@ -84,32 +84,30 @@ pub fn area(shape: &Shape) -> usize {
     (shape.width * shape.height) as usize
 }
 
-/// Every shape of these sides.
+/// Every shape of these sides that keeps the most.
 fn shapes_of_sides(width: u32, height: u32) -> Vec<Shape> {
     let mut shapes = vec![];
     for horizontal in KINDS {
         for vertical in KINDS {
-            shapes.extend((8..=12).map(|depth| Shape {
-                width,
-                height,
-                horizontal,
-                vertical,
-                depth,
-            }));
+            let shape = |depth| most_kept([width, height, horizontal, vertical, depth]);
+            shapes.extend((8..=12).map(shape));
         }
     }
     shapes
 }
 
-/// All 720 shapes.
+/// All 720 shapes that keep the most.
 pub fn shapes() -> Vec<Shape> {
     let of_width = |w| SIZES.iter().flat_map(move |h| shapes_of_sides(w, *h));
     SIZES.into_iter().flat_map(of_width).collect()
 }
 
-/// One shape for each pair of sides: kinds and depths take turns.
-pub fn shapes_in_turn() -> Vec<Shape> {
+/// One shape for each pair of sides, and one that keeps any part: kinds and depths take turns.
+pub fn shapes_in_turn(random: &mut Random) -> Vec<Shape> {
     let sides = SIZES.iter().flat_map(|w| SIZES.map(|h| (*w, h)));
-    let shape = |(k, (w, h))| shapes_of_sides(w, h)[7 * k % 45];
-    sides.enumerate().map(shape).collect()
+    let shape = |(k, (w, h))| {
+        let most = shapes_of_sides(w, h)[7 * k % 45];
+        [most, keeping_any(random, &most)]
+    };
+    sides.enumerate().flat_map(shape).collect()
 }

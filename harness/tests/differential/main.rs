@@ -9,5 +9,6 @@ mod calls;
 mod lines;
 mod numbers;
 mod refusals;
+mod shapes;
 mod steps;
 mod weights;

@@ -1,17 +1,11 @@
 //! "Numbers on both sides": what the scope itself says that calls give, in its own numbers and not the model's.
 
-use hoengtila_harness::call::{Call, Outcome, Path, What};
+use hoengtila_harness::call::{most_kept, Call, Outcome, Path, What};
 use hoengtila_harness::compare::Comparison;
 use hoengtila_harness::library::{Answer, Shape};
 
 fn shape(width: u32, height: u32, depth: u32) -> Shape {
-    Shape {
-        width,
-        height,
-        horizontal: 1,
-        vertical: 1,
-        depth,
-    }
+    most_kept([width, height, 1, 1, depth])
 }
 
 /// What the library makes of a call whose output holds sevens.
@@ -61,7 +55,11 @@ fn numbers_on_both_sides() {
     ] {
         for path in [Path::Forward, Path::ForwardProduct] {
             let line = What::Line { path, n: 4, kind };
-            assert_eq!(run(c, line, &[1; 4]).output, sums, "items 1 and 2, and kind 0");
+            assert_eq!(
+                run(c, line, &[1; 4]).output,
+                sums,
+                "items 1 and 2, and kind 0"
+            );
         }
     }
 
@@ -98,13 +96,7 @@ fn numbers_on_both_sides() {
     assert_eq!(outside, refused(8, 16, 128), "item 9");
 
     let halves = |width, height, horizontal, vertical| {
-        What::Inverse(Shape {
-            width,
-            height,
-            horizontal,
-            vertical,
-            depth: 10,
-        })
+        What::Inverse(most_kept([width, height, horizontal, vertical, 10]))
     };
     let flat = run(c, halves(4, 4, 0, 0), &zeros_but(16, &[(0, 64)]));
     assert_eq!(flat.output, [2; 16], "kind 0 twice");
@@ -121,6 +113,26 @@ fn numbers_on_both_sides() {
             assert_eq!(outcome.answer.number, 0, "kinds {kinds:?}");
         } else {
             assert_eq!(outcome, refused(8, place as u32, 1024), "kinds {kinds:?}");
+        }
+    }
+
+    for (kept, place, number) in [
+        ([15, 4], 14, 0),
+        ([15, 4], 15, 8),
+        ([16, 1], 32, 8),
+        ([1, 1], 0, 0),
+        ([17, 4], 0, 20),
+        ([16, 5], 0, 20),
+        ([0, 4], 0, 20),
+        ([16, 0], 0, 20),
+    ] {
+        let keeping = What::Inverse(shape(32, 4, 8).keeping(kept[0], kept[1]));
+        let found = run(c, keeping, &zeros_but(128, &[(place, 1)]));
+        if number == 0 {
+            assert_eq!(found.answer.number, 0, "kept {kept:?}");
+        } else {
+            let place = if number == 8 { place as u32 } else { 0 };
+            assert_eq!(found, refused(number, place, 128), "kept {kept:?}");
         }
     }
 

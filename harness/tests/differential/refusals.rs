@@ -2,20 +2,20 @@
 
 use crate::calls::Direction::{self, Forward, Inverse};
 use crate::calls::{area, block_call, line_call, shapes_in_turn, DIRECTIONS, KINDS, SIZES};
-use hoengtila_harness::call::{Call, PATHS};
+use hoengtila_harness::call::{most_kept, Call, PATHS};
 use hoengtila_harness::compare::Comparison;
 use hoengtila_harness::library::Shape;
 use hoengtila_harness::patterns::{block, clear_outside, is_kept, LAYOUTS};
 use hoengtila_harness::random::Random;
-use hoengtila_harness::wrong::{Wrong, NO_DEPTH, NO_KIND, NO_SIZE};
+use hoengtila_harness::wrong::{Wrong, NO_DEPTH, NO_KIND, NO_SIZE, ORDER};
 
 /// Every set of the tests that a line can meet.
 #[test]
 fn refused_lines() {
     let mut c = Comparison::open("lines, refused for every set of reasons");
-    for (bits, path) in (0..128).flat_map(|bits| PATHS.map(|path| (bits, path))) {
-        for _ in 0..5 {
-            let wrong = Wrong::among(bits);
+    for (bits, path) in (0..16).flat_map(|bits| PATHS.map(|path| (bits, path))) {
+        for _ in 0..40 {
+            let wrong = Wrong::among(&[1, 3, 6, 7], bits);
             let random = &mut c.random;
             let n = wrong.pick(random, 1, &[4, 8, 16, 32], &NO_SIZE);
             let kind = wrong.pick(random, 3, &[0, 1, 2], &NO_KIND);
@@ -37,23 +37,27 @@ fn refused_blocks() {
     let mut c = Comparison::open("blocks, refused for every set of reasons");
     for (bits, direction) in (0..512).flat_map(|bits| DIRECTIONS.map(|d| (bits, d))) {
         for _ in 0..5 {
-            let call = call_with(&mut c.random, direction, &Wrong::among(bits));
+            let tests = [1, 2, 3, 4, 5, 20, 6, 7, direction.hunt()];
+            let call = call_with(&mut c.random, direction, &Wrong::among(&tests, bits));
             c.add(call);
         }
     }
     let c = c.close();
-    assert!(c.met.iter().all(|count| *count > 0));
+    assert!(c.met[0] > 0 && ORDER.iter().all(|number| c.met[*number] > 0));
 }
 
 fn call_with(random: &mut Random, direction: Direction, wrong: &Wrong) -> Call {
     let sizes = SIZES.map(i64::from);
-    let shape = Shape {
-        width: wrong.pick(random, 1, &sizes, &NO_SIZE) as u32,
-        height: wrong.pick(random, 2, &sizes, &NO_SIZE) as u32,
-        horizontal: wrong.pick(random, 3, &[0, 1, 2], &NO_KIND) as u32,
-        vertical: wrong.pick(random, 4, &[0, 1, 2], &NO_KIND) as u32,
-        depth: wrong.pick(random, 5, &[8, 9, 10, 11, 12], &NO_DEPTH) as u32,
-    };
+    let numbers = [
+        wrong.pick(random, 1, &sizes, &NO_SIZE),
+        wrong.pick(random, 2, &sizes, &NO_SIZE),
+        wrong.pick(random, 3, &[0, 1, 2], &NO_KIND),
+        wrong.pick(random, 4, &[0, 1, 2], &NO_KIND),
+        wrong.pick(random, 5, &[8, 9, 10, 11, 12], &NO_DEPTH),
+    ];
+    let most = most_kept(numbers.map(|n| n as u32));
+    let kept = wrong.kept(random, [most.columns.into(), most.rows.into()]);
+    let shape = most.keeping(kept[0] as u32, kept[1] as u32);
     // a length that the sides ask for, where the peer has room for twice as many numbers
     let right = match u64::from(shape.width) * u64::from(shape.height) {
         area @ 1..=2048 => area as i64,
@@ -84,7 +88,7 @@ fn spoil(random: &mut Random, direction: Direction, shape: &Shape, numbers: &mut
 #[test]
 fn one_bad_number_at_each_place() {
     let mut c = Comparison::open("blocks with one bad number, at each place");
-    for (shape, direction) in shapes_in_turn()
+    for (shape, direction) in shapes_in_turn(&mut c.random)
         .iter()
         .flat_map(|s| DIRECTIONS.map(|d| (s, d)))
     {
@@ -130,7 +134,7 @@ fn lengths_of_lines() {
 #[test]
 fn lengths_of_blocks() {
     let mut c = Comparison::open("blocks of every length, 0 to one too many");
-    for (shape, direction) in shapes_in_turn()
+    for (shape, direction) in shapes_in_turn(&mut c.random)
         .iter()
         .flat_map(|s| DIRECTIONS.map(|d| (s, d)))
     {

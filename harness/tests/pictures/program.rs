@@ -22,8 +22,9 @@ fn wanted(file: &[u8], n: usize) -> (Vec<u8>, String) {
             return (vec![], "there is no such block\n".to_string());
         }
         let tag = file[cursor.at];
-        met += usize::from(tag != 1);
-        if tag != 1 && met == n {
+        let is_data = tag == 2 || tag == 3;
+        met += usize::from(is_data);
+        if is_data && met == n {
             let shape = cursor.shape.expect("data follows a shape");
             let mut residuals = numbers_of(step.body);
             if tag == 2 {
@@ -63,18 +64,25 @@ fn found(command_line: &str, file: &[u8], count: &str) -> (Vec<u8>, String) {
     (output.stdout, said)
 }
 
-/// A shape and some blocks of it: small numbers, or ones whose residuals no picture can hold, some outside the kept part.
+/// A shape and some blocks of it, now and then behind other kept numbers: small numbers, or ones whose residuals no picture
+/// can hold, some outside the kept part.
 fn group(random: &mut Random) -> Vec<u8> {
     let (w, h) = (random.choose(&[4, 8, 16, 32]), random.choose(&[4, 8, 32]));
     let kind = |random: &mut Random| random.choose(&[1, 2]);
     let mut bytes = vec![1, 0, 5, w, h, kind(random), kind(random)];
     bytes.push(random.choose(&[8, 10, 12]));
+    let mut kept = [w, h].map(|n: u8| n.min(16));
     for _ in 0..random.between(0, 3) {
+        if random.once_in(3) {
+            kept = [w, h].map(|n: u8| random.between(1, n.min(16).into()) as u8);
+            bytes.extend([4, 0, 2, kept[0], kept[1]]);
+        }
         let count = usize::from(w) * usize::from(h);
         let high = random.choose(&[3, 255, 32767]);
         let number = |k: usize, random: &mut Random| {
-            let kept = k % usize::from(w) < 16 && k / usize::from(w) < 16;
-            if kept || random.once_in(900) {
+            let (x, y) = (k % usize::from(w), k / usize::from(w));
+            let inside = x < usize::from(kept[0]) && y < usize::from(kept[1]);
+            if inside || random.once_in(900) {
                 random.between(-high, high) as i16
             } else {
                 0

@@ -1,46 +1,91 @@
 //! Whole and damaged files on standard input, held to the model.
 
 use crate::command::check;
-use hoengtila_harness::files::{data, shape, stored};
+use hoengtila_harness::files::{data, kept, shape, stored};
+use hoengtila_harness::model::call::most;
 use hoengtila_harness::model::file::{LARGEST_FILE, TAG_COEFFICIENTS, TAG_RESIDUALS};
 use hoengtila_harness::random::{self, Random};
 
 const FILES: usize = 200;
 const SIZES: [u8; 4] = [4, 8, 16, 32];
 
-/// A block's numbers, in range more often than not, its outside 0 for an inverse but once in a while.
-fn numbers(random: &mut Random, tag: u8, sides: [i64; 2], depth: u8) -> Vec<i16> {
-    let most = if tag == TAG_RESIDUALS {
-        (1 << depth) - 1
-    } else {
-        32767
-    };
-    let high = random.choose(&[0, 3, most, most]);
-    let number = |k: i64| {
-        let kept = tag == TAG_RESIDUALS || (k % sides[0] < 16 && k / sides[0] < 16);
-        if kept || random.once_in(4000) {
-            random.between(-high, high) as i16
-        } else {
-            0
+/// What the blocks of a file are made for: sides, kinds, depth and kept numbers that all are allowed.
+#[derive(Clone, Copy)]
+struct Group {
+    sides: [u8; 2],
+    kinds: [u8; 2],
+    depth: u8,
+    kept: [u8; 2],
+}
+
+impl Group {
+    /// One that keeps the most.
+    fn new(sides: [u8; 2], kinds: [u8; 2], depth: u8) -> Group {
+        let most = |k: usize| most(kinds[k].into(), sides[k].into()) as u8;
+        Group {
+            sides,
+            kinds,
+            depth,
+            kept: [most(0), most(1)],
         }
-    };
-    (0..sides[0] * sides[1]).map(number).collect()
+    }
+
+    fn shape(&self) -> Vec<u8> {
+        shape(
+            self.sides[0],
+            self.sides[1],
+            self.kinds[0],
+            self.kinds[1],
+            self.depth,
+        )
+    }
+
+    fn is_kept(&self, place: usize) -> bool {
+        let width = usize::from(self.sides[0]);
+        let [columns, rows] = self.kept.map(usize::from);
+        place % width < columns && place / width < rows
+    }
+
+    /// Any kept numbers that are allowed, with the field that gives them.
+    fn keep_any(&mut self, random: &mut Random) -> Vec<u8> {
+        let most = Group::new(self.sides, self.kinds, self.depth).kept;
+        self.kept = most.map(|most| random.between(1, most.into()) as u8);
+        kept(self.kept[0], self.kept[1])
+    }
+
+    /// A block's numbers, in range more often than not, its outside 0 for an inverse but once in a while.
+    fn numbers(&self, random: &mut Random, tag: u8) -> Vec<i16> {
+        let most = if tag == TAG_RESIDUALS {
+            (1 << self.depth) - 1
+        } else {
+            32767
+        };
+        let high = random.choose(&[0, 3, most, most]);
+        let number = |place: usize| {
+            if tag == TAG_RESIDUALS || self.is_kept(place) || random.once_in(4000) {
+                random.between(-high, high) as i16
+            } else {
+                0
+            }
+        };
+        let area = usize::from(self.sides[0]) * usize::from(self.sides[1]);
+        (0..area).map(number).collect()
+    }
 }
 
-fn block(random: &mut Random, tag: u8, sides: [u8; 2], depth: u8) -> Vec<u8> {
-    let numbers = numbers(random, tag, sides.map(i64::from), depth);
-    data(tag, &numbers)
-}
-
-/// A shape and a few blocks of it.
+/// A shape and a few blocks of it, now and then after other kept numbers.
 fn group(random: &mut Random) -> Vec<u8> {
     let sides = [random.choose(&[4, 4, 8, 16]), random.choose(&[4, 4, 8, 32])];
-    let depth = random.between(8, 12) as u8;
-    let kinds = [random.between(1, 2) as u8, random.between(1, 2) as u8];
-    let mut bytes = shape(sides[0], sides[1], kinds[0], kinds[1], depth);
-    for _ in 0..random.between(0, 3) {
-        let tag = random.choose(&[TAG_COEFFICIENTS, TAG_RESIDUALS]);
-        bytes.extend(block(random, tag, sides, depth));
+    let kinds = [random.between(0, 2) as u8, random.between(0, 2) as u8];
+    let mut group = Group::new(sides, kinds, random.between(8, 12) as u8);
+    let mut bytes = group.shape();
+    for _ in 0..random.between(0, 4) {
+        if random.once_in(3) {
+            bytes.extend(group.keep_any(random));
+        } else {
+            let tag = random.choose(&[TAG_COEFFICIENTS, TAG_RESIDUALS]);
+            bytes.extend(data(tag, &group.numbers(random, tag)));
+        }
     }
     bytes
 }
@@ -69,31 +114,39 @@ fn random_files() {
     }
 }
 
-/// A file for each pair of kinds and each depth: every width and height, both directions.
+/// A file for each pair of kinds and each depth: every width and height, both directions, all that can be kept and less.
 #[test]
 fn every_shape() {
     let mut random = random::seeded();
-    for depth in 8..=12 {
-        for kinds in [[1, 1], [1, 2], [2, 1], [2, 2]] {
-            let mut file = vec![];
-            for sides in SIZES.into_iter().flat_map(|w| SIZES.map(|h| [w, h])) {
-                file.extend(shape(sides[0], sides[1], kinds[0], kinds[1], depth));
+    let pairs = [0, 1, 2]
+        .into_iter()
+        .flat_map(|x| [0, 1, 2].map(|y| [x, y]));
+    for (depth, kinds) in (8..=12).flat_map(|d| pairs.clone().map(move |kinds| (d, kinds))) {
+        let mut files = [vec![], vec![]];
+        for sides in SIZES.into_iter().flat_map(|w| SIZES.map(|h| [w, h])) {
+            let mut group = Group::new(sides, kinds, depth);
+            for (k, file) in files.iter_mut().enumerate() {
+                file.extend(group.shape());
+                if k == 1 {
+                    file.extend(group.keep_any(&mut random));
+                }
                 for tag in [TAG_COEFFICIENTS, TAG_RESIDUALS] {
-                    let mut numbers = numbers(&mut random, tag, sides.map(i64::from), depth);
-                    clear_outside(&mut numbers, tag, sides);
+                    let mut numbers = group.numbers(&mut random, tag);
+                    clear_outside(&mut numbers, tag, &group);
                     file.extend(data(tag, &numbers));
                 }
             }
+        }
+        for file in files {
             check(&file, &format!("kinds {kinds:?}, depth {depth}"));
         }
     }
 }
 
 /// So that 8 does not end the run.
-fn clear_outside(numbers: &mut [i16], tag: u8, sides: [u8; 2]) {
-    let width = usize::from(sides[0]);
-    for (k, number) in numbers.iter_mut().enumerate() {
-        if tag == TAG_COEFFICIENTS && (k % width >= 16 || k / width >= 16) {
+fn clear_outside(numbers: &mut [i16], tag: u8, group: &Group) {
+    for (place, number) in numbers.iter_mut().enumerate() {
+        if tag == TAG_COEFFICIENTS && !group.is_kept(place) {
             *number = 0;
         }
     }

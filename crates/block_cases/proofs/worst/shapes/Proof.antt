@@ -5,10 +5,10 @@ use Rattle.block_cases.proofs.worst.shapes.Statement.{statement}
 use Rattle.block_cases.proofs.worst.shapes.Tie as tie
 
 abbrev Inv-loop : tie.InvT-loop
-Inv-loop is-forward depth high low k₀ k = k ≤ 144
+Inv-loop is-forward depth high low columns rows k₀ k = k ≤ 144
 
 abbrev μ-loop : tie.MeasureT-loop
-μ-loop is-forward depth high low k₀ k = 144 - k
+μ-loop is-forward depth high low columns rows k₀ k = 144 - k
 
 loop-holds : tie.Need-loop-holds Inv-loop μ-loop
 loop-holds c = search needs
@@ -21,6 +21,9 @@ shl-new-2 c = search needs
 
 new-requires : tie.Need-new-requires Inv-loop μ-loop
 new-requires c κs = search needs
+
+less-requires : tie.Need-less-requires Inv-loop μ-loop
+less-requires c κs = search needs
 
 add-blocks : tie.Need-add-blocks Inv-loop μ-loop
 add-blocks c = search needs
@@ -56,6 +59,7 @@ shapes-spec =
     shl-new
     shl-new-2
     new-requires
+    less-requires
     add-blocks
     cast-blocks
     shl-blocks

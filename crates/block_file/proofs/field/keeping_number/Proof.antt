@@ -19,11 +19,11 @@ refusal-requires c κs = search needs
 
 returns-2 : tie.Need-returns-2
 unfolding headerNumber
-returns-2 c = simp (eq-eqb _ _ (c .before .before .if1 .left), ne-eqb _ _ (λ p. c .if2 .taken (known (c .before) ∙ p)))
+returns-2 c = simp (eq-eqb _ _ (c .before .before .if1 .left), eq-eqb _ _ (sym (known (c .before)) ∙ c .if2 .taken))
 
 returns-3 : tie.Need-returns-3
 unfolding headerNumber
-returns-3 c = simp (eq-eqb _ _ (c .before .before .if1 .left), eq-eqb _ _ (sym (known (c .before)) ∙ c .if2 .left))
+returns-3 c = simp (eq-eqb _ _ (c .before .before .if1 .left), ne-eqb _ _ (λ p. c .if2 .left (known (c .before) ∙ p)))
 
 pub keeping-number-spec : {M : Type 1} → statement M
 keeping-number-spec = tie.close (tie.spec returns refusal-requires returns-2 returns-3)

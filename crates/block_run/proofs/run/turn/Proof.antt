@@ -5,6 +5,7 @@ use mathlib.Core.Bool.{true, false≢true}
 use mathlib.Core.List.{List}
 use Prim.Native.Nat.{ℕ}
 use native.Mathlib.Omega.{arith}
+use borrow.Author.Tests.{eq-eqb}
 use denote.Ref.{now}
 use Rattle.block_file.specs.declared.cursor.Cursor.{Cursor}
 use Rattle.block_file.specs.declared.cursor.Step.{Step}
@@ -16,7 +17,7 @@ use Rattle.block_run.specs.Does.{Fits}
 use Rattle.block_file.proofs.Shapes.{shape-range}
 use Rattle.block_text.proofs.Writing.{nothing}
 use Rattle.block_run.proofs.Turns.{same-turn, at-most}
-use Rattle.block_run.proofs.Steps.{Read, inverse-next, forward-next, no-more, same-bytes, read-shape, read-data, data-follows, turn-refused, turn-shape, turn-inverse, turn-forward, turn-none}
+use Rattle.block_run.proofs.Steps.{Read, inverse-next, forward-next, no-more, same-bytes, read-on, read-data, data-follows, turn-refused, turn-inverse, turn-forward, turn-silent}
 use Rattle.block_run.proofs.run.turn.Statement.{statement}
 use Rattle.block_run.proofs.run.turn.Tie as tie
 
@@ -44,17 +45,6 @@ returns c =
     let d = c .before .before .refused .ensures in
     (at-most (same-turn (turn-refused (now (s .args .file)) (s .args .cursor) (st .result) (st .ensures) (c .before .before .before .before .if1 .taken)) d) (omega arith), no-more d refl)
 
-returns-2 : tie.Need-returns-2
-returns-2 c =
-    let s = c .before .before .before .before .before .before .before in
-    let st = c .before .before .before .before .step in
-    let file = now (s .args .file) in
-    let k = s .args .cursor in
-    let e = st .ensures in
-    let r = read-shape file k (sym (ap (λ (x : Step). x .number) e) ∙ c .before .if1 .left) (sym (ap (λ (x : Step). x .tag) e) ∙ c .if2 .taken) in
-    let n : st .result .next .at ≡ foundAt file k .next .at = ap (λ (x : Step). x .next .at) e in
-    (same-turn (turn-shape file k (st .result) e (c .before .if1 .left) (c .if2 .taken)) (record { wrote = nothing _ _ _; ends = refl; next = refl }), λ h. (omega (arith, n, r .0), omega (arith, n, r .1), omega (arith, n, r .0)))
-
 body-requires : tie.Need-body-requires
 body-requires c κs = search needs
 
@@ -63,20 +53,20 @@ inverse-turn-requires c κs =
     let s = c .before .before .before .before .before .before .before .before .before .before in
     let st = c .before .before .before .before .before .before .before .step in
     let file = now (s .args .file) in
-    let r = held file (s .args .cursor) (st .result) (st .ensures) (c .before .before .before .before .if1 .left) (rw (c .before .before .if3 .taken)) in
+    let r = held file (s .args .cursor) (st .result) (st .ensures) (c .before .before .before .before .if1 .left) (rw (c .before .before .if2 .taken)) in
     (subst (λ (l : List ℕ). Fits (s .args .cursor .shape) l) (sym (bytes (c .before .body .ensures))) (r .0), s .pre .0, s .pre .1)
 
 same-length-2 : tie.Need-same-length-2
 same-length-2 c = search needs
 
-returns-3 : tie.Need-returns-3
-returns-3 c =
+returns-2 : tie.Need-returns-2
+returns-2 c =
     let s = c .before .before .before .before .before .before .before .before .before .before .before .before .before in
     let st = c .before .before .before .before .before .before .before .before .before .before .step in
     let k = s .args .cursor in
     let file = now (s .args .file) in
     let zero = c .before .before .before .before .before .before .before .if1 .left in
-    let tag = c .before .before .before .before .before .if3 .taken in
+    let tag = c .before .before .before .before .before .if2 .taken in
     let r = held file k (st .result) (st .ensures) zero (rw tag) in
     let b = bytes (c .before .before .before .before .body .ensures) in
     let d = same-bytes (λ (l : List ℕ). inverseTurn (k .shape) (numbers l) (k .at) (st .result .next)) _ (bytesOf file k) b (c .before .before .inverse-turn .ensures) in
@@ -91,31 +81,35 @@ forward-turn-requires c κs =
     let s = c .before .before .before .before .before .before .before .before .before .before .before in
     let st = c .before .before .before .before .before .before .before .before .step in
     let file = now (s .args .file) in
-    let r = held file (s .args .cursor) (st .result) (st .ensures) (c .before .before .before .before .before .if1 .left) (rw (c .before .before .if4 .taken)) in
+    let r = held file (s .args .cursor) (st .result) (st .ensures) (c .before .before .before .before .before .if1 .left) (rw (c .before .before .if3 .taken)) in
     (subst (λ (l : List ℕ). Fits (s .args .cursor .shape) l) (sym (bytes (c .before .body2 .ensures))) (r .0), s .pre .0, s .pre .1)
 
 same-length-3 : tie.Need-same-length-3
 same-length-3 c = search needs
 
-returns-4 : tie.Need-returns-4
-returns-4 c =
+returns-3 : tie.Need-returns-3
+returns-3 c =
     let s = c .before .before .before .before .before .before .before .before .before .before .before .before .before .before in
     let st = c .before .before .before .before .before .before .before .before .before .before .before .step in
     let k = s .args .cursor in
     let file = now (s .args .file) in
     let zero = c .before .before .before .before .before .before .before .before .if1 .left in
-    let tag = c .before .before .before .before .before .if4 .taken in
+    let tag = c .before .before .before .before .before .if3 .taken in
     let r = held file k (st .result) (st .ensures) zero (rw tag) in
     let b = bytes (c .before .before .before .before .body2 .ensures) in
     let d = same-bytes (λ (l : List ℕ). forwardTurn (k .shape) (numbers l) (k .at) (st .result .next)) _ (bytesOf file k) b (c .before .before .forward-turn .ensures) in
     let s2 = shape-range (k .shape) (r .0 .held) in
     (at-most (same-turn (turn-forward file k (st .result) (st .ensures) zero tag) d) (omega (arith, r .0 .long, s2 .1)), data-follows file k r d (forward-next (k .shape) (numbers (bytesOf file k)) (k .at) (st .result .next) ∙ ap (λ (x : Step). x .next) (st .ensures)))
 
-returns-5 : tie.Need-returns-5
-returns-5 c =
-    let s = c .before .before .before .before .before .before .before .before .before in
-    let st = c .before .before .before .before .before .before .step in
-    (same-turn (turn-none (now (s .args .file)) (s .args .cursor) (st .result) (st .ensures) (c .before .before .before .if1 .left) (c .before .before .if2 .left) (c .before .if3 .left) (c .if4 .left)) (record { wrote = nothing _ _ _; ends = refl; next = refl }), λ h. absurd (false≢true (sym h)))
+returns-4 : tie.Need-returns-4
+returns-4 c =
+    let s = c .before .before .before .before .before .before .before .before in
+    let st = c .before .before .before .before .before .step in
+    let file = now (s .args .file) in
+    let k = s .args .cursor in
+    let e = st .ensures in
+    let n : st .result .next .at ≡ foundAt file k .next .at = ap (λ (x : Step). x .next .at) e in
+    (same-turn (turn-silent file k (st .result) e (c .before .before .if1 .left) (c .before .if2 .left) (c .if3 .left)) (record { wrote = nothing _ _ _; ends = refl; next = refl }), λ h. let r = read-on file k (λ z. false≢true (sym h ∙ eq-eqb (st .result .tag) 0 (ap (λ (x : Step). x .tag) e ∙ z))) in (omega (arith, n, r .0), omega (arith, n, r .1), omega (arith, n, r .0)))
 
 pub turn-spec : {M : Type 1} → statement M
 turn-spec =
@@ -125,13 +119,12 @@ turn-spec =
     refused-requires
     same-length
     returns
-    returns-2
     body-requires
     inverse-turn-requires
     same-length-2
-    returns-3
+    returns-2
     body-requires-2
     forward-turn-requires
     same-length-3
-    returns-4
-    returns-5)
+    returns-3
+    returns-4)
