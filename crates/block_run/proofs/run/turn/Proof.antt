@@ -50,10 +50,10 @@ body-requires c κs = search needs
 
 inverse-turn-requires : tie.Need-inverse-turn-requires
 inverse-turn-requires c κs =
-    let s = c .before .before .before .before .before .before .before .before .before .before in
-    let st = c .before .before .before .before .before .before .before .step in
+    let s = c .before .before .before .before .before .before .before .before .before in
+    let st = c .before .before .before .before .before .before .step in
     let file = now (s .args .file) in
-    let r = held file (s .args .cursor) (st .result) (st .ensures) (c .before .before .before .before .if1 .left) (rw (c .before .before .if2 .taken)) in
+    let r = held file (s .args .cursor) (st .result) (st .ensures) (c .before .before .before .if1 .left) (rw (c .before .before .if2 .taken)) in
     (subst (λ (l : List ℕ). Fits (s .args .cursor .shape) l) (sym (bytes (c .before .body .ensures))) (r .0), s .pre .0, s .pre .1)
 
 same-length-2 : tie.Need-same-length-2
@@ -61,11 +61,11 @@ same-length-2 c = search needs
 
 returns-2 : tie.Need-returns-2
 returns-2 c =
-    let s = c .before .before .before .before .before .before .before .before .before .before .before .before .before in
-    let st = c .before .before .before .before .before .before .before .before .before .before .step in
+    let s = c .before .before .before .before .before .before .before .before .before .before .before .before in
+    let st = c .before .before .before .before .before .before .before .before .before .step in
     let k = s .args .cursor in
     let file = now (s .args .file) in
-    let zero = c .before .before .before .before .before .before .before .if1 .left in
+    let zero = c .before .before .before .before .before .before .if1 .left in
     let tag = c .before .before .before .before .before .if2 .taken in
     let r = held file k (st .result) (st .ensures) zero (rw tag) in
     let b = bytes (c .before .before .before .before .body .ensures) in
@@ -78,10 +78,10 @@ body-requires-2 c κs = search needs
 
 forward-turn-requires : tie.Need-forward-turn-requires
 forward-turn-requires c κs =
-    let s = c .before .before .before .before .before .before .before .before .before .before .before in
-    let st = c .before .before .before .before .before .before .before .before .step in
+    let s = c .before .before .before .before .before .before .before .before .before .before in
+    let st = c .before .before .before .before .before .before .before .step in
     let file = now (s .args .file) in
-    let r = held file (s .args .cursor) (st .result) (st .ensures) (c .before .before .before .before .before .if1 .left) (rw (c .before .before .if3 .taken)) in
+    let r = held file (s .args .cursor) (st .result) (st .ensures) (c .before .before .before .before .if1 .left) (rw (c .before .before .if3 .taken)) in
     (subst (λ (l : List ℕ). Fits (s .args .cursor .shape) l) (sym (bytes (c .before .body2 .ensures))) (r .0), s .pre .0, s .pre .1)
 
 same-length-3 : tie.Need-same-length-3
@@ -89,11 +89,11 @@ same-length-3 c = search needs
 
 returns-3 : tie.Need-returns-3
 returns-3 c =
-    let s = c .before .before .before .before .before .before .before .before .before .before .before .before .before .before in
-    let st = c .before .before .before .before .before .before .before .before .before .before .before .step in
+    let s = c .before .before .before .before .before .before .before .before .before .before .before .before .before in
+    let st = c .before .before .before .before .before .before .before .before .before .before .step in
     let k = s .args .cursor in
     let file = now (s .args .file) in
-    let zero = c .before .before .before .before .before .before .before .before .if1 .left in
+    let zero = c .before .before .before .before .before .before .before .if1 .left in
     let tag = c .before .before .before .before .before .if3 .taken in
     let r = held file k (st .result) (st .ensures) zero (rw tag) in
     let b = bytes (c .before .before .before .before .body2 .ensures) in
