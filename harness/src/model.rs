@@ -7,6 +7,7 @@ pub mod block;
 pub mod call;
 pub mod file;
 pub mod line;
+pub mod long;
 pub mod picture;
 pub mod small;
 pub mod steps;
@@ -16,6 +17,7 @@ pub use block::{fair_ends, forward, inverse};
 pub use call::{Answer, Shape};
 pub use file::{run_file, Cursor, Step};
 pub use line::{forward_line, inverse_line};
+pub use long::inverse_long;
 pub use picture::{read_picture, write_picture};
 pub use small::{forward_4x4, inverse_4x4, Small};
 
