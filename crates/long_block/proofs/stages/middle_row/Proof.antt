@@ -60,7 +60,7 @@ before-is : (c : tie.After-round7 Inv-loop μ-loop) → let L = c .before .befor
 before-is c = toZ-ofZ w64 (c .round7 .result) (search needs) ∙ c .round7 .ensures ∙ ap (nearest 7) (dot-is (c .before) ∙ c .before .dot .ensures .0)
 
 clipped-requires : tie.Need-clipped-requires Inv-loop μ-loop
-clipped-requires c κs = c .before .before .before .before .pre .0 .far
+clipped-requires c κs = omega (arith, c .before .before .before .before .pre .0 .far)
 
 after-is : (c : tie.After-clipped Inv-loop μ-loop) → let L = c .before .before .before .before in
     toZ w32 (ofZ w32 (c .clipped .result)) ≡ middle (rangeOf (L .before .args .reach)) (e (L .before) (L .loop .x))
