@@ -52,12 +52,12 @@ static void time_case(const bench_case *c, int words, char **word) {
     for (int i = 0; i < IMPLEMENTATIONS; i++) least[i] = 1e18;
     for (int round = 0; round < ROUNDS; round++)
         for (int i = 0; i < implementations_of(c); i++) {
-            if (!c->line && !has_shape(i, c->shape)) continue;
+            if (!c->line && !has_shape(i, c->forward, c->shape)) continue;
             double t = time_of(c, i, calls);
             if (t < least[i]) least[i] = t;
         }
     for (int i = 0; i < implementations_of(c); i++)
-        if (c->line || has_shape(i, c->shape)) printf("ns %s %.1f\n", case_name(c, i, name), least[i]);
+        if (c->line || has_shape(i, c->forward, c->shape)) printf("ns %s %.1f\n", case_name(c, i, name), least[i]);
 }
 
 __attribute__((noinline)) void counted(const bench_case *c, int i) {
@@ -78,7 +78,7 @@ static int mode_of(const char *word) {
 
 static void each(int mode, const bench_case *c, int i, int words, char **word) {
     char name[64];
-    if (!c->line && !has_shape(i, c->shape)) return;
+    if (!c->line && !has_shape(i, c->forward, c->shape)) return;
     if (!wanted(case_name(c, i, name), words, word)) return;
     if (mode == LIST) {
         puts(name);

@@ -9,14 +9,31 @@
 enum { DEPTH = 10 };
 
 static int16_t input[LARGEST];
+static int32_t wide[LARGEST];
 static int16_t coefficients[LARGEST];
 static int32_t sums[LARGEST];
 
 typedef hoengtila_answer line_call(uint32_t n, uint32_t kind, const int16_t *x, size_t x_len, int32_t *y, size_t y_len);
 
-static const char *const block_names[] = {"library", "reference", "triple", "rows", "folded", "butterfly", "halves"};
-static inverse_block *const inverses[] = {0, reference_inverse, triple_inverse, rows_inverse, folded_inverse, butterfly_inverse, halves_inverse};
-static forward_block *const forwards[] = {0, reference_forward, triple_forward, rows_forward, folded_forward, butterfly_forward, halves_forward};
+static void widen(hoengtila_shape s, const int16_t *numbers) {
+    for (uint32_t k = 0; k < s.width * s.height; k++) wide[k] = numbers[k];
+}
+
+static void run_long(hoengtila_shape s, int32_t *residuals) {
+    size_t area = (size_t)s.width * s.height;
+    hoengtila_block_inverse_long(s, 0, wide, area, residuals, area);
+}
+
+/* The library's call of long numbers with the switch off: what it gives is what the other call gives. Where it is timed, its
+ * numbers are there (`run_case`). */
+static void long_inverse(hoengtila_shape s, const int16_t *numbers, int32_t *residuals) {
+    widen(s, numbers);
+    run_long(s, residuals);
+}
+
+static const char *const block_names[] = {"library", "reference", "triple", "rows", "folded", "butterfly", "halves", "long"};
+static inverse_block *const inverses[] = {0, reference_inverse, triple_inverse, rows_inverse, folded_inverse, butterfly_inverse, halves_inverse, long_inverse};
+static forward_block *const forwards[] = {0, reference_forward, triple_forward, rows_forward, folded_forward, butterfly_forward, halves_forward, 0};
 static const char *const line_names[] = {"fast", "product"};
 static line_call *const inverse_lines[] = {hoengtila_line_inverse, hoengtila_line_inverse_product};
 static line_call *const forward_lines[] = {hoengtila_line_forward, hoengtila_line_forward_product};
@@ -81,12 +98,13 @@ static int keeps_the_most(hoengtila_shape s) {
     return s.columns == most.columns && s.rows == most.rows;
 }
 
-/* The library and the reference have every shape; of the others the halves have kind 0 alone, the rest kinds 1 and 2, and all
- * keep the most. */
-int has_shape(int i, hoengtila_shape s) {
+/* The library and the reference have every shape, and the call of long numbers every inverse one; of the others the halves have
+ * kind 0 alone, the rest kinds 1 and 2, and all keep the most. */
+int has_shape(int i, int forward, hoengtila_shape s) {
     if (i < 2) return 1;
+    if (inverses[i] == long_inverse) return !forward;
     if (!keeps_the_most(s)) return 0;
-    return i == IMPLEMENTATIONS - 1 ? s.horizontal == DCT_II && s.vertical == DCT_II : s.horizontal != DCT_II && s.vertical != DCT_II;
+    return inverses[i] == halves_inverse ? s.horizontal == DCT_II && s.vertical == DCT_II : s.horizontal != DCT_II && s.vertical != DCT_II;
 }
 
 const char *case_name(const bench_case *c, int i, char *name) {
@@ -107,6 +125,7 @@ void fill_case(const bench_case *c) {
     uint32_t w = c->shape.width, h = c->shape.height;
     seed_random(1);
     for (uint32_t k = 0; k < w * h; k++) input[k] = filled(c, k % w, k / w) ? other_than_zero(1023) : 0;
+    widen(c->shape, input);
 }
 
 static void run_line(const bench_case *c, int i) {
@@ -124,5 +143,6 @@ void run_case(const bench_case *c, int i) {
     if (c->line) run_line(c, i);
     else if (i == 0) run_library(c);
     else if (c->forward) forwards[i](c->shape, input, coefficients);
+    else if (inverses[i] == long_inverse) run_long(c->shape, sums);
     else inverses[i](c->shape, input, sums);
 }

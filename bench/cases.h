@@ -4,7 +4,7 @@
 
 #include "bench.h"
 
-enum { CASES = 96, IMPLEMENTATIONS = 7 };
+enum { CASES = 96, IMPLEMENTATIONS = 8 };
 
 typedef struct {
     int line; /* a line of width points, by the fast path and by the full product; otherwise a block */
@@ -21,8 +21,8 @@ forward_block *forward_of(int i);
 
 int make_cases(bench_case *cases);
 int implementations_of(const bench_case *c);
-/* whether an implementation has the kinds of a shape, and its kept part */
-int has_shape(int i, hoengtila_shape s);
+/* whether an implementation has a direction, the kinds of a shape, and its kept part */
+int has_shape(int i, int forward, hoengtila_shape s);
 /* "inverse 16x16 dense library": what is run, its size, what it is run on, and who runs it */
 const char *case_name(const bench_case *c, int i, char *name);
 void fill_case(const bench_case *c);

@@ -37,7 +37,7 @@ static int compare_inverse(hoengtila_shape s, int block) {
     fill(s, 32767, 1, block);
     if (hoengtila_block_inverse(s, input, area, output32[0], area).number != 0) return differ(s, "inverse", 0);
     for (int i = 1; i < IMPLEMENTATIONS; i++) {
-        if (!has_shape(i, s)) continue;
+        if (!has_shape(i, 0, s)) continue;
         memset(output32[1], 0x55, sizeof output32[1]);
         inverse_of(i)(s, input, output32[1]);
         if (memcmp(output32[0], output32[1], area * sizeof **output32)) return differ(s, "inverse", i);
@@ -50,7 +50,7 @@ static int compare_forward(hoengtila_shape s, int block) {
     fill(s, (1 << s.depth) - 1, 0, block);
     if (hoengtila_block_forward(s, input, area, output16[0], area).number != 0) return differ(s, "forward", 0);
     for (int i = 1; i < IMPLEMENTATIONS; i++) {
-        if (!has_shape(i, s)) continue;
+        if (!has_shape(i, 1, s)) continue;
         memset(output16[1], 0x55, sizeof output16[1]);
         forward_of(i)(s, input, output16[1]);
         if (memcmp(output16[0], output16[1], area * sizeof **output16)) return differ(s, "forward", i);

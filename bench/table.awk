@@ -25,12 +25,14 @@ function number(m, v) { return m == "ns" ? sprintf("%.1f", v) : v }
 function blocks(m,    k, j, name, library) {
     printf "\n%-22s %10s", m, "library"
     for (j = 1; j <= BASELINES; j++) printf " %10s", baseline[j]
-    printf " %14s %14s\n", "reference/lib.", "lib./best of C"
+    printf " %14s %14s %10s %12s\n", "reference/lib.", "lib./best of C", "long", "long/library"
     for (k = 1; k <= names; k++) if (!line[name = order[k]] && has(m, name, "library")) {
         library = value[m, name, "library"]
         printf "%-22s %10s", name, number(m, library)
         for (j = 1; j <= BASELINES; j++) printf " %10s", has(m, name, baseline[j]) ? number(m, value[m, name, baseline[j]]) : "-"
-        printf " %14s %14s\n", ratio(value[m, name, "reference"], library), ratio(library, best(m, name))
+        printf " %14s %14s", ratio(value[m, name, "reference"], library), ratio(library, best(m, name))
+        if (has(m, name, "long")) printf " %10s %12s", number(m, value[m, name, "long"]), ratio(value[m, name, "long"], library)
+        printf "\n"
     }
 }
 

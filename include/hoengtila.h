@@ -4,19 +4,20 @@
  * length after it says (a length of 0 takes any pointer that is not null), and no output overlaps an input.
  *
  * A call that is turned down hands back one of these numbers, the first that applies; its output holds what it held, its
- * rail count is 0, and its place is 0 but for 8 and 9. An accepted call hands back number 0 and place 0.
+ * rail count is 0, and its place is 0 but for 8, 9 and 27. An accepted call hands back number 0 and place 0.
  *
  *   1  the width, or a line's length, is not 4, 8, 16 or 32
  *   2  the height is not one of those
  *   3  the horizontal kind, or a line's kind, is not 0 (DCT-II), 1 (DST-VII) or 2 (DCT-VIII)
  *   4  the vertical kind is not 0, 1 or 2
- *   5  the depth is outside 8..12
+ *   5  the depth is outside 8..12 (long numbers with the switch on: 8..16)
  *  20  the kept columns or the kept rows are 0, or more than hoengtila_shape_of gives
  *   6  the input's length is not width * height (line: n)
  *   7  the output's length is not width * height (line: n; writing a picture: it is too short)
  *   8  inverse block: a coefficient other than 0 outside the kept part, which is the first `columns` columns and the
  *      first `rows` rows of the shape; place of the first
  *   9  forward block: a residual of size above 2^depth - 1; place of the first
+ *  27  inverse block of long numbers: a coefficient outside the range; place of the first
  *  21  a line whose sums wrap: the order is not each of 0..n-1 once
  *  23  writing a picture: a residual outside -32768..32767
  *  24  reading a picture: the header is not that of such a graymap, or has sizes that 1 or 2 would refuse
@@ -63,8 +64,8 @@ typedef struct {
 
 typedef struct {
     uint32_t number; /* 0, or the number of the refusal */
-    uint32_t place;  /* of the number that 8 or 9 refuses: column + row * width */
-    uint32_t rails;  /* inverse block: values between the stages that the clip to 16 bits altered */
+    uint32_t place;  /* of the number that 8, 9 or 27 refuses: column + row * width */
+    uint32_t rails;  /* inverse block: values between the stages that the clip altered */
 } hoengtila_answer;
 
 typedef struct {
@@ -114,6 +115,12 @@ hoengtila_answer hoengtila_line_inverse_wrapped(uint32_t n, uint32_t kind, uint3
  * takes residuals and gives coefficients, 0 outside the kept part. */
 hoengtila_answer hoengtila_block_inverse(hoengtila_shape shape, const int16_t *coefficients, size_t coefficients_len, int32_t *residuals, size_t residuals_len);
 hoengtila_answer hoengtila_block_forward(hoengtila_shape shape, const int16_t *residuals, size_t residuals_len, int16_t *coefficients, size_t coefficients_len);
+
+/* Long numbers, of H.266's later edition: the inverse with coefficients of 32 bits. `extended` is the extended-precision switch, 0
+ * for off and any other number for on. Coefficients and the values between the stages are -2^R .. 2^R - 1, and the last shift is
+ * 5 + R - depth: with the switch on R is max(15, min(20, depth + 6)), with it off 15. Refusals: 1 to 5, 20, 6, 7, 8, then 27. With
+ * the switch off and numbers of 16 bits it is hoengtila_block_inverse. */
+hoengtila_answer hoengtila_block_inverse_long(hoengtila_shape shape, uint32_t extended, const int32_t *coefficients, size_t coefficients_len, int32_t *residuals, size_t residuals_len);
 
 /* Lists of steps: a run works on numbered cells. The inputs stand in the first cells; each step writes one cell; `outs` names
  * the cells of the outputs. `steps` has four numbers to a step: the operation, the cell that it writes, the cell that it reads,

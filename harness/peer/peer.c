@@ -11,6 +11,7 @@ enum { WEIGHT, LINE_FORWARD, LINE_INVERSE, LINE_FORWARD_PRODUCT, LINE_INVERSE_PR
 enum { STEPS_RUN = 600, STEPS_LIST, STEPS_FORWARD };
 enum { WRAPPED_FORWARD = 900, WRAPPED_INVERSE };
 enum { STRAY = 1300 };
+enum { BLOCK_INVERSE_LONG = 1400 };
 
 /* more numbers than 2,048 steps have */
 enum { MOST_STEPS = 8448 };
@@ -19,6 +20,7 @@ enum { MOST_STEPS = 8448 };
 enum { BEYOND = 0x5A5A };
 static int16_t in16[MOST];
 static uint32_t order32[MOST];
+static int32_t in32[MOST];
 static int16_t out16[MOST + 1];
 static int32_t out32[MOST + 1];
 static int32_t steps32[MOST_STEPS + 1];
@@ -140,6 +142,19 @@ static void block(uint32_t call) {
     }
 }
 
+static void block_inverse_long(void) {
+    hoengtila_shape s = shape();
+    uint32_t extended = number(), in = length(), out = length();
+    hoengtila_answer a;
+    get(in32, sizeof *in32, in);
+    get(out32, sizeof *out32, out);
+    out32[out] = BEYOND;
+    a = hoengtila_block_inverse_long(s, extended, in32, in, out32, out);
+    if (out32[out] != BEYOND) exit(3);
+    put_answer(a);
+    put(out32, sizeof *out32, out);
+}
+
 static uint32_t steps_length(void) {
     uint32_t n = number();
     if (n > MOST_STEPS) exit(2);
@@ -196,6 +211,7 @@ int main(void) {
         else if (call <= BLOCK_FORWARD) block(call);
         else if (call == SHAPE_OF) shape_of();
         else if (call == STRAY) stray();
+        else if (call == BLOCK_INVERSE_LONG) block_inverse_long();
         else if (call == STEPS_RUN) steps_run();
         else if (call == STEPS_LIST) steps_list();
         else if (call == STEPS_FORWARD) steps_forward();

@@ -4,7 +4,7 @@
 //! with no eye to speed.
 //! `random` makes the cases, the same ones for the same seed; `patterns`, `folding` and `wrong` know which are hard, `files`
 //! has block files, and `steps` makes the lists of steps that the crates store.
-//! `library` is the library for Rust callers, `peer` the library behind a pipe; `call`, `step_call` and `subject` let a test
+//! `library` is the library for Rust callers, `peer` the library behind a pipe; `call`, `step_call`, `long_call` and `subject` let a test
 //! run the same calls on either, and `compare` holds what comes back to the model.
 
 pub mod call;
@@ -12,6 +12,7 @@ pub mod compare;
 pub mod files;
 pub mod folding;
 pub mod library;
+pub mod long_call;
 pub mod model;
 pub mod patterns;
 pub mod peer;

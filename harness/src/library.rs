@@ -166,6 +166,14 @@ mod c {
             residuals: *mut i32,
             residuals_len: usize,
         ) -> Answer;
+        pub fn hoengtila_block_inverse_long(
+            shape: Shape,
+            extended: u32,
+            coefficients: *const i32,
+            coefficients_len: usize,
+            residuals: *mut i32,
+            residuals_len: usize,
+        ) -> Answer;
         pub fn hoengtila_block_forward(
             shape: Shape,
             residuals: *const i16,
@@ -324,6 +332,27 @@ pub fn block_inverse(shape: Shape, coefficients: &[i16], residuals: &mut [i32]) 
     unsafe {
         c::hoengtila_block_inverse(
             shape,
+            input.as_ptr(),
+            input.len(),
+            output.as_mut_ptr(),
+            output.len(),
+        )
+    }
+}
+
+/// The residuals of a block of long coefficients; `extended` is the extended-precision switch, off where it is 0.
+#[inline]
+pub fn block_inverse_long(
+    shape: Shape,
+    extended: u32,
+    coefficients: &[i32],
+    residuals: &mut [i32],
+) -> Answer {
+    let (input, output) = (coefficients, residuals);
+    unsafe {
+        c::hoengtila_block_inverse_long(
+            shape,
+            extended,
             input.as_ptr(),
             input.len(),
             output.as_mut_ptr(),

@@ -1,6 +1,7 @@
 //! What a test runs its calls on: the library where the build links it, or a peer that the environment names.
 
 use crate::call::{Call, Outcome};
+use crate::long_call::LongCall;
 use crate::peer::{Peer, PEER_VARIABLE};
 use crate::step_call::{StepCall, StepOutcome};
 
@@ -41,6 +42,15 @@ impl Subject {
             Subject::Linked => calls.iter().map(run_linked).collect(),
             Subject::Peer(peer) => peer.run(calls),
             Subject::Model => calls.iter().map(Call::by_model).collect(),
+        }
+    }
+
+    pub fn run_long(&mut self, call: &LongCall) -> Outcome {
+        match self {
+            #[cfg(hoengtila_linked)]
+            Subject::Linked => call.by_library(),
+            Subject::Peer(peer) => call.through(peer),
+            Subject::Model => call.by_model(),
         }
     }
 

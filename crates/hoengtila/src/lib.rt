@@ -1,7 +1,7 @@
-// The library for C and Rust: each public function of `transform`, `wrapping`, `round_trip`, `step_run`, `step_lists`, `picture` and
-// `salvage`, and the one that makes a shape, under the name and with the arguments that include/hoengtila.h declares. A wrapper is one
-// call and has the contract of what it calls; none has a `requires`, so whatever numbers and lengths a caller hands over, the contract
-// says what comes back. Read it beside the header.
+// The library for C and Rust: each public function of `transform`, `long_block`, `wrapping`, `round_trip`, `step_run`, `step_lists`,
+// `picture` and `salvage`, and the one that makes a shape, under the name and with the arguments that include/hoengtila.h declares. A
+// wrapper is one call and has the contract of what it calls; none has a `requires`, so whatever numbers and lengths a caller hands over,
+// the contract says what comes back. Read it beside the header.
 use meaning::Answer;
 use meaning::Shape;
 use picture::read::Picture;
@@ -10,12 +10,15 @@ use salvage::saving::Saved;
 use step_lists::Listed;
 use steps::Taken;
 ghost use mathlib.Core.Path.{_≡_};
+ghost use mathlib.Core.Bool.{not};
 ghost use mathlib.Core.List.{List};
 ghost use Prim.Native.Nat.{ℕ};
+ghost use lib.Dec.{eqb};
 ghost use lib.IntN.{ℤ};
 ghost use Rattle.meaning.specs.Shape.{shapeOf};
 ghost use Rattle.meaning.specs.Answer.{Outcome, forwardLineOutcome, inverseLineOutcome};
 ghost use Rattle.meaning.specs.Inverse.{inverseOutcome};
+ghost use Rattle.meaning.specs.Long.{longOutcome};
 ghost use Rattle.meaning.specs.Forward.{forwardOutcome};
 ghost use Rattle.transform.specs.Line.{weightOrZero};
 ghost use Rattle.round_trip.specs.RoundTrip.{strayOrZero};
@@ -128,6 +131,18 @@ pub extern "C" fn hoengtila_block_inverse(
     ensures { λ r. ⌜ _≡_ {A = Outcome} (r, now (residuals .exit)) (inverseOutcome shape (now (coefficients .entry)) (now (residuals .entry))) ⌝ }
 {
     transform::block::inverse(shape, coefficients, residuals)
+}
+
+#[no_mangle]
+pub extern "C" fn hoengtila_block_inverse_long(
+    shape: Shape,
+    extended: u32,
+    coefficients: &[i32],
+    residuals: &mut [i32],
+) -> Answer
+    ensures { λ r. ⌜ _≡_ {A = Outcome} (r, now (residuals .exit)) (longOutcome (not (eqb extended 0)) shape (now (coefficients .entry)) (now (residuals .entry))) ⌝ }
+{
+    long_block::inverse(shape, extended != 0, coefficients, residuals)
 }
 
 #[no_mangle]

@@ -1,2 +1,4 @@
 pub mod Looking
 pub mod Zipping
+pub mod Alive
+pub mod Inside

@@ -1,2 +1,3 @@
 pub mod Zip
 pub mod Live
+pub mod Part

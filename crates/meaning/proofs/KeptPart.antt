@@ -8,7 +8,7 @@ use borrow.Author.Tests.{leb-true, le-leb, eq-eqb, ne-eqb}
 use lib.Dec.{eqb, leb}
 use Rattle.meaning.specs.declared.Shape.{Shape}
 use Rattle.meaning.specs.Shape.{most, isKept, keeps, isSize, isKind, shapeOf}
-use Rattle.meaning.specs.Taken.{Taken}
+use Rattle.meaning.specs.Taken.{TakenBy}
 use Rattle.meaning.proofs.Cases.{and-cases, size-cases}
 
 -- either bound
@@ -47,7 +47,7 @@ kept-of kind n k h =
     let high = leb-true k (most kind n) (both .1) in
     record { some = leb-true 1 k (both .0); within = le-trans high (most-in kind n); short = le-trans high (most-32 kind n) }
 
-module _ (sh : Shape) (t : Taken sh) where
+module _ {deep : Bool} (sh : Shape) (t : TakenBy deep sh) where
   both : (isKept (sh .horizontal) (sh .width) (sh .columns) ≡ true) × (isKept (sh .vertical) (sh .height) (sh .rows) ≡ true)
   unfolding keeps
   both = and-cases (isKept (sh .horizontal) (sh .width) (sh .columns)) (isKept (sh .vertical) (sh .height) (sh .rows)) (t .kept)

@@ -5,7 +5,7 @@
 -- 2^d-1: `rowStage-part-fits`, `rowStage-rounding-fits` (y + 2^(p-1)), `rowValue-fits`, `columnStage-part-fits`,
 -- `columnStage-rounding-fits` (y + 2^(q-1)), `coefficient-fits`: "Nothing is clipped, as nothing leaves 16 bits".
 use mathlib.Core.Path.{_≡_, refl, sym, ap, _∙_, subst}
-use mathlib.Core.Bool.{true, _&&_}
+use mathlib.Core.Bool.{Bool, true, _&&_}
 use mathlib.Core.List.{List}
 use Prim.Native.Nat.{ℕ, _+_, _*_, _-_, _^_, _≤_, _<_, zero-le}
 use native.Mathlib.Nat.{le-trans, mul-assoc, mul-sub}
@@ -17,6 +17,7 @@ use lib.Signed.{leZ-yes}
 use mir.Syntax.{w16, w32}
 use mir.Val.{SFits}
 use Rattle.algebra.specs.Sum.{sum}
+use Rattle.algebra.specs.Clip.{Range}
 use Rattle.algebra.specs.Lists.{at}
 use Rattle.algebra.proofs.Order.{within, fits-in, parts-fit, le-parts}
 use Rattle.algebra.proofs.Shift.{rounding-in, nearest-in}
@@ -24,8 +25,8 @@ use Rattle.meaning.specs.declared.Shape.{Shape}
 use Rattle.meaning.specs.Weights.{weight}
 use Rattle.meaning.specs.Line.{forwardSum, inverseSum}
 use Rattle.meaning.specs.Shape.{isSize}
-use Rattle.meaning.specs.Plan.{shortRange, planOf}
-use Rattle.meaning.specs.Taken.{Taken, Sized, NoneAbove}
+use Rattle.meaning.specs.Plan.{shortRange, planBy, planOf}
+use Rattle.meaning.specs.Taken.{TakenBy, Taken, Sized, NoneAbove}
 use Rattle.meaning.specs.Inverse.{columnSum, rounded, middleAt, rowSum, residual}
 use Rattle.meaning.specs.Forward.{log2, rowShift, columnShift, rowValue, columnValue, coefficient}
 use Rattle.meaning.proofs.Cases.{size-cases, size-in, depth-cases, pick}
@@ -34,9 +35,13 @@ use Rattle.meaning.proofs.Sizes.{short, forwardSum-in, forwardSum-short
 use Rattle.meaning.proofs.PlanSizes.{Around, down-sizes, along-sizes, column-part, columnSum-size, rounded-size, middle-within, middle-size, row-part, rowSum-size, residual-size}
 
 -- ---- the inverse
-module _ (sh : Shape) where
-  pub taken-sized : Taken sh → Sized (planOf sh)
-  taken-sized t = record { width = t .width; height = t .height; horizontal = t .horizontal; vertical = t .vertical; columns = columns-kept sh t .within; rows = rows-kept sh t .within }
+-- by any range and any last shift
+pub sized-by : {deep : Bool} (range : Range) (last : ℕ) (sh : Shape) → TakenBy deep sh → Sized (planBy range last sh)
+sized-by range last sh t =
+    record { width = t .width; height = t .height; horizontal = t .horizontal; vertical = t .vertical; columns = columns-kept sh t .within; rows = rows-kept sh t .within }
+
+pub taken-sized : (sh : Shape) → Taken sh → Sized (planOf sh)
+taken-sized sh = sized-by shortRange (planOf sh .last) sh
 
 -- 16 bits
 pub short-around : Around 32768 shortRange

@@ -5,8 +5,9 @@ use Prim.Native.Nat.{ℕ}
 use Rattle.algebra.specs.Refusals.{numberOf}
 use Rattle.algebra.proofs.Unique.{one}
 use Rattle.meaning.specs.declared.Shape.{Shape}
-use Rattle.meaning.specs.Shape.{isSize, isKind, isDepth, most, shapeOf, keeping}
-use Rattle.meaning.specs.Answer.{shapeTests}
+use Rattle.meaning.specs.Shape.{isSize, isKind, isDepth, isLongDepth, most, shapeOf, keeping}
+use Rattle.meaning.specs.Answer.{shapeTestsBy, shapeTests}
+use Rattle.meaning.specs.Long.{longShapeTests}
 
 -- `Shape::new`
 pub new-one : (w h a b d : ℕ) {r s : Shape} → r ≡ shapeOf w h a b d → s ≡ shapeOf w h a b d → r ≡ s
@@ -27,9 +28,19 @@ module _ (n : ℕ) {r s : Bool} where
   pub depth-one : r ≡ isDepth n → s ≡ isDepth n → r ≡ s
   depth-one = one
 
--- `Shape::refusal`
+-- `is_long_depth`
+pub long-depth-one : (extended : Bool) (d : ℕ) {r s : Bool} → r ≡ isLongDepth extended d → s ≡ isLongDepth extended d → r ≡ s
+long-depth-one extended d = one
+
+-- `Shape::refusal_by`, `Shape::refusal` and `Shape::long_refusal`
+pub refusal-by-one : (width height depth : Bool) (sh : Shape) {r s : ℕ} → r ≡ numberOf (shapeTestsBy width height depth sh) → s ≡ numberOf (shapeTestsBy width height depth sh) → r ≡ s
+refusal-by-one width height depth sh = one
+
 pub refusal-one : (sh : Shape) {r s : ℕ} → r ≡ numberOf (shapeTests sh) → s ≡ numberOf (shapeTests sh) → r ≡ s
 refusal-one sh = one
+
+pub long-refusal-one : (extended : Bool) (sh : Shape) {r s : ℕ} → r ≡ numberOf (longShapeTests extended sh) → s ≡ numberOf (longShapeTests extended sh) → r ≡ s
+long-refusal-one extended sh = one
 
 -- `most_kept`
 pub most-one : (kind n : ℕ) {r s : ℕ} → r ≡ most kind n → s ≡ most kind n → r ≡ s

@@ -32,16 +32,19 @@ accepted rails = record { number = 0; place = 0; rails = rails }
 abbrev pub outcome : List Refusal → List ℤ → Outcome → Outcome
 outcome tests out done = firstOf tests (λ number place. (refused number place, out)) done
 
--- 1 to 5, and 20, of a shape
-abbrev pub shapeTests : Shape → List Refusal
-shapeTests sh =
-    test (not (isSize (sh .width))) 1
-    ∷ test (not (isSize (sh .height))) 2
+-- 1 to 5, and 20, of a shape, by what its call takes for a width, a height and a depth
+abbrev pub shapeTestsBy : Bool → Bool → Bool → Shape → List Refusal
+shapeTestsBy width height depth sh =
+    test (not width) 1
+    ∷ test (not height) 2
     ∷ test (not (isKind (sh .horizontal))) 3
     ∷ test (not (isKind (sh .vertical))) 4
-    ∷ test (not (isDepth (sh .depth))) 5
+    ∷ test (not depth) 5
     ∷ test (not (keeps sh)) 20
     ∷ []
+
+abbrev pub shapeTests : Shape → List Refusal
+shapeTests sh = shapeTestsBy (isSize (sh .width)) (isSize (sh .height)) (isDepth (sh .depth)) sh
 
 -- 6 and 7: lengths other than n
 abbrev pub lengthTests : ℕ → ℕ → ℕ → List Refusal

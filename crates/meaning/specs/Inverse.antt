@@ -64,10 +64,18 @@ outside p k z = not (eqb (natAbs z) 0) && not (ltb (k % p .width) (p .columns) &
 abbrev pub firstOutside : Plan → List ℤ → ℕ
 firstOutside p c = firstAt (outside p) 0 c
 
+-- 6, 7 and 8, after those of a shape
+abbrev pub planTests : List Refusal → Plan → List ℤ → List ℤ → List Refusal
+planTests tests p c out =
+    tests ++ lengthTests (p .width * p .height) (length c) (length out)
+    ++ (record { applies = ltb (firstOutside p c) (length c); number = 8; place = firstOutside p c } ∷ [])
+
+-- the outcome of an inverse by any plan
+abbrev pub planOutcome : List Refusal → Plan → List ℤ → List ℤ → Outcome
+planOutcome tests p c out = outcome tests out (accepted (rails p c), inverseBlock p c)
+
 abbrev pub inverseTests : Shape → List ℤ → List ℤ → List Refusal
-inverseTests sh c out =
-    shapeTests sh ++ lengthTests (sh .width * sh .height) (length c) (length out)
-    ++ (record { applies = ltb (firstOutside (planOf sh) c) (length c); number = 8; place = firstOutside (planOf sh) c } ∷ [])
+inverseTests sh c out = planTests (shapeTests sh) (planOf sh) c out
 
 abbrev pub inverseOutcome : Shape → List ℤ → List ℤ → Outcome
-inverseOutcome sh c out = outcome (inverseTests sh c out) out (accepted (rails (planOf sh) c), inverseBlock (planOf sh) c)
+inverseOutcome sh c out = planOutcome (inverseTests sh c out) (planOf sh) c out

@@ -5,5 +5,6 @@ pub mod Plan
 pub mod Taken
 pub mod Answer
 pub mod Inverse
+pub mod Long
 pub mod Forward
 pub mod Exact

@@ -12,9 +12,16 @@ isSize n = eqb n 4 || (eqb n 8 || (eqb n 16 || eqb n 32))
 unfoldable pub isKind : ℕ → Bool
 isKind kind = eqb kind 1 || (eqb kind 2 || eqb kind 0)
 
+abbrev pub isDepthTo : ℕ → ℕ → Bool
+isDepthTo deepest d = leb 8 d && leb d deepest
+
 -- "Bit depths d = 8 to 12"
 unfoldable pub isDepth : ℕ → Bool
-isDepth d = leb 8 d && leb d 12
+isDepth d = isDepthTo 12 d
+
+-- Wish 14: "5 accepts 13..16 only with the switch on"
+unfoldable pub isLongDepth : Bool → ℕ → Bool
+isLongDepth extended d = cond extended (isDepthTo 16 d) (isDepth d)
 
 -- the most that can be kept in a direction: "Kept columns are the first min(w,16), kept rows the first min(h,16)"; Wish 1: "All
 -- 32 columns or rows are kept in a direction of kind 0"

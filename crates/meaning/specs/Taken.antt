@@ -1,7 +1,7 @@
 -- Document 01, "Numbers handed back when a call is turned down": what a call that its tests let pass was handed, and what is
 -- known of a plan then.
 use mathlib.Core.Path.{_≡_}
-use mathlib.Core.Bool.{true}
+use mathlib.Core.Bool.{Bool, true}
 use mathlib.Core.List.{List}
 use Prim.Native.Nat.{ℕ, _*_, _≤_}
 use lib.IntN.{ℤ, natAbs}
@@ -11,20 +11,26 @@ use Rattle.meaning.specs.declared.Shape.{Shape}
 use Rattle.meaning.specs.Shape.{isSize, isKind, isDepth, keeps}
 use Rattle.meaning.specs.Plan.{Plan}
 
--- past 1 to 5 and 20: a shape
-pub record Taken (sh : Shape) : Type 0 where
+-- past 1 to 5 and 20: a shape whose depth is tested by `deep`
+pub record TakenBy (deep : Bool) (sh : Shape) : Type 0 where
   pub width : isSize (sh .width) ≡ true
   pub height : isSize (sh .height) ≡ true
   pub horizontal : isKind (sh .horizontal) ≡ true
   pub vertical : isKind (sh .vertical) ≡ true
-  pub depth : isDepth (sh .depth) ≡ true
+  pub depth : deep ≡ true
   pub kept : keeps sh ≡ true
 
 -- past 6 and 7 too: a block, its input and its output
-pub record TakenBlock (sh : Shape) (input output : List ℤ) : Type 0 where
-  pub taken : Taken sh
+pub record TakenBlockBy (deep : Bool) (sh : Shape) (input output : List ℤ) : Type 0 where
+  pub taken : TakenBy deep sh
   pub long : length input ≡ sh .width * sh .height
   pub room : length output ≡ sh .width * sh .height
+
+abbrev pub Taken : Shape → Type 0
+Taken sh = TakenBy (isDepth (sh .depth)) sh
+
+abbrev pub TakenBlock : Shape → List ℤ → List ℤ → Type 0
+TakenBlock sh input output = TakenBlockBy (isDepth (sh .depth)) sh input output
 
 -- past 1, 3, 6 and 7: a line, by the lengths of its input and its output
 pub record TakenLine (n kind input output : ℕ) : Type 0 where

@@ -1,12 +1,13 @@
 // What every call means: the structs that calls share, the definitions that their contracts cite (specs/, in the order of
-// the scope: Weights, Line, Shape, Plan, Taken, Answer, Inverse, Forward, Exact), and the theorems that follow from these alone
+// the scope: Weights, Line, Shape, Plan, Taken, Answer, Inverse, Long, Forward, Exact), and the theorems that follow from these alone
 // (proofs/). Read specs/ in that order, then of proofs/ Numbers, Sharing, Sizes, PlanSizes, Stages, Parts, NoRails and
 // NearExact; the others serve these or the crates above.
 ghost use mathlib.Core.Path.{_≡_};
 ghost use Prim.Native.Nat.{min};
 ghost use Rattle.algebra.specs.Refusals.{numberOf};
-ghost use Rattle.meaning.specs.Shape.{isSize, isKind, isDepth, most, isKept, keeps, shapeOf, keeping};
-ghost use Rattle.meaning.specs.Answer.{shapeTests};
+ghost use Rattle.meaning.specs.Shape.{isSize, isKind, isDepth, isLongDepth, most, isKept, keeps, shapeOf, keeping};
+ghost use Rattle.meaning.specs.Answer.{shapeTestsBy, shapeTests};
+ghost use Rattle.meaning.specs.Long.{longShapeTests};
 
 /// What a block is: its sides, a kind for each direction, its bit depth, and how many columns and rows are kept. Any numbers.
 #[repr(C)]
@@ -60,14 +61,15 @@ impl Shape {
         false
     }
 
-    /// The number of the first of the refusals 1 to 5 and 20 that applies, or 0.
-    pub fn refusal(self) -> u32
-        ensures { λ r. ⌜ r ≡ numberOf (shapeTests self) ⌝ }
+    /// The number of the first of the refusals 1 to 5 and 20 that applies, or 0, by what a call takes for a width, a height and a
+    /// depth.
+    pub fn refusal_by(self, width: bool, height: bool, depth: bool) -> u32
+        ensures { λ r. ⌜ r ≡ numberOf (shapeTestsBy width height depth self) ⌝ }
     {
-        if !is_size(self.width) {
+        if !width {
             return 1;
         }
-        if !is_size(self.height) {
+        if !height {
             return 2;
         }
         if !is_kind(self.horizontal) {
@@ -76,13 +78,34 @@ impl Shape {
         if !is_kind(self.vertical) {
             return 4;
         }
-        if !is_depth(self.depth) {
+        if !depth {
             return 5;
         }
         if !self.keeps() {
             return 20;
         }
         0
+    }
+
+    pub fn refusal(self) -> u32
+        ensures { λ r. ⌜ r ≡ numberOf (shapeTests self) ⌝ }
+    {
+        self.refusal_by(
+            is_size(self.width),
+            is_size(self.height),
+            is_depth(self.depth),
+        )
+    }
+
+    /// The same of the call of long numbers.
+    pub fn long_refusal(self, extended: bool) -> u32
+        ensures { λ r. ⌜ r ≡ numberOf (longShapeTests extended self) ⌝ }
+    {
+        self.refusal_by(
+            is_size(self.width),
+            is_size(self.height),
+            is_long_depth(extended, self.depth),
+        )
     }
 }
 
@@ -128,6 +151,19 @@ pub fn is_depth(d: u32) -> bool
         return false;
     }
     d <= 12
+}
+
+/// "5 accepts 13..16 only with the switch on".
+pub fn is_long_depth(extended: bool, d: u32) -> bool
+    ensures { λ r. ⌜ r ≡ isLongDepth extended d ⌝ }
+{
+    if extended {
+        if d < 8 {
+            return false;
+        }
+        return d <= 16;
+    }
+    is_depth(d)
 }
 
 fn least(n: u32, most: u32) -> u32

@@ -16,6 +16,7 @@ const SIXTEEN_BITS: [i64; 2] = [-32768, 32767];
 /// What the file needs of the definitions' own files.
 const HEAD: &str = "\
 use mathlib.Core.Path.{_≡_, refl}
+use mathlib.Core.Bool.{true, false}
 use mathlib.Core.List.{List, [], _∷_}
 use lib.IntN.{ℤ, pos, negsuc}
 use Rattle.algebra.specs.Sum.{sum, sumℕ}
@@ -23,10 +24,11 @@ use Rattle.algebra.specs.Lists.{tabulate, block}
 use Rattle.algebra.specs.First.{firstAt}
 use Rattle.meaning.specs.Weights.{first, fold, S, C, cosines, turn, dct2, weight}
 use Rattle.meaning.specs.Line.{forwardSum, inverseSum, forwardLine, inverseLine}
-use Rattle.meaning.specs.Shape.{isSize, isKind, isDepth, most, keeps}
-use Rattle.meaning.specs.Plan.{shortRange}
+use Rattle.meaning.specs.Shape.{isSize, isKind, isDepth, isLongDepth, most, keeps}
+use Rattle.meaning.specs.Plan.{shortRange, reach}
 use Rattle.meaning.specs.Answer.{forwardLineOutcome, inverseLineOutcome}
 use Rattle.meaning.specs.Inverse.{columnSum, middle, middleAt, rails, rowSum, residual, inverseBlock, inverseOutcome}
+use Rattle.meaning.specs.Long.{longOutcome}
 use Rattle.meaning.specs.Forward.{rowValue, columnValue, coefficient, forwardBlock, forwardOutcome}
 ";
 
@@ -36,8 +38,8 @@ const MIDDLE: &str = "shortRange";
 const LINE: &str = "first fold S C cosines turn dct2 weight sum tabulate isSize isKind \
     forwardSum inverseSum forwardLine inverseLine";
 const BLOCK: &str =
-    "first fold S C cosines turn dct2 weight sum sumℕ tabulate block firstAt isSize isKind isDepth most keeps \
-    shortRange forwardSum inverseSum columnSum middleAt rails rowSum residual inverseBlock \
+    "first fold S C cosines turn dct2 weight sum sumℕ tabulate block firstAt isSize isKind isDepth isLongDepth most keeps \
+    shortRange reach forwardSum inverseSum columnSum middleAt rails rowSum residual inverseBlock \
     rowValue columnValue coefficient forwardBlock";
 
 // ---- writing terms
@@ -85,7 +87,7 @@ struct Theorems {
     count: usize,
     random: Random,
     /// how many cases have each number, and how many have a rail count above 0
-    met: [usize; 21],
+    met: [usize; 28],
     railed: usize,
 }
 
@@ -95,7 +97,7 @@ impl Theorems {
             text: String::new(),
             count: 0,
             random: Random::new(seed),
-            met: [0; 21],
+            met: [0; 28],
             railed: 0,
         }
     }
@@ -126,11 +128,12 @@ impl Theorems {
     /// How often each refusal was met. An answer that no case has would be compared by nothing.
     fn met_line(&self) -> String {
         assert!(self.met[0] > 0 && self.railed > 0);
-        assert!(ORDER.iter().all(|number| self.met[*number] > 0));
-        let counts = ORDER.map(|number| format!(" {}", self.met[number]));
-        let counts: String = counts.concat();
+        let numbers = [&ORDER[..], &[27]].concat();
+        assert!(numbers.iter().all(|number| self.met[*number] > 0));
+        let count = |number: &usize| format!(" {}", self.met[*number]);
+        let counts: String = numbers.iter().map(count).collect();
         format!(
-            "-- refused with {ORDER:?}:{counts}; rail count above 0: {}",
+            "-- refused with {numbers:?}:{counts}; rail count above 0: {}",
             self.railed
         )
     }
@@ -196,6 +199,15 @@ fn block_case(t: &mut Theorems, direction: Direction, shape: &Shape, input: &[i6
         Inverse => model::inverse(shape, input, &mut output),
     };
     let call = format!("{}Outcome {}", direction.word(), shape_term(shape));
+    let left = format!("{call} {} {}", list(input), list(held));
+    t.state_outcome(BLOCK, &left, &answer, &output);
+}
+
+/// The outcome of a block of long numbers.
+fn long_case(t: &mut Theorems, extended: bool, shape: &Shape, input: &[i64], held: &[i64]) {
+    let mut output = held.to_vec();
+    let answer = model::inverse_long(shape, extended, input, &mut output);
+    let call = format!("longOutcome {extended} {}", shape_term(shape));
     let left = format!("{call} {} {}", list(input), list(held));
     t.state_outcome(BLOCK, &left, &answer, &output);
 }
@@ -427,6 +439,33 @@ fn refused_blocks(t: &mut Theorems, direction: Direction) {
     }
 }
 
+/// Every depth of either switch; then 5, 8 and 27, and 8 before 27.
+fn long_blocks(t: &mut Theorems) {
+    for (extended, deepest) in [(false, 12), (true, 16)] {
+        for depth in 8..=deepest {
+            let ends = model::long::ends(extended, depth);
+            for (k, (width, height)) in [(4, 4), (4, 8), (8, 4)].into_iter().enumerate() {
+                let mut shape = shape_in_turn(k + depth as usize, width, height);
+                shape.depth = depth;
+                let area = shape.area() as usize;
+                let mut input = extremes(&mut t.random, area, ends);
+                clear_outside(&shape, &mut input);
+                let held = held(&mut t.random, area);
+                long_case(t, extended, &shape, &input, &held);
+                let place = t.random.below(area);
+                input[place] = t.random.choose(&[ends[0] - 1, ends[1] + 1]);
+                long_case(t, extended, &shape, &input, &held);
+            }
+        }
+        let too_deep = Shape::new(4, 4, 1, 2, deepest + 1);
+        long_case(t, extended, &too_deep, &[0; 16], &[7; 16]);
+    }
+    let shape = Shape::new(4, 4, 1, 1, 16).keeping(4, 3);
+    let mut both = [0; 16];
+    (both[2], both[13]) = (1 << 20, 1);
+    long_case(t, true, &shape, &both, &[7; 16]);
+}
+
 fn main() {
     let seed = seed();
     let mut t = Theorems::new(seed);
@@ -441,6 +480,7 @@ fn main() {
     t.section("inverse blocks about the rail", at_the_rail);
     t.section("refused forward blocks", |t| refused_blocks(t, Forward));
     t.section("refused inverse blocks", |t| refused_blocks(t, Inverse));
+    t.section("blocks of long numbers", long_blocks);
     println!("-- {SEED_VARIABLE}={seed}\n{HEAD}{}", t.text);
     println!("{}", t.met_line());
 }

@@ -108,7 +108,7 @@ fn clipped(m: i64) -> i64 {
 
 /// The h middle values of each kept column before the clip: "Each kept column goes through the vertical
 /// line over its kept rows, giving h sums e."
-fn unclipped(shape: &Shape, coefficients: &[i64]) -> Vec<Vec<i64>> {
+pub fn unclipped(shape: &Shape, coefficients: &[i64]) -> Vec<Vec<i64>> {
     let column = |x: i64| {
         let kept = (0..shape.rows).map(|y| coefficients[(x + y * shape.width) as usize]);
         let kept: Vec<i64> = kept.collect();

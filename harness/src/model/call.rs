@@ -48,12 +48,17 @@ impl Shape {
 
     /// 1 to 5, then 20: the first that applies.
     pub fn refusal(&self) -> Option<Answer> {
+        self.refusal_to(12)
+    }
+
+    /// The same with another deepest depth.
+    pub fn refusal_to(&self, deepest: i64) -> Option<Answer> {
         first_refusal(&[
             (1, !is_size(self.width)),
             (2, !is_size(self.height)),
             (3, !is_kind(self.horizontal)),
             (4, !is_kind(self.vertical)),
-            (5, !is_depth(self.depth)),
+            (5, !(8..=deepest).contains(&self.depth)),
             (20, !self.keeps()),
         ])
     }

@@ -7,6 +7,7 @@
 mod blocks;
 mod calls;
 mod lines;
+mod long;
 mod numbers;
 mod refusals;
 mod shapes;

@@ -1,0 +1,43 @@
+// The second edition's long numbers (document 02, Wish 14): the inverse of a block with coefficients and middle values of 32 bits and
+// sums of 64, whose range and last shift follow the extended-precision switch. One public function, `inverse`, and its contract is
+// `longOutcome` of meaning/specs/Long; read that first. Then rules (R, the range, the last shift), hunt (8 and 27), live (how much of
+// the block is not zero), sums and stages. What each of them asks, `inverse` has seen to.
+mod arith;
+mod check;
+mod hunt;
+mod live;
+mod rules;
+mod stages;
+mod sums;
+
+use crate::check::acceptance;
+use crate::check::long_refusal;
+use crate::check::refusal;
+use meaning::Answer;
+use meaning::Shape;
+ghost use mathlib.Core.Path.{_≡_};
+ghost use Rattle.meaning.specs.Answer.{Outcome};
+ghost use Rattle.meaning.specs.Long.{longOutcome};
+
+/// The inverse of a block of long numbers: residuals from coefficients, with the rail count. Any numbers, any buffers.
+pub fn inverse(shape: Shape, extended: bool, coefficients: &[i32], residuals: &mut [i32]) -> Answer
+    ensures { λ r. ⌜ _≡_ {A = Outcome} (r, now (residuals .exit)) (longOutcome extended shape (now (coefficients .entry)) (now (residuals .entry))) ⌝ }
+{
+    let number = long_refusal(shape, extended, coefficients.len(), residuals.len());
+    if number != 0 {
+        return refusal(number, 0);
+    }
+    let place = hunt::first_outside(shape, coefficients);
+    if place < coefficients.len() {
+        return refusal(8, place as u32);
+    }
+    let reach = rules::reach_of(extended, shape.depth);
+    let far = hunt::first_beyond(reach, coefficients);
+    if far < coefficients.len() {
+        return refusal(27, far as u32);
+    }
+    let w = shape.width as usize;
+    let rows = live::row_pairs(coefficients, w, shape.height as usize);
+    let columns = live::column_pairs(coefficients, w, 2 * rows);
+    acceptance(stages::stages(shape, extended, rows, columns, coefficients, residuals))
+}

@@ -1,0 +1,132 @@
+//! Document 02, Wish 14: "The second edition's long numbers". The inverse of a block whose range and last shift follow the
+//! extended-precision switch; `docs/DECISIONS.md` has where the two rules come from.
+
+use super::block::{first_outside, round_shift, unclipped};
+use super::call::{first_refusal, Answer, Shape};
+use super::line::inverse_sums;
+
+/// R: coefficients and middle values are -2^R .. 2^R - 1.
+pub fn reach(extended: bool, depth: i64) -> i64 {
+    if extended {
+        (depth + 6).clamp(15, 20)
+    } else {
+        15
+    }
+}
+
+/// Both ends of the range.
+pub fn ends(extended: bool, depth: i64) -> [i64; 2] {
+    let end = 1 << reach(extended, depth);
+    [-end, end - 1]
+}
+
+/// The inverse of a block of long coefficients.
+pub fn inverse_long(
+    shape: &Shape,
+    extended: bool,
+    coefficients: &[i64],
+    residuals: &mut [i64],
+) -> Answer {
+    if let Some(refusal) = refusal(shape, extended, coefficients, residuals.len()) {
+        return refusal;
+    }
+    let [low, high] = ends(extended, shape.depth);
+    let unclipped = unclipped(shape, coefficients);
+    let altered = |m: &&i64| !(low..=high).contains(*m);
+    let rails = unclipped.iter().flatten().filter(altered).count();
+    let last = 5 + reach(extended, shape.depth) - shape.depth;
+    for y in 0..shape.height as usize {
+        let row: Vec<i64> = unclipped.iter().map(|c| c[y].clamp(low, high)).collect();
+        let sums = inverse_sums(shape.horizontal, shape.width as usize, &row);
+        let from = y * shape.width as usize;
+        for (x, sum) in sums.into_iter().enumerate() {
+            residuals[from + x] = round_shift(sum, last);
+        }
+    }
+    Answer::accepted(rails as i64)
+}
+
+/// "5 accepts 13..16 only with the switch on; 27 for a coefficient outside the range, after 8, with its place".
+fn refusal(shape: &Shape, extended: bool, c: &[i64], output: usize) -> Option<Answer> {
+    let lengths = || {
+        first_refusal(&[
+            (6, c.len() as i64 != shape.area()),
+            (7, output as i64 != shape.area()),
+        ])
+    };
+    let outside = || first_outside(shape, c).map(|place| Answer::refused(8, place as i64));
+    let beyond = || {
+        let [low, high] = ends(extended, shape.depth);
+        let place = c.iter().position(|z| !(low..=high).contains(z))?;
+        Some(Answer::refused(27, place as i64))
+    };
+    shape
+        .refusal_to(if extended { 16 } else { 12 })
+        .or_else(lengths)
+        .or_else(outside)
+        .or_else(beyond)
+}
+
+#[cfg(test)]
+mod tests {
+    use super::*;
+    use crate::model::inverse;
+
+    /// The rules, depth by depth: R and the last shift.
+    #[test]
+    fn rules_of_the_switch() {
+        let of = |extended, d| (reach(extended, d), 5 + reach(extended, d) - d);
+        assert_eq!([8, 9].map(|d| of(true, d)), [(15, 12), (15, 11)]);
+        for d in 10..=14 {
+            assert_eq!(of(true, d), (d + 6, 11));
+        }
+        assert_eq!([15, 16].map(|d| of(true, d)), [(20, 10), (20, 9)]);
+        for d in 8..=12 {
+            assert_eq!(of(false, d), (15, 20 - d));
+        }
+    }
+
+    /// With the switch off, numbers of 16 bits give what the other inverse gives.
+    #[test]
+    fn off_is_the_other_inverse() {
+        let mut random = crate::random::seeded();
+        for _ in 0..200 {
+            let side = |random: &mut crate::random::Random| random.choose(&[4, 8, 16, 32]);
+            let (w, h) = (side(&mut random), side(&mut random));
+            let kinds = [random.between(0, 2), random.between(0, 2)];
+            let shape = Shape::new(w, h, kinds[0], kinds[1], random.between(8, 12));
+            let area = shape.area() as usize;
+            let mut c = random.numbers(area, -32768, 32767);
+            while let Some(place) = first_outside(&shape, &c) {
+                c[place] = 0;
+            }
+            let (mut one, mut other) = (vec![1; area], vec![2; area]);
+            let answer = inverse(&shape, &c, &mut one);
+            assert_eq!(inverse_long(&shape, false, &c, &mut other), answer);
+            assert_eq!(one, other);
+        }
+    }
+
+    /// 8 is looked for in the whole block before 27.
+    #[test]
+    fn outside_comes_before_beyond() {
+        let shape = Shape::new(4, 4, 1, 1, 16).keeping(4, 3);
+        let mut c = vec![0; 16];
+        let mut out = vec![7; 16];
+        c[2] = 1 << 20;
+        assert_eq!(
+            inverse_long(&shape, true, &c, &mut out),
+            Answer::refused(27, 2)
+        );
+        c[13] = 1;
+        assert_eq!(
+            inverse_long(&shape, true, &c, &mut out),
+            Answer::refused(8, 13)
+        );
+        assert_eq!(
+            inverse_long(&shape, false, &c, &mut out),
+            Answer::refused(5, 0)
+        );
+        assert_eq!(out, vec![7; 16]);
+    }
+}

@@ -1,0 +1,200 @@
+//! Blocks of long numbers: every depth of either switch with every layout of numbers, middle values about the ends of the
+//! range, every set of refusals, and the switch off beside the other inverse.
+
+use crate::calls::{area, SIZES};
+use hoengtila_harness::call::{most_kept, Call, What};
+use hoengtila_harness::library::Shape;
+use hoengtila_harness::long_call::{LongCall, LongComparison};
+use hoengtila_harness::model::long::ends;
+use hoengtila_harness::patterns::{
+    block, clear_outside, is_kept, keeping_any, LAYOUTS, SIXTEEN_BITS,
+};
+use hoengtila_harness::random::Random;
+use hoengtila_harness::wrong::{Wrong, NO_KIND, NO_SIZE};
+
+/// The switch as a caller may write it, and its deepest depth.
+const SWITCHES: [(u32, u32); 4] = [(0, 12), (1, 16), (2, 16), (u32::MAX, 16)];
+
+fn narrow(numbers: &[i64]) -> Vec<i32> {
+    let number = |z: &i64| i32::try_from(*z).expect("a call takes numbers of 32 bits");
+    numbers.iter().map(number).collect()
+}
+
+fn long_call(random: &mut Random, shape: Shape, extended: u32, c: &[i64], out: usize) -> LongCall {
+    LongCall {
+        shape,
+        extended,
+        input: narrow(c),
+        held: narrow(&random.numbers(out, i32::MIN.into(), i32::MAX.into())),
+    }
+}
+
+fn ends_of(shape: &Shape, extended: u32) -> [i64; 2] {
+    ends(extended != 0, shape.depth.into())
+}
+
+/// Every pair of sides with any kinds and every depth of the switch; every other shape keeps any part.
+fn shapes(random: &mut Random, deepest: u32) -> Vec<Shape> {
+    let mut all = vec![];
+    for (w, h) in SIZES.iter().flat_map(|w| SIZES.map(|h| (*w, h))) {
+        for depth in 8..=deepest {
+            let kinds = [random.choose(&[0, 1, 2]), random.choose(&[0, 1, 2])];
+            let most = most_kept([w, h, kinds[0], kinds[1], depth]);
+            all.extend([most, keeping_any(random, &most)]);
+        }
+    }
+    all
+}
+
+#[test]
+fn long_blocks() {
+    let mut c = LongComparison::open("blocks of long numbers");
+    for (extended, deepest) in SWITCHES {
+        for (k, shape) in shapes(&mut c.random, deepest).iter().enumerate() {
+            let layout = LAYOUTS[k % LAYOUTS.len()];
+            for ends in [ends_of(shape, extended), SIXTEEN_BITS] {
+                let mut input = block(&mut c.random, layout, shape, ends);
+                clear_outside(shape, &mut input);
+                let call = long_call(&mut c.random, *shape, extended, &input, area(shape));
+                c.outcome(&call);
+            }
+        }
+    }
+    assert!(c.rails > 1000);
+    c.close(&[0]);
+}
+
+/// One column whose first two coefficients bring middle values to an end of the range, next to it and past it.
+#[test]
+fn long_blocks_about_the_ends() {
+    let mut c = LongComparison::open("blocks of long numbers about the ends of the range");
+    let mut unaltered = 0;
+    for round in 0..6000 {
+        let (extended, deepest) = SWITCHES[round % 2];
+        let depth = 8 + c.random.below((deepest - 7) as usize) as u32;
+        let shape = most_kept([4, 4, c.random.choose(&[0, 1, 2]), 1, depth]);
+        let [low, high] = ends_of(&shape, extended);
+        let mut input = vec![0; 16];
+        let x = c.random.below(4);
+        input[x + 4] = c.random.choose(&[low, high]);
+        // 74 and 84 of DST-VII: some value of row 2 to 4 is then about an end
+        let near = (high - high * 74 / 128) * 128 / c.random.choose(&[29, 55, 74, 84]);
+        input[x + 8] = c.random.choose(&[-1, 1]) * (near + c.random.between(-4, 4)).clamp(0, high);
+        let call = long_call(&mut c.random, shape, extended, &input, 16);
+        unaltered += usize::from(c.outcome(&call).answer.rails == 0);
+    }
+    assert!(c.rails > 100 && unaltered > 100);
+    c.close(&[0]);
+}
+
+/// "With the switch off", numbers of 16 bits give what the other inverse gives.
+#[test]
+fn long_blocks_with_the_switch_off() {
+    let mut c = LongComparison::open("blocks of long numbers, beside the other inverse");
+    for (k, shape) in shapes(&mut c.random, 12).iter().enumerate() {
+        let layout = LAYOUTS[k % LAYOUTS.len()];
+        let mut input = block(&mut c.random, layout, shape, SIXTEEN_BITS);
+        if k % 3 != 0 {
+            clear_outside(shape, &mut input);
+        }
+        let call = long_call(&mut c.random, *shape, 0, &input, area(shape));
+        let other = c.other(&Call {
+            what: What::Inverse(*shape),
+            order: vec![],
+            input: input.iter().map(|z| *z as i16).collect(),
+            held: call.held.clone(),
+        });
+        assert_eq!(c.outcome(&call), other);
+    }
+    c.close(&[0, 8]);
+}
+
+/// Every set of the tests that a block of long numbers can meet.
+#[test]
+fn refused_long_blocks() {
+    let mut c = LongComparison::open("blocks of long numbers, refused for every set of reasons");
+    for (bits, switch) in (0..1024).flat_map(|bits| SWITCHES.map(|switch| (bits, switch))) {
+        let wrong = Wrong::among(&[1, 2, 3, 4, 5, 20, 6, 7, 8, 9], bits);
+        let call = call_with(&mut c.random, switch, &wrong);
+        c.outcome(&call);
+    }
+    c.close(&[0, 1, 2, 3, 4, 5, 6, 7, 8, 20, 27]);
+}
+
+/// The last test, 9 of the other table, is 27 here.
+fn call_with(random: &mut Random, (extended, deepest): (u32, u32), wrong: &Wrong) -> LongCall {
+    let sizes = SIZES.map(i64::from);
+    let deepest = i64::from(deepest);
+    let depths: Vec<i64> = (8..=deepest).collect();
+    let numbers = [
+        wrong.pick(random, 1, &sizes, &NO_SIZE),
+        wrong.pick(random, 2, &sizes, &NO_SIZE),
+        wrong.pick(random, 3, &[0, 1, 2], &NO_KIND),
+        wrong.pick(random, 4, &[0, 1, 2], &NO_KIND),
+        wrong.pick(
+            random,
+            5,
+            &depths,
+            &[0, 7, deepest + 1, 17, 255, 4_294_967_295],
+        ),
+    ];
+    let most = most_kept(numbers.map(|n| n as u32));
+    let kept = wrong.kept(random, [most.columns.into(), most.rows.into()]);
+    let shape = most.keeping(kept[0] as u32, kept[1] as u32);
+    let right = match u64::from(shape.width) * u64::from(shape.height) {
+        area @ 1..=2048 => area as i64,
+        _ => 16,
+    };
+    let input = wrong.length(random, 6, right);
+    let output = wrong.length(random, 7, right);
+    let mut numbers = random.numbers(input, -255, 255);
+    if shape.width > 0 {
+        clear_outside(&shape, &mut numbers);
+        let outside = |place: &usize| !is_kept(&shape, *place);
+        spoil(
+            random,
+            &mut numbers,
+            wrong.applies[8],
+            outside,
+            &[1, -1, i64::from(i32::MIN)],
+        );
+        let [low, high] = ends_of(&shape, extended);
+        let beyond = [low - 1, high + 1, i32::MIN.into(), i32::MAX.into()];
+        let inside = |place: &usize| is_kept(&shape, *place);
+        spoil(random, &mut numbers, wrong.applies[9], inside, &beyond);
+    }
+    long_call(random, shape, extended, &numbers, output)
+}
+
+/// Some of these numbers at such places, where there are any.
+fn spoil(
+    random: &mut Random,
+    numbers: &mut [i64],
+    applies: bool,
+    fit: impl Fn(&usize) -> bool,
+    bad: &[i64],
+) {
+    let places: Vec<usize> = (0..numbers.len()).filter(fit).collect();
+    for _ in 0..if applies { places.len().min(3) } else { 0 } {
+        numbers[random.choose(&places)] = random.choose(bad);
+    }
+}
+
+/// Each place once with the least number that is beyond the range, at either end.
+#[test]
+fn one_number_beyond_the_range_at_each_place() {
+    let mut c = LongComparison::open("blocks of long numbers, one of them beyond the range");
+    for (extended, deepest) in &SWITCHES[..2] {
+        for shape in shapes(&mut c.random, *deepest).iter().step_by(7) {
+            let [low, high] = ends_of(shape, *extended);
+            for place in 0..area(shape) {
+                let mut input = block(&mut c.random, LAYOUTS[0], shape, [low, high]);
+                clear_outside(shape, &mut input);
+                input[place] = c.random.choose(&[low - 1, high + 1]);
+                let call = long_call(&mut c.random, *shape, *extended, &input, area(shape));
+                c.outcome(&call);
+            }
+        }
+    }
+    c.close(&[8, 27]);
+}
