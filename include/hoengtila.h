@@ -1,7 +1,7 @@
 /* Hoengtila: DST-VII and DCT-VIII of VVC (H.266), forward and inverse, for C and C++ callers.
  *
  * Every function takes any numbers and any lengths. What the caller owes: each pointer points to as many elements as the
- * length after it says (a length of 0 takes any pointer that is not null), and no output overlaps an input.
+ * length after it says (a length of 0 takes any pointer that is not null), and totals to 578; no output overlaps an input.
  *
  * A call that is turned down hands back one of these numbers, the first that applies; its output holds what it held, its
  * rail count is 0, and its place is 0 but for 8 and 9. An accepted call hands back number 0 and place 0.
@@ -15,6 +15,7 @@
  *   7  the output's length is not width * height (line: n; writing a picture: it is too short)
  *   8  inverse block: a coefficient other than 0 outside the kept part (the first 16 columns and rows); place of the first
  *   9  forward block: a residual of size above 2^depth - 1; place of the first
+ *  22  adding to a report: 65,536 blocks were given before
  *  23  writing a picture: a residual outside -32768..32767
  *  24  reading a picture: the header is not that of such a graymap, or has sizes that 1 or 2 would refuse
  *  25  reading a picture: too few or too many samples
@@ -118,6 +119,21 @@ hoengtila_taken hoengtila_steps_forward(uint32_t n, const int16_t *x, size_t x_l
  * the picture; what stands beyond it stays. Reading refuses 24, 25, then 7: an output that has not width * height numbers. */
 hoengtila_written hoengtila_picture_write(uint32_t width, uint32_t height, const int32_t *residuals, size_t residuals_len, uint8_t *file, size_t file_len);
 hoengtila_picture hoengtila_picture_read(const uint8_t *file, size_t file_len, int32_t *residuals, size_t residuals_len);
+
+/* A report: totals over blocks of residuals that are run forward and back. The caller keeps the totals, 578 numbers, which
+ * hoengtila_report_clear makes those of no blocks. For each width, height and pair of kinds there are four, from
+ *
+ *   4 * (36 * a + 9 * b + 3 * horizontal + vertical)
+ *
+ * on, where a and b are 0, 1, 2 and 3 for a width and a height of 4, 8, 16 and 32: how many blocks; the sum of their rail counts;
+ * the largest size of a difference between a residual and the one that came back; the sum of the squares of all differences.
+ * totals[576] is how many blocks were refused, which no other total counts, and totals[577] how many were given.
+ *
+ * Adding has 22, before all others and with the totals as they were, then the refusals of the forward but 7. Its rail count is
+ * that of the way back. Any 578 numbers are taken as totals, and sums are modulo 2^64; from the totals of no blocks, no sum
+ * reaches 2^64. */
+void hoengtila_report_clear(uint64_t totals[578]);
+hoengtila_answer hoengtila_report_add(uint64_t totals[578], hoengtila_shape shape, const int16_t *residuals, size_t residuals_len);
 
 #ifdef __cplusplus
 }

@@ -153,6 +153,13 @@ mod c {
             residuals: *mut i32,
             residuals_len: usize,
         ) -> Picture;
+        pub fn hoengtila_report_clear(totals: *mut [u64; 578]);
+        pub fn hoengtila_report_add(
+            totals: *mut [u64; 578],
+            shape: Shape,
+            residuals: *const i16,
+            residuals_len: usize,
+        ) -> Answer;
     }
 }
 
@@ -297,4 +304,16 @@ pub fn picture_read(file: &[u8], residuals: &mut [i32]) -> Picture {
             output.len(),
         )
     }
+}
+
+/// Makes totals those of no blocks.
+#[inline]
+pub fn report_clear(totals: &mut [u64; 578]) {
+    unsafe { c::hoengtila_report_clear(totals) }
+}
+
+/// Runs a block of residuals, which stand row by row, forward and back, and counts it in the totals.
+#[inline]
+pub fn report_add(totals: &mut [u64; 578], shape: Shape, residuals: &[i16]) -> Answer {
+    unsafe { c::hoengtila_report_add(totals, shape, residuals.as_ptr(), residuals.len()) }
 }

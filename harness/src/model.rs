@@ -8,6 +8,7 @@ pub mod call;
 pub mod file;
 pub mod line;
 pub mod picture;
+pub mod report;
 pub mod small;
 pub mod steps;
 pub mod weights;

@@ -1,5 +1,5 @@
-// The library for C and Rust: each public function of `transform`, `step_run`, `step_lists` and `picture` under the name and with the
-// arguments that include/hoengtila.h declares. A wrapper is one call and has the contract of what it calls; none has a `requires`, so
+// The library for C and Rust: each public function of `transform`, `step_run`, `step_lists`, `picture` and `report` under the name and with
+// the arguments that include/hoengtila.h declares. A wrapper is one call and has the contract of what it calls; none has a `requires`, so
 // whatever numbers and lengths a caller hands over, the contract says what comes back. Read it beside the header.
 use meaning::Answer;
 use meaning::Shape;
@@ -18,6 +18,7 @@ ghost use Rattle.transform.specs.Line.{weightOrZero};
 ghost use Rattle.steps.specs.Numbers.{listOf};
 ghost use Rattle.steps.specs.Outcome.{Result, runOutcome};
 ghost use Rattle.picture.specs.Outcomes.{writeOutcome, readOutcome};
+ghost use Rattle.report.specs.Totals.{empty, addOutcome};
 ghost use Rattle.step_lists.specs.Listed.{Handed, listOutcome, lineOutcome};
 
 #[no_mangle]
@@ -132,4 +133,22 @@ pub extern "C" fn hoengtila_picture_read(file: &[u8], residuals: &mut [i32]) -> 
     ensures { λ r. ⌜ _≡_ {A = Picture × List ℤ} (r, now (residuals .exit)) (readOutcome (now (file .entry)) (now (residuals .entry))) ⌝ }
 {
     picture::read::read(file, residuals)
+}
+
+#[no_mangle]
+pub extern "C" fn hoengtila_report_clear(totals: &mut [u64; 578])
+    ensures { λ _. ⌜ now (totals .exit) ≡ empty ⌝ }
+{
+    report::totals::clear(totals);
+}
+
+#[no_mangle]
+pub extern "C" fn hoengtila_report_add(
+    totals: &mut [u64; 578],
+    shape: Shape,
+    residuals: &[i16],
+) -> Answer
+    ensures { λ r. ⌜ _≡_ {A = Answer × List ℕ} (r, now (totals .exit)) (addOutcome (now (totals .entry)) shape (now (residuals .entry))) ⌝ }
+{
+    report::totals::add(totals, shape, residuals)
 }
