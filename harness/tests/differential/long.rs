@@ -100,6 +100,7 @@ fn long_blocks_with_the_switch_off() {
         let call = long_call(&mut c.random, *shape, 0, &input, area(shape));
         let other = c.other(&Call {
             what: What::Inverse(*shape),
+            order: vec![],
             input: input.iter().map(|z| *z as i16).collect(),
             held: call.held.clone(),
         });
