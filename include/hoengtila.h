@@ -1,7 +1,7 @@
 /* Hoengtila: DCT-II, DST-VII and DCT-VIII of VVC (H.266), forward and inverse, for C and C++ callers.
  *
  * Every function takes any numbers and any lengths. What the caller owes: each pointer points to as many elements as the
- * length after it says (a length of 0 takes any pointer that is not null), and no output overlaps an input.
+ * length after it says (a length of 0 takes any pointer that is not null), and totals to 578; no output overlaps an input.
  *
  * A call that is turned down hands back one of these numbers, the first that applies; its output holds what it held, its
  * rail count is 0, and its place is 0 but for 8, 9 and 27. An accepted call hands back number 0 and place 0.
@@ -19,6 +19,7 @@
  *   9  forward block: a residual of size above 2^depth - 1; place of the first
  *  27  inverse block of long numbers: a coefficient outside the range; place of the first
  *  21  a line whose sums wrap: the order is not each of 0..n-1 once
+ *  22  adding to a report: 65,536 blocks were given before
  *  23  writing a picture: a residual outside -32768..32767
  *  24  reading a picture: the header is not that of such a graymap, or has sizes that 1 or 2 would refuse
  *  25  reading a picture: too few or too many samples
@@ -164,6 +165,21 @@ hoengtila_picture hoengtila_picture_read(const uint8_t *file, size_t file_len, i
  * between is dropped. The list gets the offset and the length of each dropped stretch. What stands beyond the new file and beyond
  * the list stays. Coefficients and residuals are not looked at, so a block may still meet 8 or 9 when it is run. */
 hoengtila_saved hoengtila_salvage(const uint8_t *file, size_t file_len, uint8_t *out, size_t out_len, uint32_t *list, size_t list_len);
+
+/* A report: totals over blocks of residuals that are run forward and back. The caller keeps the totals, 578 numbers, which
+ * hoengtila_report_clear makes those of no blocks. For each width, height and pair of kinds there are four, from
+ *
+ *   4 * (36 * a + 9 * b + 3 * horizontal + vertical)
+ *
+ * on, where a and b are 0, 1, 2 and 3 for a width and a height of 4, 8, 16 and 32: how many blocks; the sum of their rail counts;
+ * the largest size of a difference between a residual and the one that came back; the sum of the squares of all differences.
+ * totals[576] is how many blocks were refused, which no other total counts, and totals[577] how many were given.
+ *
+ * Adding has 22, before all others and with the totals as they were, then the refusals of the forward but 7. Its rail count is
+ * that of the way back. Any 578 numbers are taken as totals, and sums are modulo 2^64; from the totals of no blocks, no sum
+ * reaches 2^64. */
+void hoengtila_report_clear(uint64_t totals[578]);
+hoengtila_answer hoengtila_report_add(uint64_t totals[578], hoengtila_shape shape, const int16_t *residuals, size_t residuals_len);
 
 #ifdef __cplusplus
 }

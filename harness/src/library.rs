@@ -229,6 +229,13 @@ mod c {
             list: *mut u32,
             list_len: usize,
         ) -> Saved;
+        pub fn hoengtila_report_clear(totals: *mut [u64; 578]);
+        pub fn hoengtila_report_add(
+            totals: *mut [u64; 578],
+            shape: Shape,
+            residuals: *const i16,
+            residuals_len: usize,
+        ) -> Answer;
     }
 }
 
@@ -466,4 +473,16 @@ pub fn salvage(file: &[u8], out: &mut [u8], list: &mut [u32]) -> Saved {
             list.len(),
         )
     }
+}
+
+/// Makes totals those of no blocks.
+#[inline]
+pub fn report_clear(totals: &mut [u64; 578]) {
+    unsafe { c::hoengtila_report_clear(totals) }
+}
+
+/// Runs a block of residuals, which stand row by row, forward and back, and counts it in the totals.
+#[inline]
+pub fn report_add(totals: &mut [u64; 578], shape: Shape, residuals: &[i16]) -> Answer {
+    unsafe { c::hoengtila_report_add(totals, shape, residuals.as_ptr(), residuals.len()) }
 }

@@ -9,6 +9,7 @@ pub mod file;
 pub mod line;
 pub mod long;
 pub mod picture;
+pub mod report;
 pub mod salvage;
 pub mod small;
 pub mod steps;

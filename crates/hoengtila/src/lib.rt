@@ -1,5 +1,5 @@
 // The library for C and Rust: each public function of `transform`, `long_block`, `wrapping`, `round_trip`, `step_run`, `step_lists`,
-// `picture` and `salvage`, and the one that makes a shape, under the name and with the arguments that include/hoengtila.h declares. A
+// `picture`, `salvage` and `report`, and the one that makes a shape, under the name and with the arguments that include/hoengtila.h declares. A
 // wrapper is one call and has the contract of what it calls; none has a `requires`, so whatever numbers and lengths a caller hands over,
 // the contract says what comes back. Read it beside the header.
 use meaning::Answer;
@@ -27,6 +27,7 @@ ghost use Rattle.steps.specs.Outcome.{Result, runOutcome};
 ghost use Rattle.wrapping.specs.Outcome.{forwardWrapped, inverseWrapped};
 ghost use Rattle.picture.specs.Outcomes.{writeOutcome, readOutcome};
 ghost use Rattle.salvage.specs.Outcomes.{savedOutcome};
+ghost use Rattle.report.specs.Totals.{empty, addOutcome};
 ghost use Rattle.step_lists.specs.Listed.{Handed, listOutcome, lineOutcome};
 
 #[no_mangle]
@@ -208,4 +209,22 @@ pub extern "C" fn hoengtila_salvage(file: &[u8], out: &mut [u8], list: &mut [u32
     ensures { λ r. ⌜ _≡_ {A = Saved × List ℕ × List ℕ} (r, now (out .exit), now (list .exit)) (savedOutcome (now (file .entry)) (now (out .entry)) (now (list .entry))) ⌝ }
 {
     salvage::saving::salvage(file, out, list)
+}
+
+#[no_mangle]
+pub extern "C" fn hoengtila_report_clear(totals: &mut [u64; 578])
+    ensures { λ _. ⌜ now (totals .exit) ≡ empty ⌝ }
+{
+    report::totals::clear(totals);
+}
+
+#[no_mangle]
+pub extern "C" fn hoengtila_report_add(
+    totals: &mut [u64; 578],
+    shape: Shape,
+    residuals: &[i16],
+) -> Answer
+    ensures { λ r. ⌜ _≡_ {A = Answer × List ℕ} (r, now (totals .exit)) (addOutcome (now (totals .entry)) shape (now (residuals .entry))) ⌝ }
+{
+    report::totals::add(totals, shape, residuals)
 }

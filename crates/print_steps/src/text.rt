@@ -1,30 +1,8 @@
-// The text of a list, put into a buffer at a place. Each function returns the place after what it put; past the end of the
-// buffer nothing is put.
+// The text of a list, put into a buffer at a place. Each function returns the place after what it put.
+use plain_text::put;
+use plain_text::put_natural;
+use plain_text::put_word;
 ghost use Prim.Native.Nat.{_≤_};
-
-fn put(byte: u8, text: &mut [u8], at: usize) -> usize {
-    if at < text.len() {
-        text[at] = byte;
-        return at + 1;
-    }
-    at
-}
-
-fn put_word(word: &[u8], text: &mut [u8], at: usize) -> usize {
-    let mut p = at;
-    let mut i = 0;
-    while i < word.len() {
-        p = put(word[i], text, p);
-        i += 1;
-    }
-    p
-}
-
-fn put_natural(n: u64, text: &mut [u8], at: usize) -> usize {
-    let mut digits: [u8; 20] = [0; 20];
-    let count = io::decimal(n, &mut digits);
-    put_word(&digits[..count], text, at)
-}
 
 // The size of a number: `!z` is one less than that of a negative one, and fits where `-z` may not.
 fn size(z: i32) -> u32 {

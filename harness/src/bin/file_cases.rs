@@ -1,9 +1,10 @@
-//! Writes the stored files of the crate `file_cases` with the text that they must print, and the examples.
+//! Writes the stored files of the crates `file_cases` and `print_report` with the text that they must print, and the examples.
 //!
 //! `file_cases ROOT`: the repository's folder, or one to compare it with. The text is the model's. The crate's program runs
 //! the same files and must print it.
 
 use hoengtila_harness::files::{stored, Case};
+use hoengtila_harness::model::report::{add_file, table, NUMBERS};
 use hoengtila_harness::model::run_file;
 use hoengtila_harness::model::salvage::saved_of;
 use std::path::Path;
@@ -20,6 +21,28 @@ const EXAMPLES: [&str; 8] = [
     "broken",
     "saved",
 ];
+
+/// The cases that a report is made of: blocks of several shapes, and one that 9 refuses.
+const REPORTED: [&str; 5] = [
+    "both_directions",
+    "largest_residuals",
+    "shape_replaced",
+    "waves",
+    "09_first",
+];
+
+fn write_report(folder: &Path, cases: &[Case]) -> io::Result<()> {
+    let data = folder.join("data");
+    fs::create_dir_all(&data)?;
+    let mut totals = [0; NUMBERS];
+    for name in REPORTED {
+        let case = cases.iter().find(|case| case.name == name).expect("a case");
+        fs::write(data.join(name), &case.file)?;
+        assert_eq!(add_file(&mut totals, &case.file), None);
+    }
+    fs::write(folder.join("args"), REPORTED.join("\n") + "\n-\n")?;
+    fs::write(folder.join("stdout"), table(&totals))
+}
 
 fn write_cases(folder: &Path, cases: &[Case]) -> io::Result<()> {
     let data = folder.join("data");
@@ -58,5 +81,6 @@ fn main() -> io::Result<()> {
     let root = env::args().nth(1).expect("file_cases ROOT");
     let cases = stored();
     write_cases(&Path::new(&root).join("crates/file_cases"), &cases)?;
+    write_report(&Path::new(&root).join("crates/print_report"), &cases)?;
     write_examples(&Path::new(&root).join("examples"), &cases)
 }

@@ -1,10 +1,10 @@
--- `text::put_word` ends. Assumes nothing.
+-- `put_word` ends. Assumes nothing.
 use mathlib.Core.Path.{_≡_}
 use Prim.Native.Nat.{_-_}
 use lib.ListN.{length}
 use borrow.Author.Needs.{needs}
-use Rattle.print_steps.proofs.text.put_word.Statement.{statement}
-use Rattle.print_steps.proofs.text.put_word.Tie as tie
+use Rattle.plain_text.proofs.put_word.Statement.{statement}
+use Rattle.plain_text.proofs.put_word.Tie as tie
 
 abbrev Inv-loop : tie.InvT-loop
 Inv-loop word text₀ at p₀ i₀ text p i = length text ≡ length text₀

@@ -1,0 +1,11 @@
+pub mod Numbers
+pub mod Back
+pub mod Places
+pub mod Counting
+pub mod Cells
+pub mod Sums
+pub mod Fits
+pub mod Report
+pub mod Limit
+pub mod Order
+pub mod Unique

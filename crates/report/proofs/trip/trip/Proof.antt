@@ -1,0 +1,133 @@
+-- `trip` meets its contract. Assumes nothing.
+use borrow.Author.Needs.{needs}
+use mathlib.Core.Path.{sym, ap, _∙_}
+use denote.Ref.{now}
+use Rattle.meaning.specs.declared.Answer.{Answer}
+use Rattle.report.proofs.Back.{took, part-fit, few, part-long, part-in, largest-is, squares-is}
+use Rattle.report.proofs.trip.trip.Statement.{statement}
+use Rattle.report.proofs.trip.trip.Tie as tie
+
+room-requires : tie.Need-room-requires
+room-requires c κs = search needs
+
+narrow-zeros-requires : tie.Need-narrow-zeros-requires
+narrow-zeros-requires c κs = search needs
+
+wide-zeros-requires : tie.Need-wide-zeros-requires
+wide-zeros-requires c κs = search needs
+
+sub-there-and-back : tie.Need-sub-there-and-back
+sub-there-and-back c = search needs
+
+part-coefficients-start : tie.Need-part-coefficients-start
+part-coefficients-start c = search needs
+
+part-coefficients-end : tie.Need-part-coefficients-end
+part-coefficients-end c = search needs
+
+sub-there-and-back-2 : tie.Need-sub-there-and-back-2
+sub-there-and-back-2 c = search needs
+
+part-back-start : tie.Need-part-back-start
+part-back-start c = search needs
+
+part-back-end : tie.Need-part-back-end
+part-back-end c = search needs
+
+there-and-back-requires : tie.Need-there-and-back-requires
+there-and-back-requires c κs = search needs
+
+returns : tie.Need-returns
+returns c = search needs
+
+sub-largest-difference : tie.Need-sub-largest-difference
+sub-largest-difference c = search needs
+
+part-largest-difference-start : tie.Need-part-largest-difference-start
+part-largest-difference-start c = search needs
+
+part-largest-difference-end : tie.Need-part-largest-difference-end
+part-largest-difference-end c =
+    let s = c .before .before .before .before .before .before .before .before .before .before in
+    let sh = s .args .shape in
+    let r = now (s .args .residuals) in
+    let b = c .before .before .before .before .there-and-back in
+    let z = c .before .if1 .left in
+    let t = took sh r (sym (ap (λ (a : Answer). a .number) (b .ensures .0)) ∙ z) in
+    let n = c .before .before .before .before .before .before .before .before .before .room in
+    part-fit sh r t (n .result) (n .ensures) _ _ (b .ensures .1 z)
+
+largest-difference-requires : tie.Need-largest-difference-requires
+largest-difference-requires c κs =
+    let s = c .before .before .before .before .before .before .before .before .before .before .before in
+    let sh = s .args .shape in
+    let r = now (s .args .residuals) in
+    let b = c .before .before .before .before .before .there-and-back in
+    let z = c .before .before .if1 .left in
+    let t = took sh r (sym (ap (λ (a : Answer). a .number) (b .ensures .0)) ∙ z) in
+    let n = c .before .before .before .before .before .before .before .before .before .before .room in
+    (part-long sh r t (n .result) (n .ensures) _ _ (b .ensures .1 z), part-in sh r t (n .result) (n .ensures) _ _ (b .ensures .1 z))
+
+sub-squared-differences : tie.Need-sub-squared-differences
+sub-squared-differences c = search needs
+
+part-squared-differences-start : tie.Need-part-squared-differences-start
+part-squared-differences-start c = search needs
+
+part-squared-differences-end : tie.Need-part-squared-differences-end
+part-squared-differences-end c =
+    let s = c .before .before .before .before .before .before .before .before .before .before .before .before .before in
+    let sh = s .args .shape in
+    let r = now (s .args .residuals) in
+    let b = c .before .before .before .before .before .before .before .there-and-back in
+    let z = c .before .before .before .before .if1 .left in
+    let t = took sh r (sym (ap (λ (a : Answer). a .number) (b .ensures .0)) ∙ z) in
+    let n = c .before .before .before .before .before .before .before .before .before .before .before .before .room in
+    part-fit sh r t (n .result) (n .ensures) _ _ (b .ensures .1 z)
+
+squared-differences-requires : tie.Need-squared-differences-requires
+squared-differences-requires c κs =
+    let s = c .before .before .before .before .before .before .before .before .before .before .before .before .before .before in
+    let sh = s .args .shape in
+    let r = now (s .args .residuals) in
+    let b = c .before .before .before .before .before .before .before .before .there-and-back in
+    let z = c .before .before .before .before .before .if1 .left in
+    let t = took sh r (sym (ap (λ (a : Answer). a .number) (b .ensures .0)) ∙ z) in
+    let n = c .before .before .before .before .before .before .before .before .before .before .before .before .before .room in
+    (part-long sh r t (n .result) (n .ensures) _ _ (b .ensures .1 z), few sh r t, part-in sh r t (n .result) (n .ensures) _ _ (b .ensures .1 z))
+
+returns-2 : tie.Need-returns-2
+returns-2 c =
+    let s = c .before .before .before .before .before .before .before .before .before .before .before .before .before .before .before in
+    let sh = s .args .shape in
+    let r = now (s .args .residuals) in
+    let b = c .before .before .before .before .before .before .before .before .before .there-and-back in
+    let z = c .before .before .before .before .before .before .if1 .left in
+    let t = took sh r (sym (ap (λ (a : Answer). a .number) (b .ensures .0)) ∙ z) in
+    let n = c .before .before .before .before .before .before .before .before .before .before .before .before .before .before .room in
+    (b .ensures .0, λ _. (c .before .before .before .largest-difference .ensures ∙ largest-is sh r t (n .result) (n .ensures) _ _ (b .ensures .1 z), c .squared-differences .ensures ∙ squares-is sh r t (n .result) (n .ensures) _ _ (b .ensures .1 z)))
+
+pub trip-spec : {M : Type 1} → statement M
+trip-spec =
+    tie.close
+    (tie.spec
+    room-requires
+    narrow-zeros-requires
+    wide-zeros-requires
+    sub-there-and-back
+    part-coefficients-start
+    part-coefficients-end
+    sub-there-and-back-2
+    part-back-start
+    part-back-end
+    there-and-back-requires
+    returns
+    sub-largest-difference
+    part-largest-difference-start
+    part-largest-difference-end
+    largest-difference-requires
+    sub-squared-differences
+    part-squared-differences-start
+    part-squared-differences-end
+    squared-differences-requires
+    returns-2)

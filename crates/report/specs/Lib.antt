@@ -1,0 +1,3 @@
+pub mod Trip
+pub mod Totals
+pub mod Given

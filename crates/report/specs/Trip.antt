@@ -1,0 +1,55 @@
+-- Document 02, Wish 10: "we run .. residual blocks forward and back". One block: the answer to it, and how far what is returned is
+-- from what was given.
+use mathlib.Core.Bool.{not}
+use mathlib.Core.List.{List, [], _∷_, _++_}
+use Prim.Native.Nat.{ℕ, zero, suc, _*_, max}
+use lib.Dec.{eqb, ltb}
+use lib.IntN.{ℤ, natAbs, _-ℤ_}
+use lib.ListN.{length}
+use Rattle.algebra.specs.Sum.{sumℕ}
+use Rattle.algebra.specs.Lists.{at}
+use Rattle.algebra.specs.Refusals.{Refusal, firstOf}
+use Rattle.meaning.specs.declared.Shape.{Shape}
+use Rattle.meaning.specs.declared.Answer.{Answer}
+use Rattle.meaning.specs.Plan.{planOf}
+use Rattle.meaning.specs.Answer.{test, refused, accepted, shapeTests}
+use Rattle.meaning.specs.Inverse.{rails, inverseBlock}
+use Rattle.meaning.specs.Forward.{firstTooLarge, forwardBlock}
+
+abbrev pub area : Shape → ℕ
+area sh = sh .width * sh .height
+
+-- the forward's refusals, without 7: nothing is written that could have another length
+abbrev pub tripTests : Shape → List ℤ → List Refusal
+tripTests sh r =
+    shapeTests sh
+    ++ (test (not (eqb (length r) (area sh))) 6 ∷ record { applies = ltb (firstTooLarge sh r) (length r); number = 9; place = firstTooLarge sh r } ∷ [])
+
+-- "the rail counts": of the way back
+unfoldable pub railCount : Shape → List ℤ → ℕ
+railCount sh r = rails (planOf sh) (forwardBlock sh r)
+
+-- the answer to a block: its refusal, or the rail count
+unfoldable pub tripAnswer : Shape → List ℤ → Answer
+tripAnswer sh r = firstOf (tripTests sh r) refused (accepted (railCount sh r))
+
+-- "returned residual"
+unfoldable pub returned : Shape → List ℤ → List ℤ
+returned sh r = inverseBlock (planOf sh) (forwardBlock sh r)
+
+-- the size of the "difference between input residual and returned residual", at place k
+abbrev pub apart : List ℤ → List ℤ → ℕ → ℕ
+apart r s k = natAbs (at r k -ℤ at s k)
+
+-- the largest of f 0, .., f (n - 1), and 0 of none
+unfoldable pub greatest : ℕ → (ℕ → ℕ) → ℕ
+greatest zero f = 0
+greatest (suc n) f = max (greatest n f) (f n)
+
+-- "the largest difference"
+unfoldable pub largest : Shape → List ℤ → ℕ
+largest sh r = greatest (area sh) (apart r (returned sh r))
+
+-- "the sum of squared differences"
+unfoldable pub squares : Shape → List ℤ → ℕ
+squares sh r = sumℕ (area sh) (λ k. apart r (returned sh r) k * apart r (returned sh r) k)
