@@ -56,10 +56,23 @@ static int compare_forward(hoengtila_shape s, int block) {
     return 0;
 }
 
+/* A row of this shape, in one call and in as many calls. */
+static int compare_row(hoengtila_shape s) {
+    static hoengtila_shape shapes[ROW];
+    static hoengtila_answer one[ROW], each[ROW];
+    size_t area = (size_t)s.width * s.height, count = LARGEST / area < ROW ? LARGEST / area : ROW;
+    for (size_t k = 0; k < count; k++) shapes[k] = s;
+    for (size_t k = 0; k < LARGEST; k++) input[k] = number(32767, 1);
+    if (hoengtila_blocks_inverse(shapes, count, one, input, count * area, output32[0], count * area) != 0) return differ(s, "row", 0);
+    for (size_t k = 0; k < count; k++) each[k] = hoengtila_block_inverse(s, input + k * area, area, output32[1] + k * area, area);
+    if (memcmp(one, each, count * sizeof *one) || memcmp(output32[0], output32[1], count * area * sizeof **output32)) return differ(s, "row", 0);
+    return 0;
+}
+
 static int compare_shape(hoengtila_shape s) {
     for (int block = 0; block < BLOCKS_OF_A_SHAPE; block++, blocks += 2)
         if (compare_inverse(s, block) || compare_forward(s, block)) return 1;
-    return 0;
+    return s.width <= KEPT && s.height <= KEPT && compare_row(s);
 }
 
 static int compare_lines(uint32_t n, uint32_t kind) {

@@ -86,7 +86,7 @@ fn name(what: &What) -> u32 {
     }
 }
 
-fn shape_numbers(shape: &Shape) -> Vec<u32> {
+pub fn shape_numbers(shape: &Shape) -> Vec<u32> {
     vec![
         shape.width,
         shape.height,

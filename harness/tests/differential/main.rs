@@ -9,5 +9,6 @@ mod calls;
 mod lines;
 mod numbers;
 mod refusals;
+mod rows;
 mod steps;
 mod weights;
