@@ -8,6 +8,7 @@ pub mod call;
 pub mod file;
 pub mod line;
 pub mod picture;
+pub mod row;
 pub mod salvage;
 pub mod small;
 pub mod steps;
@@ -19,6 +20,7 @@ pub use call::{Answer, Shape};
 pub use file::{run_file, Cursor, Step};
 pub use line::{forward_line, inverse_line};
 pub use picture::{read_picture, write_picture};
+pub use row::inverse_row;
 pub use small::{forward_4x4, inverse_4x4, Small};
 pub use wrapped::{forward_wrapped, inverse_wrapped};
 

@@ -2,6 +2,7 @@
 
 use crate::call::{Call, Outcome};
 use crate::peer::{Peer, PEER_VARIABLE};
+use crate::row_call::{RowCall, RowOutcome};
 use crate::step_call::{StepCall, StepOutcome};
 
 pub enum Subject {
@@ -41,6 +42,15 @@ impl Subject {
             Subject::Linked => calls.iter().map(run_linked).collect(),
             Subject::Peer(peer) => peer.run(calls),
             Subject::Model => calls.iter().map(Call::by_model).collect(),
+        }
+    }
+
+    pub fn run_row(&mut self, call: &RowCall) -> RowOutcome {
+        match self {
+            #[cfg(hoengtila_linked)]
+            Subject::Linked => call.by_library(),
+            Subject::Peer(peer) => call.through(peer),
+            Subject::Model => call.by_model(),
         }
     }
 

@@ -9,6 +9,7 @@ mod calls;
 mod lines;
 mod numbers;
 mod refusals;
+mod rows;
 mod shapes;
 mod steps;
 mod strays;

@@ -92,9 +92,10 @@ fn wrapped_lines() {
 #[test]
 fn refused_wrapped_lines() {
     let mut c = Comparison::open("lines whose sums wrap, refused for every set of reasons");
-    for (bits, bad) in (0..128).flat_map(|bits| [false, true].map(|bad| (bits, bad))) {
-        for _ in 0..10 {
-            let call = refused(&mut c.random, &Wrong::among(bits), bad);
+    for (bits, bad) in (0..16).flat_map(|bits| [false, true].map(|bad| (bits, bad))) {
+        for _ in 0..80 {
+            let wrong = Wrong::among(&[1, 3, 6, 7], bits);
+            let call = refused(&mut c.random, &wrong, bad);
             c.add(call);
         }
     }
