@@ -11,7 +11,7 @@ const VARIABLE: &str = "HOENGTILA_REPORT";
 
 /// A block as a caller hands it over.
 struct Block {
-    shape: [u32; 5],
+    shape: [u32; 7],
     residuals: Vec<i16>,
 }
 
@@ -19,10 +19,10 @@ struct Block {
 type Outcome = (Vec<u32>, Totals);
 
 fn by_model(totals: &Totals, block: &Block) -> Outcome {
-    let [w, h, k, l, d] = block.shape.map(i64::from);
+    let [w, h, k, l, d, columns, rows] = block.shape.map(i64::from);
     let residuals: Vec<i64> = block.residuals.iter().map(|&z| z.into()).collect();
     let mut then = *totals;
-    let answer = add(&mut then, &Shape::new(w, h, k, l, d), &residuals);
+    let answer = add(&mut then, &Shape::new(w, h, k, l, d).keeping(columns, rows), &residuals);
     let answer = [answer.number, answer.place, answer.rails].map(|n| n as u32);
     (answer.to_vec(), then)
 }
@@ -86,13 +86,15 @@ fn linked(totals: &Totals, block: &Block) -> Option<Outcome> {
     let mut cleared = *totals;
     report_clear(&mut cleared);
     assert_eq!(cleared, [0; NUMBERS]);
-    let [width, height, horizontal, vertical, depth] = block.shape;
+    let [width, height, horizontal, vertical, depth, columns, rows] = block.shape;
     let shape = Shape {
         width,
         height,
         horizontal,
         vertical,
         depth,
+        columns,
+        rows,
     };
     let mut then = *totals;
     let answer = report_add(&mut then, shape, &block.residuals);
@@ -121,8 +123,8 @@ fn block(random: &mut Random) -> Block {
         _ => random.choose(&[4, 8, 16, 32, 4, 8]),
     };
     let kind = |random: &mut Random| match random.below(40) {
-        0 => random.choose(&[0, 3, u32::MAX]),
-        _ => random.choose(&[1, 2]),
+        0 => random.choose(&[3, u32::MAX]),
+        _ => random.choose(&[0, 1, 2]),
     };
     let depth = random.choose(&[8, 9, 10, 11, 12, 12]);
     let depth = if random.once_in(40) {
@@ -130,13 +132,17 @@ fn block(random: &mut Random) -> Block {
     } else {
         depth
     };
-    let shape = [
-        size(random),
-        size(random),
-        kind(random),
-        kind(random),
-        depth,
-    ];
+    let [width, height] = [size(random), size(random)];
+    let [horizontal, vertical] = [kind(random), kind(random)];
+    let most = |kind: u32, n: u32| n.min(if kind == 0 { 32 } else { 16 });
+    let kept = |random: &mut Random, most: u32| match random.below(60) {
+        0 => random.choose(&[0, most.wrapping_add(1), u32::MAX]),
+        1..=19 => random.between(1, i64::from(most.max(1))) as u32,
+        _ => most,
+    };
+    let columns = kept(random, most(horizontal, width));
+    let rows = kept(random, most(vertical, height));
+    let shape = [width, height, horizontal, vertical, depth, columns, rows];
     let area = shape[0].min(64) as usize * shape[1].min(64) as usize;
     let length = if random.once_in(40) {
         random.below(1100)
