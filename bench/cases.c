@@ -8,10 +8,13 @@
 
 enum { DEPTH = 10 };
 
-static int16_t input[LARGEST];
+/* a row is of blocks to 8 by 8 */
+static int16_t input[ROW * 64];
 static int32_t wide[LARGEST];
 static int16_t coefficients[LARGEST];
-static int32_t sums[LARGEST];
+static int32_t sums[ROW * 64];
+static hoengtila_shape shapes[ROW];
+static hoengtila_answer answers[ROW];
 
 typedef hoengtila_answer line_call(uint32_t n, uint32_t kind, const int16_t *x, size_t x_len, int32_t *y, size_t y_len);
 
@@ -34,6 +37,7 @@ static void long_inverse(hoengtila_shape s, const int16_t *numbers, int32_t *res
 static const char *const block_names[] = {"library", "reference", "triple", "rows", "folded", "butterfly", "halves", "long"};
 static inverse_block *const inverses[] = {0, reference_inverse, triple_inverse, rows_inverse, folded_inverse, butterfly_inverse, halves_inverse, long_inverse};
 static forward_block *const forwards[] = {0, reference_forward, triple_forward, rows_forward, folded_forward, butterfly_forward, halves_forward, 0};
+static const char *const row_names[] = {"one-call", "64-calls"};
 static const char *const line_names[] = {"fast", "product"};
 static line_call *const inverse_lines[] = {hoengtila_line_inverse, hoengtila_line_inverse_product};
 static line_call *const forward_lines[] = {hoengtila_line_forward, hoengtila_line_forward_product};
@@ -66,32 +70,39 @@ static int make_blocks(bench_case *cases, int forward) {
     int count = 0;
     for (int s = 0; s < 5; s++)
         for (int f = 0; f < 3; f++)
-            cases[count++] = (bench_case){0, forward, shape_of(sizes[s][0], sizes[s][1], DST_VII), fills[f]};
-    cases[count++] = (bench_case){0, forward, keeping(shape_of(32, 32, DST_VII), 4, 4), "keeps-4x4"};
-    cases[count++] = (bench_case){0, forward, shape_of(16, 16, DCT_VIII), "dct8"};
+            cases[count++] = (bench_case){0, forward, shape_of(sizes[s][0], sizes[s][1], DST_VII), fills[f], 0};
+    cases[count++] = (bench_case){0, forward, keeping(shape_of(32, 32, DST_VII), 4, 4), "keeps-4x4", 0};
+    cases[count++] = (bench_case){0, forward, shape_of(16, 16, DCT_VIII), "dct8", 0};
     for (int s = 0; s < 5; s++)
         for (int f = 0; f < 3; f++)
-            cases[count++] = (bench_case){0, forward, shape_of(sizes[s][0], sizes[s][1], DCT_II), dct2_fills[f]};
+            cases[count++] = (bench_case){0, forward, shape_of(sizes[s][0], sizes[s][1], DCT_II), dct2_fills[f], 0};
     return count;
 }
 
 static int make_lines(bench_case *cases, int forward) {
     int count = 0;
     for (uint32_t n = 4; n <= LONGEST; n *= 2)
-        cases[count++] = (bench_case){1, forward, shape_of(n, 1, DST_VII), "dense"};
+        cases[count++] = (bench_case){1, forward, shape_of(n, 1, DST_VII), "dense", 0};
     for (uint32_t n = 4; n <= LONGEST; n *= 2)
-        cases[count++] = (bench_case){1, forward, shape_of(n, 1, DCT_II), "dct2-dense"};
+        cases[count++] = (bench_case){1, forward, shape_of(n, 1, DCT_II), "dct2-dense", 0};
     return count;
+}
+
+static int make_rows(bench_case *cases) {
+    cases[0] = (bench_case){0, 0, shape_of(4, 4, DST_VII), "dense", 1};
+    cases[1] = (bench_case){0, 0, shape_of(8, 8, DST_VII), "dense", 1};
+    return 2;
 }
 
 int make_cases(bench_case *cases) {
     int count = 0;
     for (int forward = 0; forward < 2; forward++) count += make_blocks(cases + count, forward);
     for (int forward = 0; forward < 2; forward++) count += make_lines(cases + count, forward);
+    count += make_rows(cases + count);
     return count;
 }
 
-int implementations_of(const bench_case *c) { return c->line ? 2 : IMPLEMENTATIONS; }
+int implementations_of(const bench_case *c) { return c->line || c->row ? 2 : IMPLEMENTATIONS; }
 
 static int keeps_the_most(hoengtila_shape s) {
     hoengtila_shape most = hoengtila_shape_of(s.width, s.height, s.horizontal, s.vertical, s.depth);
@@ -109,7 +120,8 @@ int has_shape(int i, int forward, hoengtila_shape s) {
 
 const char *case_name(const bench_case *c, int i, char *name) {
     const char *direction = c->forward ? "forward" : "inverse";
-    if (c->line) sprintf(name, "%s-line %u %s %s", direction, c->shape.width, c->fill, line_names[i]);
+    if (c->row) sprintf(name, "%s-row %ux%u %s %s", direction, c->shape.width, c->shape.height, c->fill, row_names[i]);
+    else if (c->line) sprintf(name, "%s-line %u %s %s", direction, c->shape.width, c->fill, line_names[i]);
     else sprintf(name, "%s %ux%u %s %s", direction, c->shape.width, c->shape.height, c->fill, block_names[i]);
     return name;
 }
@@ -124,13 +136,20 @@ static int filled(const bench_case *c, uint32_t x, uint32_t y) {
 void fill_case(const bench_case *c) {
     uint32_t w = c->shape.width, h = c->shape.height;
     seed_random(1);
-    for (uint32_t k = 0; k < w * h; k++) input[k] = filled(c, k % w, k / w) ? other_than_zero(1023) : 0;
-    widen(c->shape, input);
+    for (uint32_t k = 0; k < (c->row ? ROW : 1) * w * h; k++) input[k] = filled(c, k % w, k / w % h) ? other_than_zero(1023) : 0;
+    for (int k = 0; k < ROW; k++) shapes[k] = c->shape;
+    if (!c->row) widen(c->shape, input);
 }
 
 static void run_line(const bench_case *c, int i) {
     uint32_t n = c->shape.width;
     (c->forward ? forward_lines : inverse_lines)[i](n, c->shape.horizontal, input, n, sums, n);
+}
+
+static void run_row(const bench_case *c, int i) {
+    size_t area = (size_t)c->shape.width * c->shape.height;
+    if (i == 0) hoengtila_blocks_inverse(shapes, ROW, answers, input, ROW * area, sums, ROW * area);
+    else for (size_t k = 0; k < ROW; k++) answers[k] = hoengtila_block_inverse(shapes[k], input + k * area, area, sums + k * area, area);
 }
 
 static void run_library(const bench_case *c) {
@@ -140,7 +159,8 @@ static void run_library(const bench_case *c) {
 }
 
 void run_case(const bench_case *c, int i) {
-    if (c->line) run_line(c, i);
+    if (c->row) run_row(c, i);
+    else if (c->line) run_line(c, i);
     else if (i == 0) run_library(c);
     else if (c->forward) forwards[i](c->shape, input, coefficients);
     else if (inverses[i] == long_inverse) run_long(c->shape, sums);

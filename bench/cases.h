@@ -4,13 +4,14 @@
 
 #include "bench.h"
 
-enum { CASES = 96, IMPLEMENTATIONS = 8 };
+enum { CASES = 96, IMPLEMENTATIONS = 8, ROW = 64 };
 
 typedef struct {
     int line; /* a line of width points, by the fast path and by the full product; otherwise a block */
     int forward;
     hoengtila_shape shape;
     const char *fill;
+    int row; /* 64 inverse blocks of this shape, in one call and in 64 */
 } bench_case;
 
 void prepare(void);

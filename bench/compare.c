@@ -21,9 +21,11 @@ static int16_t number(int most, int block) {
     return other_than_zero(block % 2 ? most : most / 64);
 }
 
+static int is_kept(hoengtila_shape s, uint32_t x, uint32_t y) { return (int)x < columns_of(s) && (int)y < rows_of(s); }
+
 static void fill(hoengtila_shape s, int most, int kept_only, int block) {
     for (uint32_t k = 0; k < s.width * s.height; k++)
-        input[k] = kept_only && ((int)(k % s.width) >= columns_of(s) || (int)(k / s.width) >= rows_of(s)) ? 0 : number(most, block);
+        input[k] = !kept_only || is_kept(s, k % s.width, k / s.width) ? number(most, block) : 0;
 }
 
 static int differ(hoengtila_shape s, const char *direction, int i) {
@@ -58,10 +60,23 @@ static int compare_forward(hoengtila_shape s, int block) {
     return 0;
 }
 
+/* A row of this shape, in one call and in as many calls. */
+static int compare_row(hoengtila_shape s) {
+    static hoengtila_shape shapes[ROW];
+    static hoengtila_answer one[ROW], each[ROW];
+    size_t area = (size_t)s.width * s.height, count = LARGEST / area < ROW ? LARGEST / area : ROW;
+    for (size_t k = 0; k < count; k++) shapes[k] = s;
+    for (uint32_t k = 0; k < count * area; k++) input[k] = is_kept(s, k % s.width, k / s.width % s.height) ? number(32767, 1) : 0;
+    if (hoengtila_blocks_inverse(shapes, count, one, input, count * area, output32[0], count * area) != 0) return differ(s, "row", 0);
+    for (size_t k = 0; k < count; k++) each[k] = hoengtila_block_inverse(s, input + k * area, area, output32[1] + k * area, area);
+    if (memcmp(one, each, count * sizeof *one) || memcmp(output32[0], output32[1], count * area * sizeof **output32)) return differ(s, "row", 0);
+    return 0;
+}
+
 static int compare_shape(hoengtila_shape s) {
     for (int block = 0; block < BLOCKS_OF_A_SHAPE; block++, blocks += 2)
         if (compare_inverse(s, block) || compare_forward(s, block)) return 1;
-    return 0;
+    return compare_row(s);
 }
 
 static int compare_lines(uint32_t n, uint32_t kind) {

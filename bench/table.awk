@@ -4,7 +4,7 @@
 $1 == "skipped" { skipped += $6; next }
 {
     name = $2 " " $3 " " $4
-    if (!(name in known)) { known[name] = 1; line[name] = $2 ~ /-line$/; order[++names] = name }
+    if (!(name in known)) { known[name] = 1; line[name] = $2 ~ /-(line|row)$/; order[++names] = name }
     value[$1, name, $5] = $6
 }
 
@@ -44,6 +44,14 @@ function lines(m,    k, name, head, fast, product) {
     }
 }
 
+function rows(m,    k, name, head, one, calls) {
+    for (k = 1; k <= names; k++) if (line[name = order[k]] && has(m, name, "one-call")) {
+        if (!head++) printf "\n%-22s %10s %10s %14s\n", m, "one call", "64 calls", "64 calls/one"
+        one = value[m, name, "one-call"]; calls = value[m, name, "64-calls"]
+        printf "%-22s %10s %10s %14s\n", name, number(m, one), number(m, calls), ratio(calls, one)
+    }
+}
+
 # The ratio of two numbers of a case, which is to be at least or at most so much.
 function aim(m, name, over, under, bound, limit,    a, b) {
     if (!has(m, name, "library") || !has(m, name, "reference")) return
@@ -77,7 +85,7 @@ END {
     split("16x16 32x32 32x8", large)
     split("4x4 8x8", small)
     split("dense corner one", fill)
-    for (k = 1; k <= measures; k++) if (measure[k] != "skipped") { blocks(measure[k]); lines(measure[k]) }
+    for (k = 1; k <= measures; k++) if (measure[k] != "skipped") { blocks(measure[k]); lines(measure[k]); rows(measure[k]) }
     if (skipped) print "\n" skipped " instructions were left out of the cycles, since llvm-mca does not know them"
     if ("ns" in seen) aims("ns")
     else if ("cycles" in seen) aims("cycles")

@@ -12,8 +12,9 @@
  *   4  the vertical kind is not 0, 1 or 2
  *   5  the depth is outside 8..12 (long numbers with the switch on: 8..16)
  *  20  the kept columns or the kept rows are 0, or more than hoengtila_shape_of gives
- *   6  the input's length is not width * height (line: n)
- *   7  the output's length is not width * height (line: n; writing a picture: it is too short)
+ *  16  a row of blocks: there are more than 64
+ *   6  the input's length is not width * height (line: n; row of blocks: the sum of theirs)
+ *   7  the output's length is not width * height (line: n; row of blocks: the sum of theirs; writing a picture: it is too short)
  *   8  inverse block: a coefficient other than 0 outside the kept part, which is the first `columns` columns and the
  *      first `rows` rows of the shape; place of the first
  *   9  forward block: a residual of size above 2^depth - 1; place of the first
@@ -46,6 +47,7 @@
 
 #include <stddef.h>
 #include <stdint.h>
+#include <string.h>
 
 #ifdef __cplusplus
 extern "C" {
@@ -122,6 +124,30 @@ hoengtila_answer hoengtila_block_forward(hoengtila_shape shape, const int16_t *r
  * 5 + R - depth: with the switch on R is max(15, min(20, depth + 6)), with it off 15. Refusals: 1 to 5, 20, 6, 7, 8, then 27. With
  * the switch off and numbers of 16 bits it is hoengtila_block_inverse. */
 hoengtila_answer hoengtila_block_inverse_long(hoengtila_shape shape, uint32_t extended, const int32_t *coefficients, size_t coefficients_len, int32_t *residuals, size_t residuals_len);
+
+/* A row of blocks in one call: up to 64 inverse blocks, with one buffer of all coefficients and one of all residuals, in which
+ * the blocks lie one after the other. Block k is handed its own stretch of both, and answers[k] is what hoengtila_block_inverse
+ * hands back there; places are those in the block. A block that is refused keeps its stretch of the output, and the others go
+ * on. A shape that 1 or 2 refuses has no stretch; one that another number refuses has its width * height.
+ * The whole call refuses 16, then 6 and 7 where a buffer is not as long as the stretches together; then no answer is written and
+ * the output holds what it held. It hands back its number.
+ * `shapes` points to 64 shapes, of which the first `count` are read, and `answers` to 64 answers, of which the first `count` are
+ * written. */
+uint32_t hoengtila_block_row(const hoengtila_shape *shapes, size_t count, hoengtila_answer *answers, const int16_t *coefficients, size_t coefficients_len, int32_t *residuals, size_t residuals_len);
+
+/* The same with arrays of `count` shapes and `count` answers. */
+static inline uint32_t hoengtila_blocks_inverse(const hoengtila_shape *shapes, size_t count, hoengtila_answer *answers, const int16_t *coefficients, size_t coefficients_len, int32_t *residuals, size_t residuals_len) {
+    hoengtila_shape list[64];
+    hoengtila_answer told[64];
+    uint32_t number;
+    if (count >= 64) return hoengtila_block_row(shapes, count, answers, coefficients, coefficients_len, residuals, residuals_len);
+    memset(list, 0, sizeof list);
+    memset(told, 0, sizeof told);
+    if (count != 0) memcpy(list, shapes, count * sizeof *list);
+    number = hoengtila_block_row(list, count, told, coefficients, coefficients_len, residuals, residuals_len);
+    if (number == 0 && count != 0) memcpy(answers, told, count * sizeof *told);
+    return number;
+}
 
 /* Lists of steps: a run works on numbered cells. The inputs stand in the first cells; each step writes one cell; `outs` names
  * the cells of the outputs. `steps` has four numbers to a step: the operation, the cell that it writes, the cell that it reads,

@@ -5,9 +5,11 @@
 
 #include <stdio.h>
 #include <stdlib.h>
+#include <string.h>
 
 enum { MOST = 4096 };
 enum { WEIGHT, LINE_FORWARD, LINE_INVERSE, LINE_FORWARD_PRODUCT, LINE_INVERSE_PRODUCT, BLOCK_INVERSE, BLOCK_FORWARD, SHAPE_OF };
+enum { BLOCK_ROW = 500 };
 enum { STEPS_RUN = 600, STEPS_LIST, STEPS_FORWARD };
 enum { WRAPPED_FORWARD = 900, WRAPPED_INVERSE };
 enum { STRAY = 1300 };
@@ -15,6 +17,9 @@ enum { BLOCK_INVERSE_LONG = 1400 };
 
 /* more numbers than 2,048 steps have */
 enum { MOST_STEPS = 8448 };
+
+/* more blocks than a row may have, and more numbers than they have */
+enum { MOST_BLOCKS = 128, MOST_ROW = 70000 };
 
 /* an output has one number more than the library is told of, which is to stay as it is */
 enum { BEYOND = 0x5A5A };
@@ -25,6 +30,10 @@ static int16_t out16[MOST + 1];
 static int32_t out32[MOST + 1];
 static int32_t steps32[MOST_STEPS + 1];
 static int32_t outs32[MOST + 1];
+static hoengtila_shape shapes[MOST_BLOCKS];
+static hoengtila_answer answers[MOST_BLOCKS + 1];
+static int16_t row16[MOST_ROW];
+static int32_t row32[2][MOST_ROW + 1];
 
 static void get(void *to, size_t size, size_t count) {
     if (fread(to, size, count, stdin) != count) exit(1);
@@ -155,6 +164,45 @@ static void block_inverse_long(void) {
     put(out32, sizeof *out32, out);
 }
 
+static uint32_t at_most(uint32_t most) {
+    uint32_t n = number();
+    if (n > most) exit(2);
+    return n;
+}
+
+/* The row of 64 shapes and 64 answers gives what the row of `count` gave, and leaves the answers from `count` on. */
+static void row_of_64(uint32_t count, uint32_t row_number, uint32_t in, uint32_t out) {
+    hoengtila_answer told[64], before[64];
+    uint32_t k, n = row_number == 0 ? count : 0;
+    for (k = 0; k < 64; k++) before[k].number = before[k].place = before[k].rails = BEYOND + k;
+    memcpy(told, before, sizeof told);
+    if (hoengtila_block_row(shapes, count, told, row16, in, row32[1], out) != row_number) exit(4);
+    if (memcmp(row32[0], row32[1], out * sizeof **row32)) exit(4);
+    if (memcmp(told, answers, n * sizeof *told)) exit(4);
+    if (memcmp(told + n, before + n, (64 - n) * sizeof *told)) exit(4);
+}
+
+static void row(void) {
+    uint32_t count = at_most(MOST_BLOCKS), given = at_most(MOST_BLOCKS), in = at_most(MOST_ROW), out = at_most(MOST_ROW), k, n;
+    for (k = 0; k < count; k++) shapes[k] = shape();
+    for (k = 0; k < given; k++) {
+        answers[k].number = number();
+        answers[k].place = number();
+        answers[k].rails = number();
+    }
+    get(row16, sizeof *row16, in);
+    get(row32[0], sizeof **row32, out);
+    memcpy(row32[1], row32[0], out * sizeof **row32);
+    row32[0][out] = row32[1][out] = BEYOND;
+    answers[given].number = BEYOND;
+    n = hoengtila_blocks_inverse(shapes, count, answers, row16, in, row32[0], out);
+    row_of_64(count, n, in, out);
+    if (row32[0][out] != BEYOND || row32[1][out] != BEYOND || answers[given].number != BEYOND) exit(3);
+    put(&n, sizeof n, 1);
+    for (k = 0; k < given; k++) put_answer(answers[k]);
+    put(row32[0], sizeof **row32, out);
+}
+
 static uint32_t steps_length(void) {
     uint32_t n = number();
     if (n > MOST_STEPS) exit(2);
@@ -212,6 +260,7 @@ int main(void) {
         else if (call == SHAPE_OF) shape_of();
         else if (call == STRAY) stray();
         else if (call == BLOCK_INVERSE_LONG) block_inverse_long();
+        else if (call == BLOCK_ROW) row();
         else if (call == STEPS_RUN) steps_run();
         else if (call == STEPS_LIST) steps_list();
         else if (call == STEPS_FORWARD) steps_forward();

@@ -211,6 +211,16 @@ impl From<Shape> for model::Shape {
     }
 }
 
+impl From<Answer> for model::Answer {
+    fn from(answer: Answer) -> model::Answer {
+        model::Answer {
+            number: answer.number.into(),
+            place: answer.place.into(),
+            rails: answer.rails.into(),
+        }
+    }
+}
+
 impl From<model::Answer> for Answer {
     fn from(answer: model::Answer) -> Answer {
         let number = |z: i64| u32::try_from(z).expect("an answer's number is of 32 bits");

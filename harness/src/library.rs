@@ -7,7 +7,7 @@
 /// What a block is: its sides, a kind for each direction (0 DCT-II, 1 DST-VII, 2 DCT-VIII), its bit depth, and how many
 /// columns and rows are kept.
 #[repr(C)]
-#[derive(Clone, Copy, Debug, PartialEq, Eq)]
+#[derive(Clone, Copy, Debug, Default, PartialEq, Eq)]
 pub struct Shape {
     pub width: u32,
     pub height: u32,
@@ -37,7 +37,7 @@ impl Shape {
 
 /// What a call hands back beside its output: the number of the refusal or 0, its place, and the rail count.
 #[repr(C)]
-#[derive(Clone, Copy, Debug, PartialEq, Eq)]
+#[derive(Clone, Copy, Debug, Default, PartialEq, Eq)]
 pub struct Answer {
     pub number: u32,
     pub place: u32,
@@ -181,6 +181,15 @@ mod c {
             coefficients: *mut i16,
             coefficients_len: usize,
         ) -> Answer;
+        pub fn hoengtila_block_row(
+            shapes: *const Shape,
+            count: usize,
+            answers: *mut Answer,
+            coefficients: *const i16,
+            coefficients_len: usize,
+            residuals: *mut i32,
+            residuals_len: usize,
+        ) -> u32;
         pub fn hoengtila_steps_run(
             inputs: u32,
             cells: u32,
@@ -381,6 +390,53 @@ pub fn block_forward(shape: Shape, residuals: &[i16], coefficients: &mut [i16]) 
             output.len(),
         )
     }
+}
+
+/// The residuals of a row of blocks, of which the first `count` shapes tell; an answer for each of them, or the number of
+/// the whole call's refusal.
+#[inline]
+pub fn block_row(
+    shapes: &[Shape; 64],
+    count: usize,
+    answers: &mut [Answer; 64],
+    coefficients: &[i16],
+    residuals: &mut [i32],
+) -> u32 {
+    let (input, output) = (coefficients, residuals);
+    unsafe {
+        c::hoengtila_block_row(
+            shapes.as_ptr(),
+            count,
+            answers.as_mut_ptr(),
+            input.as_ptr(),
+            input.len(),
+            output.as_mut_ptr(),
+            output.len(),
+        )
+    }
+}
+
+/// The same of as many blocks as there are shapes, and an answer for each, as far as there is room for answers.
+#[inline]
+pub fn blocks_inverse(
+    shapes: &[Shape],
+    answers: &mut [Answer],
+    coefficients: &[i16],
+    residuals: &mut [i32],
+) -> u32 {
+    let count = shapes.len();
+    let mut list = [Shape::default(); 64];
+    for (to, from) in list.iter_mut().zip(shapes) {
+        *to = *from;
+    }
+    let mut told = [Answer::default(); 64];
+    let number = block_row(&list, count, &mut told, coefficients, residuals);
+    if number == 0 {
+        for (to, from) in answers.iter_mut().zip(&told[..count]) {
+            *to = *from;
+        }
+    }
+    number
 }
 
 /// Runs a list of steps on `x`: four numbers to a step in `steps`, the output cells in `outs`.

@@ -10,6 +10,7 @@ pub mod line;
 pub mod long;
 pub mod picture;
 pub mod report;
+pub mod row;
 pub mod salvage;
 pub mod small;
 pub mod steps;
@@ -22,6 +23,7 @@ pub use file::{run_file, Cursor, Step};
 pub use line::{forward_line, inverse_line};
 pub use long::inverse_long;
 pub use picture::{read_picture, write_picture};
+pub use row::inverse_row;
 pub use small::{forward_4x4, inverse_4x4, Small};
 pub use wrapped::{forward_wrapped, inverse_wrapped};
 

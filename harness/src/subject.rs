@@ -3,6 +3,7 @@
 use crate::call::{Call, Outcome};
 use crate::long_call::LongCall;
 use crate::peer::{Peer, PEER_VARIABLE};
+use crate::row_call::{RowCall, RowOutcome};
 use crate::step_call::{StepCall, StepOutcome};
 
 pub enum Subject {
@@ -46,6 +47,15 @@ impl Subject {
     }
 
     pub fn run_long(&mut self, call: &LongCall) -> Outcome {
+        match self {
+            #[cfg(hoengtila_linked)]
+            Subject::Linked => call.by_library(),
+            Subject::Peer(peer) => call.through(peer),
+            Subject::Model => call.by_model(),
+        }
+    }
+
+    pub fn run_row(&mut self, call: &RowCall) -> RowOutcome {
         match self {
             #[cfg(hoengtila_linked)]
             Subject::Linked => call.by_library(),

@@ -1,7 +1,7 @@
-// The library for C and Rust: each public function of `transform`, `long_block`, `wrapping`, `round_trip`, `step_run`, `step_lists`,
-// `picture`, `salvage` and `report`, and the one that makes a shape, under the name and with the arguments that include/hoengtila.h declares. A
-// wrapper is one call and has the contract of what it calls; none has a `requires`, so whatever numbers and lengths a caller hands over,
-// the contract says what comes back. Read it beside the header.
+// The library for C and Rust: each public function of `transform`, `long_block`, `wrapping`, `block_row`, `round_trip`, `report`,
+// `step_run`, `step_lists`, `picture` and `salvage`, and the one that makes a shape, under the name and with the arguments that
+// include/hoengtila.h declares. A wrapper is one call and has the contract of what it calls; none has a `requires`, so whatever
+// numbers and lengths a caller hands over, the contract says what comes back. Read it beside the header.
 use meaning::Answer;
 use meaning::Shape;
 use picture::read::Picture;
@@ -22,6 +22,8 @@ ghost use Rattle.meaning.specs.Long.{longOutcome};
 ghost use Rattle.meaning.specs.Forward.{forwardOutcome};
 ghost use Rattle.transform.specs.Line.{weightOrZero};
 ghost use Rattle.round_trip.specs.RoundTrip.{strayOrZero};
+ghost use Rattle.block_row.specs.Numbers.{shapesOf};
+ghost use Rattle.block_row.specs.Row.{RowOutcome, rowOutcome};
 ghost use Rattle.steps.specs.Numbers.{listOf};
 ghost use Rattle.steps.specs.Outcome.{Result, runOutcome};
 ghost use Rattle.wrapping.specs.Outcome.{forwardWrapped, inverseWrapped};
@@ -155,6 +157,19 @@ pub extern "C" fn hoengtila_block_forward(
     ensures { λ r. ⌜ _≡_ {A = Outcome} (r, now (coefficients .exit)) (forwardOutcome shape (now (residuals .entry)) (now (coefficients .entry))) ⌝ }
 {
     transform::block::forward(shape, residuals, coefficients)
+}
+
+#[no_mangle]
+pub extern "C" fn hoengtila_block_row(
+    shapes: &[u32; 448],
+    count: usize,
+    answers: &mut [u32; 192],
+    coefficients: &[i16],
+    residuals: &mut [i32],
+) -> u32
+    ensures { λ r. ⌜ _≡_ {A = RowOutcome} (r, (now (answers .exit), now (residuals .exit))) (rowOutcome (shapesOf count (now (shapes .entry))) (now (answers .entry)) (now (coefficients .entry)) (now (residuals .entry))) ⌝ }
+{
+    block_row::row::row(shapes, count, answers, coefficients, residuals)
 }
 
 #[no_mangle]

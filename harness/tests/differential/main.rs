@@ -10,6 +10,7 @@ mod lines;
 mod long;
 mod numbers;
 mod refusals;
+mod rows;
 mod shapes;
 mod steps;
 mod strays;

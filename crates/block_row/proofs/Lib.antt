@@ -1,0 +1,9 @@
+mod Areas
+mod Listed
+mod Lengths
+mod Passed
+mod Made
+mod Answers
+pub mod OneByOne
+pub mod NearExact
+pub mod Unique

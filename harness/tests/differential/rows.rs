@@ -1,0 +1,294 @@
+//! Rows of blocks in one call: rows of good blocks, refused ones among them, and every refusal of the whole call.
+
+use crate::calls::{shapes, SIZES};
+use hoengtila_harness::call::{most_kept, shape_numbers, Call, What};
+use hoengtila_harness::library::{Answer, Shape};
+use hoengtila_harness::model;
+use hoengtila_harness::patterns::{clear_outside, keeping_any};
+use hoengtila_harness::random::{seed, Random, SEED_VARIABLE};
+use hoengtila_harness::row_call::{RowCall, RowOutcome};
+use hoengtila_harness::subject::Subject;
+use hoengtila_harness::wrong::{NO_DEPTH, NO_KIND, NO_SIZE};
+use std::collections::BTreeMap;
+use std::time::Instant;
+
+/// What one test compares, with the count of it.
+struct Rows {
+    random: Random,
+    subject: Subject,
+    title: &'static str,
+    calls: usize,
+    numbers: usize,
+    /// how often each number was handed back, of the whole call and of a block
+    met: BTreeMap<u32, usize>,
+    met_of_blocks: BTreeMap<u32, usize>,
+    started: Instant,
+}
+
+impl Rows {
+    fn open(title: &'static str) -> Rows {
+        Rows {
+            random: Random::new(seed()),
+            subject: Subject::open().expect("no library is linked and no peer is named"),
+            title,
+            calls: 0,
+            numbers: 0,
+            met: BTreeMap::new(),
+            met_of_blocks: BTreeMap::new(),
+            started: Instant::now(),
+        }
+    }
+
+    fn compare(&mut self, call: &RowCall) -> RowOutcome {
+        let (wanted, found) = (call.by_model(), self.subject.run_row(call));
+        assert!(
+            wanted == found,
+            "{}: {call:?}: {found:?} and not {wanted:?}\n{SEED_VARIABLE}={}",
+            self.title,
+            seed()
+        );
+        self.calls += 1;
+        self.numbers += found.output.len();
+        *self.met.entry(found.number).or_default() += 1;
+        if found.number == 0 {
+            for answer in &found.answers[..call.shapes.len()] {
+                *self.met_of_blocks.entry(answer.number).or_default() += 1;
+            }
+        }
+        found
+    }
+
+    /// "It equals the calls made one by one in order", each on its own stretch.
+    fn compare_with_single_calls(&mut self, call: &RowCall, found: &RowOutcome) {
+        let mut start = 0;
+        let mut single = |shape: &Shape| {
+            let own = start..start + stretch(shape);
+            start = own.end;
+            Call {
+                what: What::Inverse(*shape),
+                order: vec![],
+                input: call.input[own.clone()].to_vec(),
+                held: call.held[own].to_vec(),
+            }
+        };
+        let calls: Vec<Call> = call.shapes.iter().map(&mut single).collect();
+        let outcomes = self.subject.run(&calls);
+        let answers: Vec<Answer> = outcomes.iter().map(|o| o.answer).collect();
+        assert_eq!(answers, found.answers[..calls.len()]);
+        let outputs: Vec<i32> = outcomes.into_iter().flat_map(|o| o.output).collect();
+        assert_eq!(outputs, found.output);
+    }
+
+    /// Says how much there was, and that each of these numbers was met.
+    fn close(self, numbers: &[u32], of_blocks: &[u32]) {
+        eprintln!(
+            "compared: {}: {} numbers in {} calls, {:.1} s ({}, {SEED_VARIABLE}={})",
+            self.title,
+            self.numbers,
+            self.calls,
+            self.started.elapsed().as_secs_f64(),
+            self.subject.name(),
+            seed()
+        );
+        assert_eq!(self.met.into_keys().collect::<Vec<_>>(), numbers);
+        assert_eq!(
+            self.met_of_blocks.into_keys().collect::<Vec<_>>(),
+            of_blocks
+        );
+    }
+}
+
+/// How long a block's stretch is.
+fn stretch(shape: &Shape) -> usize {
+    model::row::stretch(&(*shape).into())
+}
+
+fn sum(shapes: &[Shape]) -> usize {
+    shapes.iter().map(stretch).sum()
+}
+
+/// Any shape of sides to `most`: every other one keeps the most, the others any part.
+fn good(random: &mut Random, most: u32) -> Shape {
+    let small: Vec<Shape> = shapes()
+        .into_iter()
+        .filter(|s| s.width <= most && s.height <= most)
+        .collect();
+    let shape = random.choose(&small);
+    match random.once_in(2) {
+        true => keeping_any(random, &shape),
+        false => shape,
+    }
+}
+
+/// A kept number that is none, where so many are the most.
+fn none_kept(random: &mut Random, most: u32) -> u32 {
+    random.choose(&[0, most + 1, 33, u32::MAX])
+}
+
+/// The same with one number that is none, or with two.
+fn spoiled(random: &mut Random, mut shape: Shape) -> Shape {
+    for _ in 0..=random.below(2) {
+        let [width, height, horizontal, vertical, depth, ..] = shape_numbers(&shape);
+        let most = most_kept([width, height, horizontal, vertical, depth]);
+        match random.below(7) {
+            0 => shape.width = random.choose(&NO_SIZE) as u32,
+            1 => shape.height = random.choose(&NO_SIZE) as u32,
+            2 => shape.horizontal = random.choose(&NO_KIND) as u32,
+            3 => shape.vertical = random.choose(&NO_KIND) as u32,
+            4 => shape.depth = random.choose(&NO_DEPTH) as u32,
+            5 => shape.columns = none_kept(random, most.columns),
+            _ => shape.rows = none_kept(random, most.rows),
+        }
+    }
+    shape
+}
+
+/// Coefficients of a block that is accepted: small ones, or such that values between the stages are clipped.
+fn coefficients(random: &mut Random, shape: &Shape) -> Vec<i16> {
+    let most = random.choose(&[255, 32767]);
+    let mut numbers = random.numbers(stretch(shape), -most - 1, most);
+    if !numbers.is_empty() {
+        clear_outside(shape, &mut numbers);
+    }
+    numbers.into_iter().map(|z| z as i16).collect()
+}
+
+/// The row of these shapes with these numbers, and random ones in its answers, of which there are some more, and its output.
+fn row_of(random: &mut Random, shapes: Vec<Shape>, input: Vec<i16>, output: usize) -> RowCall {
+    let mut any = || random.bits() as u32;
+    let answer = |_| Answer {
+        number: any(),
+        place: any(),
+        rails: any(),
+    };
+    let answers = (0..shapes.len() + 2).map(answer).collect();
+    let held = (0..output).map(|_| random.bits() as i32).collect();
+    RowCall {
+        shapes,
+        answers,
+        input,
+        held,
+    }
+}
+
+fn row(random: &mut Random, shapes: Vec<Shape>) -> RowCall {
+    let input: Vec<i16> = shapes
+        .iter()
+        .flat_map(|s| coefficients(random, s))
+        .collect();
+    let output = input.len();
+    row_of(random, shapes, input, output)
+}
+
+/// Rows of every count, of blocks of any size; and the row of 64 of the largest.
+#[test]
+fn good_rows() {
+    let mut c = Rows::open("rows of blocks that are accepted");
+    for (count, most) in (0..=64).flat_map(|count| [(count, 8), (count, 32)]) {
+        let shapes = (0..count).map(|_| good(&mut c.random, most)).collect();
+        let call = row(&mut c.random, shapes);
+        let found = c.compare(&call);
+        c.compare_with_single_calls(&call, &found);
+    }
+    let largest = shapes()
+        .into_iter()
+        .find(|s| s.width == 32 && s.height == 32);
+    let call = row(
+        &mut c.random,
+        vec![largest.expect("32 by 32 is a shape"); 64],
+    );
+    c.compare(&call);
+    c.close(&[0], &[0]);
+}
+
+/// Refused blocks among good ones, for each reason that a block can meet in a row: they keep their stretch, and the others
+/// go on.
+#[test]
+fn refused_blocks_among_good_ones() {
+    let mut c = Rows::open("rows with blocks that are refused");
+    for _ in 0..400 {
+        let count = c.random.between(1, 64) as usize;
+        let often = c.random.choose(&[1, 2, 8]);
+        let random = &mut c.random;
+        let mut some = || {
+            let most = random.choose(&SIZES);
+            let shape = good(random, most);
+            match random.once_in(often) {
+                true => spoiled(random, shape),
+                false => shape,
+            }
+        };
+        let shapes: Vec<Shape> = (0..count).map(|_| some()).collect();
+        let mut call = row(&mut c.random, shapes);
+        // 8: numbers anywhere, some of them outside a kept part
+        for _ in 0..c.random.below(4).min(call.input.len()) {
+            let place = c.random.below(call.input.len());
+            call.input[place] = c.random.choose(&[1, -1, 32767, -32768]);
+        }
+        let found = c.compare(&call);
+        c.compare_with_single_calls(&call, &found);
+    }
+    c.close(&[0], &[0, 1, 2, 3, 4, 5, 8, 20]);
+}
+
+/// Buffers that are shorter or longer than the sum, and one that would fit if shapes that 1 or 2 refuses counted.
+#[test]
+fn wrong_sums() {
+    let mut c = Rows::open("rows with buffers of other lengths");
+    for _ in 0..4000 {
+        let random = &mut c.random;
+        let count = random.choose(&[0, 1, 2, 3, 7]);
+        let mut any = || {
+            let shape = good(random, 8);
+            match random.once_in(3) {
+                true => spoiled(random, shape),
+                false => shape,
+            }
+        };
+        let shapes: Vec<Shape> = (0..count).map(|_| any()).collect();
+        let right = sum(&shapes);
+        let whole: u64 = shapes
+            .iter()
+            .map(|s| u64::from(s.width) * u64::from(s.height))
+            .sum();
+        let lengths = [
+            right,
+            right + 1,
+            right.saturating_sub(1),
+            0,
+            2 * right,
+            right + 16,
+            whole.min(5000) as usize,
+        ];
+        let input = match random.once_in(2) {
+            true => right,
+            false => random.choose(&lengths),
+        };
+        let output = random.choose(&lengths);
+        let input = random
+            .numbers(input, -300, 300)
+            .iter()
+            .map(|z| *z as i16)
+            .collect();
+        let call = row_of(random, shapes, input, output);
+        c.compare(&call);
+    }
+    c.close(&[0, 6, 7], &[0, 1, 2, 3, 4, 5, 8, 20]);
+}
+
+/// 16 before everything else: 64 blocks and more, with the right lengths and with others.
+#[test]
+fn too_many_blocks() {
+    let mut c = Rows::open("rows of 64 blocks and more");
+    for count in [63, 64, 65, 66, 100, 126] {
+        for (input, output) in [(0, 0), (1, 0), (0, 1), (1, 1)] {
+            let shapes: Vec<Shape> = (0..count).map(|_| good(&mut c.random, 4)).collect();
+            let right = sum(&shapes);
+            let numbers = c.random.numbers(right + input, -300, 300);
+            let numbers = numbers.iter().map(|z| *z as i16).collect();
+            let call = row_of(&mut c.random, shapes, numbers, right + output);
+            c.compare(&call);
+        }
+    }
+    c.close(&[0, 6, 7, 16], &[0, 8]);
+}
