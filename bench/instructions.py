@@ -9,10 +9,10 @@ import sys
 LANES = {"pmullw": 4, "pmulhw": 4, "pmulhuw": 4, "pmaddwd": 8, "pmuludq": 2, "pmulld": 4}
 
 
-def listing(program):
+def listing(program, *words):
     """An objdump reads the programs of its own machine, and often no others."""
     for tool in filter(shutil.which, ("objdump", "x86_64-linux-gnu-objdump")):
-        ran = subprocess.run([tool, "-d", "--no-show-raw-insn", program], capture_output=True, text=True)
+        ran = subprocess.run([tool, "-d", "--no-show-raw-insn", *words, program], capture_output=True, text=True)
         if ran.returncode == 0:
             return ran.stdout.splitlines()
     sys.exit("bench: there is no objdump here that reads " + program)

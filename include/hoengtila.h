@@ -3,44 +3,42 @@
  * Every function takes any numbers and any lengths. What the caller owes: each pointer points to as many elements as the
  * length after it says (a length of 0 takes any pointer that is not null), and totals to 578; no output overlaps an input.
  *
- * A call that is turned down hands back one of these numbers, the first that applies; its output holds what it held, its
- * rail count is 0, and its place is 0 but for 8, 9 and 27. An accepted call hands back number 0 and place 0.
+ * A call that is turned down hands back one of the numbers below, the first that applies in the order that stands beside the
+ * function. Its outputs hold what they held and the other numbers that it hands back are 0, where nothing else is said; but 8, 9
+ * and 27 have the place of the first number that they refuse, column + row * width. A call that is taken hands back number 0 and
+ * place 0.
  *
- *   1  the width, or a line's length, is not 4, 8, 16 or 32
+ *   1  the width, or a line's length, is not 4, 8, 16 or 32; steps: there is no list of n points
  *   2  the height is not one of those
  *   3  the horizontal kind, or a line's kind, is not 0 (DCT-II), 1 (DST-VII) or 2 (DCT-VIII)
  *   4  the vertical kind is not 0, 1 or 2
- *   5  the depth is outside 8..12 (long numbers with the switch on: 8..16)
+ *   5  the depth is outside 8..12, or 8..16 for long numbers with the switch on
+ *   6  the input has another length than the call takes
+ *   7  the output has another length than the call gives, or is too short
+ *   8  inverse block: a coefficient other than 0 outside the kept part, which is the first `columns` columns and the first `rows` rows
+ *   9  forward block: a residual of size above 2^depth - 1
+ *  10  block file: a field's header or body is cut short
+ *  11  block file: a tag that is none
+ *  12  block file: a shape, or kept numbers, of another length than theirs
+ *  13  block file: data, or kept numbers, before any shape
+ *  14  block file: more than 65,536 bytes
+ *  16  row of blocks: more than 64
+ *  17  steps: a cell is read that was not written
+ *  18  steps: more than 2,048 steps or cells
  *  20  the kept columns or the kept rows are 0, or more than hoengtila_shape_of gives
- *  16  a row of blocks: there are more than 64
- *   6  the input's length is not width * height (line: n; row of blocks: the sum of theirs)
- *   7  the output's length is not width * height (line: n; row of blocks: the sum of theirs; writing a picture: it is too short)
- *   8  inverse block: a coefficient other than 0 outside the kept part, which is the first `columns` columns and the
- *      first `rows` rows of the shape; place of the first
- *   9  forward block: a residual of size above 2^depth - 1; place of the first
- *  27  inverse block of long numbers: a coefficient outside the range; place of the first
  *  21  a line whose sums wrap: the order is not each of 0..n-1 once
- *  22  adding to a report: 65,536 blocks were given before
+ *  22  totals: 65,536 blocks were given before
  *  23  writing a picture: a residual outside -32768..32767
  *  24  reading a picture: the header is not that of such a graymap, or has sizes that 1 or 2 would refuse
  *  25  reading a picture: too few or too many samples
+ *  26  saving a broken file: more than 1,024 dropped stretches
+ *  27  long numbers: a coefficient outside the range
+ *  28  steps: a cell outside the list's number of cells, or more inputs than cells
+ *  29  steps: the result of a step is outside 32 bits
  *
- * Saving a broken block file has these, in this order, with bytes and stretches 0:
+ * 10 to 13 are met by the programs that read block files (`blocks`), and by no function here.
  *
- *  14  the file has more than 65,536 bytes
- *   7  the output is shorter than the file, or the list has fewer than 2,048 numbers
- *  26  more than 1,024 dropped stretches
- *
- * Lists of steps have these, in this order, with count 0:
- *
- *   1  there is no list of n points: n is not 4, 16 or 32
- *  18  more than 2,048 steps or cells
- *   6  the input's length is not the list's number of inputs
- *   7  the output's length is not the list's number of output cells
- *  28  more inputs than cells; then at the first step that meets one, and after the last step at the first output cell:
- *  28  a cell outside the list's number of cells
- *  17  a cell is read that was not written
- *  29  the result of a step is outside 32 bits
+ * In this order: shapes and answers; lines; blocks; rows of blocks and long numbers; totals; pictures; broken files; steps.
  */
 #ifndef HOENGTILA_H
 #define HOENGTILA_H
@@ -52,6 +50,8 @@
 #ifdef __cplusplus
 extern "C" {
 #endif
+
+/* ---- Shapes and answers ---- */
 
 /* Seven numbers. hoengtila_shape_of fills the last two from the first five; a struct that is written by hand needs them, since
  * where they are left 0 every call refuses it with 20. */
@@ -65,72 +65,58 @@ typedef struct {
     uint32_t rows;       /* kept rows: at least 1, at most min(height, 16), or min(height, 32) where vertical is 0 */
 } hoengtila_shape;
 
+/* What a line or a block hands back. */
 typedef struct {
     uint32_t number; /* 0, or the number of the refusal */
     uint32_t place;  /* of the number that 8, 9 or 27 refuses: column + row * width */
     uint32_t rails;  /* inverse block: values between the stages that the clip altered */
 } hoengtila_answer;
 
-typedef struct {
-    uint32_t number; /* 0, or the number of the refusal */
-    uint32_t bytes;  /* how long the picture is, from the start of the output; 0 where refused */
-} hoengtila_written;
-
-typedef struct {
-    uint32_t number; /* 0, or the number of the refusal */
-    uint32_t width;  /* of the header, also where 25 or 7 refuses; 0 where 24 does */
-    uint32_t height;
-} hoengtila_picture;
-
-typedef struct {
-    uint32_t number;    /* 0, or the number of the refusal */
-    uint32_t bytes;     /* how long the new file is, from the start of the output */
-    uint32_t stretches; /* how many stretches were dropped: two numbers each, from the start of the list */
-} hoengtila_saved;
-
 /* The shape that keeps the most columns and rows that it can. Any numbers; nothing is refused here. For less, set `columns` and
  * `rows` after it: the inverse then skips what is dropped, and the forward writes 0 there. */
 hoengtila_shape hoengtila_shape_of(uint32_t width, uint32_t height, uint32_t horizontal, uint32_t vertical, uint32_t depth);
 
-/* The weight of row i in column j at n points; 0 outside. */
-int32_t hoengtila_weight(uint32_t kind, uint32_t n, uint32_t i, uint32_t j);
+/* ---- Lines: n numbers of 16 bits in, n exact sums of 32 bits out, with no shift ---- */
 
-/* D(j): a line of n whole numbers of size at most M, taken forward and back with nothing rounded, comes back at place j as
- * 4096 * n times what it was, but for at most M * D(j); 0 outside. */
-uint32_t hoengtila_stray(uint32_t kind, uint32_t n, uint32_t j);
-
-/* Lines: n numbers of 16 bits in, n exact sums of 32 bits out, with no shift.
- * The first two take the fast path, the others the full matrix product; they give the same. The fast path shares products
+/* The first two take the fast path, the others the full matrix product; they give the same. The fast path shares products
  * between weights: 10, 136 and 664 multiplications at 4, 16 and 32 points, where the product has 16, 256 and 1,024. At 8 points
- * nothing is shared, and it is the product. */
+ * nothing is shared, and it is the product. Refusals: 1, 3, then 6 and 7: a buffer that has not n numbers. */
 hoengtila_answer hoengtila_line_forward(uint32_t n, uint32_t kind, const int16_t *x, size_t x_len, int32_t *y, size_t y_len);
 hoengtila_answer hoengtila_line_inverse(uint32_t n, uint32_t kind, const int16_t *x, size_t x_len, int32_t *y, size_t y_len);
 hoengtila_answer hoengtila_line_forward_product(uint32_t n, uint32_t kind, const int16_t *x, size_t x_len, int32_t *y, size_t y_len);
 hoengtila_answer hoengtila_line_inverse_product(uint32_t n, uint32_t kind, const int16_t *x, size_t x_len, int32_t *y, size_t y_len);
 
-/* Lines by adders of 32 bits that wrap: for each output the sum starts from `start`, takes the n products in the given order
+/* The same by adders of 32 bits that wrap: for each output the sum starts from `start`, takes the n products in the given order
  * modulo 2^32, and has `start` taken off; `order` names the products by their inputs. Whatever `start` is, and in every order,
- * they give what the lines above give. They refuse 1, 3, 6, 7, then 21: an order that is not each of 0..n-1 once. */
+ * they give what the lines above give. Refusals: 1, 3, 6, 7, then 21. */
 hoengtila_answer hoengtila_line_forward_wrapped(uint32_t n, uint32_t kind, uint32_t start, const uint32_t *order, size_t order_len, const int16_t *x, size_t x_len, int32_t *y, size_t y_len);
 hoengtila_answer hoengtila_line_inverse_wrapped(uint32_t n, uint32_t kind, uint32_t start, const uint32_t *order, size_t order_len, const int16_t *x, size_t x_len, int32_t *y, size_t y_len);
 
-/* Blocks: numbers stand row by row. The inverse takes coefficients and gives residuals, which are not clipped; the forward
- * takes residuals and gives coefficients, 0 outside the kept part. */
+/* The weight of row i in column j at n points; 0 outside. Nothing is refused. */
+int32_t hoengtila_weight(uint32_t kind, uint32_t n, uint32_t i, uint32_t j);
+
+/* D(j): a line of n whole numbers of size at most M, taken forward and back with nothing rounded, comes back at place j as
+ * 4096 * n times what it was, but for at most M * D(j); 0 outside. Nothing is refused. */
+uint32_t hoengtila_stray(uint32_t kind, uint32_t n, uint32_t j);
+
+/* ---- Blocks: width * height numbers, row by row ---- */
+
+/* The inverse takes coefficients and gives residuals, which are not clipped, and the rail count. Refusals: 1 to 5, 20, then 6 and 7: a
+ * buffer that has not width * height numbers; then 8. */
 hoengtila_answer hoengtila_block_inverse(hoengtila_shape shape, const int16_t *coefficients, size_t coefficients_len, int32_t *residuals, size_t residuals_len);
+
+/* The forward takes residuals and gives coefficients, 0 outside the kept part; its rail count is 0. Refusals: 1 to 5, 20, 6, 7, then
+ * 9. */
 hoengtila_answer hoengtila_block_forward(hoengtila_shape shape, const int16_t *residuals, size_t residuals_len, int16_t *coefficients, size_t coefficients_len);
 
-/* Long numbers, of H.266's later edition: the inverse with coefficients of 32 bits. `extended` is the extended-precision switch, 0
- * for off and any other number for on. Coefficients and the values between the stages are -2^R .. 2^R - 1, and the last shift is
- * 5 + R - depth: with the switch on R is max(15, min(20, depth + 6)), with it off 15. Refusals: 1 to 5, 20, 6, 7, 8, then 27. With
- * the switch off and numbers of 16 bits it is hoengtila_block_inverse. */
-hoengtila_answer hoengtila_block_inverse_long(hoengtila_shape shape, uint32_t extended, const int32_t *coefficients, size_t coefficients_len, int32_t *residuals, size_t residuals_len);
+/* ---- Rows of blocks and long numbers: the inverse ---- */
 
 /* A row of blocks in one call: up to 64 inverse blocks, with one buffer of all coefficients and one of all residuals, in which
  * the blocks lie one after the other. Block k is handed its own stretch of both, and answers[k] is what hoengtila_block_inverse
  * hands back there; places are those in the block. A block that is refused keeps its stretch of the output, and the others go
  * on. A shape that 1 or 2 refuses has no stretch; one that another number refuses has its width * height.
- * The whole call refuses 16, then 6 and 7 where a buffer is not as long as the stretches together; then no answer is written and
- * the output holds what it held. It hands back its number.
+ * The whole call hands back its number. Refusals: 16, then 6 and 7 where a buffer is not as long as the stretches together; then no
+ * answer is written.
  * `shapes` points to 64 shapes, of which the first `count` are read, and `answers` to 64 answers, of which the first `count` are
  * written. */
 uint32_t hoengtila_block_row(const hoengtila_shape *shapes, size_t count, hoengtila_answer *answers, const int16_t *coefficients, size_t coefficients_len, int32_t *residuals, size_t residuals_len);
@@ -149,9 +135,69 @@ static inline uint32_t hoengtila_blocks_inverse(const hoengtila_shape *shapes, s
     return number;
 }
 
-/* Lists of steps: a run works on numbered cells. The inputs stand in the first cells; each step writes one cell; `outs` names
- * the cells of the outputs. `steps` has four numbers to a step: the operation, the cell that it writes, the cell that it reads,
- * and the second cell that it reads or the constant.
+/* Long numbers, of H.266's later edition: the inverse with coefficients of 32 bits. `extended` is the extended-precision switch, 0
+ * for off and any other number for on. Coefficients and the values between the stages are -2^R .. 2^R - 1, and the last shift is
+ * 5 + R - depth: with the switch on R is max(15, min(20, depth + 6)), with it off 15. Refusals: 1 to 5, 20, 6, 7, 8, then 27. With
+ * the switch off and numbers of 16 bits it is hoengtila_block_inverse. */
+hoengtila_answer hoengtila_block_inverse_long(hoengtila_shape shape, uint32_t extended, const int32_t *coefficients, size_t coefficients_len, int32_t *residuals, size_t residuals_len);
+
+/* ---- Totals: a report over blocks of residuals that are run forward and back ---- */
+
+/* The caller keeps the totals, 578 numbers, which hoengtila_report_clear makes those of no blocks. For each width, height and pair of
+ * kinds there are four, from
+ *
+ *   4 * (36 * a + 9 * b + 3 * horizontal + vertical)
+ *
+ * on, where a and b are 0, 1, 2 and 3 for a width and a height of 4, 8, 16 and 32: how many blocks; the sum of their rail counts;
+ * the largest size of a difference between a residual and the one that came back; the sum of the squares of all differences.
+ * totals[576] is how many blocks were refused, which no other total counts, and totals[577] how many were given. */
+void hoengtila_report_clear(uint64_t totals[578]);
+
+/* Adds a block, and hands back the rail count of the way back. Any 578 numbers are taken as totals, and sums are modulo 2^64; from the
+ * totals of no blocks, no sum reaches 2^64. Refusals: 22, with the totals as they were; then 1 to 5, 20, 6 and 9, with the block counted
+ * as given and as refused. */
+hoengtila_answer hoengtila_report_add(uint64_t totals[578], hoengtila_shape shape, const int16_t *residuals, size_t residuals_len);
+
+/* ---- Pictures: a block of residuals as a binary graymap ---- */
+
+typedef struct {
+    uint32_t number; /* 0, or the number of the refusal */
+    uint32_t bytes;  /* how long the picture is, from the start of the output; 0 where refused */
+} hoengtila_written;
+
+/* P5, maximum value 65535, each sample the residual + 32768, high byte first: at most 15 + 2 * width * height bytes. What stands beyond
+ * the picture stays. Refusals: 1, 2, 6, 23, then 7: an output too short to hold the picture. */
+hoengtila_written hoengtila_picture_write(uint32_t width, uint32_t height, const int32_t *residuals, size_t residuals_len, uint8_t *file, size_t file_len);
+
+typedef struct {
+    uint32_t number; /* 0, or the number of the refusal */
+    uint32_t width;  /* of the header, also where 25 or 7 refuses; 0 where 24 does */
+    uint32_t height;
+} hoengtila_picture;
+
+/* Reads such a graymap, with any white space and comments in its header. Refusals: 24, 25, then 7: an output that has not
+ * width * height numbers. */
+hoengtila_picture hoengtila_picture_read(const uint8_t *file, size_t file_len, int32_t *residuals, size_t residuals_len);
+
+/* ---- Broken files: what can be saved of a block file ---- */
+
+typedef struct {
+    uint32_t number;    /* 0, or the number of the refusal */
+    uint32_t bytes;     /* how long the new file is, from the start of the output */
+    uint32_t stretches; /* how many stretches were dropped: two numbers each, from the start of the list */
+} hoengtila_saved;
+
+/* Writes a new file of the fields that can be read. From a place where reading stops it goes on to the next whole shape field with a
+ * whole data field behind it, or with kept numbers (tag 4) and then a data field; what lies between is dropped. The list gets the offset
+ * and the length of each dropped stretch. What stands beyond the new file and beyond the list stays. Coefficients and residuals are not
+ * looked at, so a block may still meet 8 or 9 when it is run. Refusals, with bytes and stretches 0: 14, then 7: an output shorter than
+ * the file, or a list of fewer than 2,048 numbers; then 26. */
+hoengtila_saved hoengtila_salvage(const uint8_t *file, size_t file_len, uint8_t *out, size_t out_len, uint32_t *list, size_t list_len);
+
+/* ---- Steps: a transform as a list of steps on numbered cells ---- */
+
+/* The inputs stand in the first cells; each step writes one cell; `outs` names the cells of the outputs. `steps` has four numbers to a
+ * step: the operation, the cell that it writes, the cell that it reads, and the second cell that it reads or the constant.
  *
  *   0  adds two cells                 2  negates a cell; the fourth number says nothing
  *   1  subtracts the second cell      any other: multiplies by the constant
@@ -162,6 +208,11 @@ typedef struct {
     uint32_t count; /* how many multiplying steps the run took */
 } hoengtila_taken;
 
+/* Any list: x holds the inputs, y takes the outputs. Refusals, with count 0: 18; 6 and 7 where x or y has not the list's number of
+ * inputs or of outputs; 28 for more inputs than cells; then, at the first step that meets one and after the last step at the first output
+ * cell, 28, 17 and 29. */
+hoengtila_taken hoengtila_steps_run(uint32_t inputs, uint32_t cells, const int32_t *steps, size_t steps_len, const int32_t *outs, size_t outs_len, const int16_t *x, size_t x_len, int32_t *y, size_t y_len);
+
 typedef struct {
     uint32_t number;
     uint32_t inputs;
@@ -170,42 +221,12 @@ typedef struct {
     uint32_t outs;
 } hoengtila_listed;
 
-/* Any list: x holds the inputs, y takes the outputs. */
-hoengtila_taken hoengtila_steps_run(uint32_t inputs, uint32_t cells, const int32_t *steps, size_t steps_len, const int32_t *outs, size_t outs_len, const int16_t *x, size_t x_len, int32_t *y, size_t y_len);
-
-/* The forward DST-VII of n points as a list: 18, 277 or 1302 steps, 8, 127 or 620 of them multiplying. 7 where a buffer has
- * another length than the list's, and neither is written; what is told of the list is told then too. */
+/* The forward DST-VII of n points as a list: 18, 277 or 1302 steps, 8, 127 or 620 of them multiplying. Refusals: 1 where n is not 4, 16
+ * or 32; 7 where a buffer has another length than the list's, and neither is written: what is told of the list is told then too. */
 hoengtila_listed hoengtila_steps_list(uint32_t n, int32_t *steps, size_t steps_len, int32_t *outs, size_t outs_len);
 
-/* The forward DST-VII of n points by its list: what hoengtila_line_forward_product gives. */
+/* The forward DST-VII of n points by its list: what hoengtila_line_forward_product gives. Refusals, with count 0: 1 as above, 6, 7. */
 hoengtila_taken hoengtila_steps_forward(uint32_t n, const int16_t *x, size_t x_len, int32_t *y, size_t y_len);
-
-/* Pictures: a block of residuals as a binary graymap (P5, maximum value 65535, each sample the residual + 32768, high byte
- * first). A picture has at most 15 + 2 * width * height bytes. Writing refuses 1, 2, 6, 23, then 7: an output too short to hold
- * the picture; what stands beyond it stays. Reading refuses 24, 25, then 7: an output that has not width * height numbers. */
-hoengtila_written hoengtila_picture_write(uint32_t width, uint32_t height, const int32_t *residuals, size_t residuals_len, uint8_t *file, size_t file_len);
-hoengtila_picture hoengtila_picture_read(const uint8_t *file, size_t file_len, int32_t *residuals, size_t residuals_len);
-
-/* What can be saved of a broken block file: a new file of the fields that can be read. From a place where reading stops it goes on
- * to the next whole shape field with a whole data field behind it, or with kept numbers (tag 4) and then a data field; what lies
- * between is dropped. The list gets the offset and the length of each dropped stretch. What stands beyond the new file and beyond
- * the list stays. Coefficients and residuals are not looked at, so a block may still meet 8 or 9 when it is run. */
-hoengtila_saved hoengtila_salvage(const uint8_t *file, size_t file_len, uint8_t *out, size_t out_len, uint32_t *list, size_t list_len);
-
-/* A report: totals over blocks of residuals that are run forward and back. The caller keeps the totals, 578 numbers, which
- * hoengtila_report_clear makes those of no blocks. For each width, height and pair of kinds there are four, from
- *
- *   4 * (36 * a + 9 * b + 3 * horizontal + vertical)
- *
- * on, where a and b are 0, 1, 2 and 3 for a width and a height of 4, 8, 16 and 32: how many blocks; the sum of their rail counts;
- * the largest size of a difference between a residual and the one that came back; the sum of the squares of all differences.
- * totals[576] is how many blocks were refused, which no other total counts, and totals[577] how many were given.
- *
- * Adding has 22, before all others and with the totals as they were, then the refusals of the forward but 7. Its rail count is
- * that of the way back. Any 578 numbers are taken as totals, and sums are modulo 2^64; from the totals of no blocks, no sum
- * reaches 2^64. */
-void hoengtila_report_clear(uint64_t totals[578]);
-hoengtila_answer hoengtila_report_add(uint64_t totals[578], hoengtila_shape shape, const int16_t *residuals, size_t residuals_len);
 
 #ifdef __cplusplus
 }

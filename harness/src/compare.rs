@@ -90,15 +90,8 @@ impl Comparison {
     /// Compares what is left, and says how much there was.
     pub fn close(mut self) -> Comparison {
         self.compare_waiting();
-        eprintln!(
-            "compared: {}: {} numbers in {} calls, {:.1} s ({}, {SEED_VARIABLE}={})",
-            self.title,
-            self.numbers,
-            self.calls,
-            self.started.elapsed().as_secs_f64(),
-            self.subject.name(),
-            seed()
-        );
+        self.subject
+            .say(self.title, self.started, self.calls, self.numbers);
         self
     }
 }

@@ -4,6 +4,7 @@ use crate::model::file::{
     run_file, LARGEST_FILE, TAG_COEFFICIENTS, TAG_KEPT, TAG_RESIDUALS, TAG_SHAPE,
 };
 use crate::model::salvage::saved_of;
+use crate::random::Random;
 
 pub struct Case {
     pub name: String,
@@ -94,6 +95,50 @@ fn broken() -> Vec<u8> {
     let other = [shape(8, 4, 1, 2, 8), data(TAG_COEFFICIENTS, &numbers)].concat();
     let shorter = [&other[..40], &other[60..]].concat();
     [whole_case(), vec![9; 3], other, shorter, whole_case()].concat()
+}
+
+// ---- files of random blocks
+
+/// A shape and some blocks of it, now and then behind other kept numbers: small numbers, or ones whose residuals no picture
+/// can hold, some outside the kept part.
+fn random_group(random: &mut Random) -> Vec<u8> {
+    let (w, h) = (random.choose(&[4, 8, 16, 32]), random.choose(&[4, 8, 32]));
+    let kind = |random: &mut Random| random.choose(&[1, 2]);
+    let mut bytes = vec![1, 0, 5, w, h, kind(random), kind(random)];
+    bytes.push(random.choose(&[8, 10, 12]));
+    let mut kept = [w, h].map(|n: u8| n.min(16));
+    for _ in 0..random.between(0, 3) {
+        if random.once_in(3) {
+            kept = [w, h].map(|n: u8| random.between(1, n.min(16).into()) as u8);
+            bytes.extend([4, 0, 2, kept[0], kept[1]]);
+        }
+        let count = usize::from(w) * usize::from(h);
+        let high = random.choose(&[3, 255, 32767]);
+        let number = |k: usize, random: &mut Random| {
+            let (x, y) = (k % usize::from(w), k / usize::from(w));
+            let inside = x < usize::from(kept[0]) && y < usize::from(kept[1]);
+            if inside || random.once_in(900) {
+                random.between(-high, high) as i16
+            } else {
+                0
+            }
+        };
+        bytes.push(random.choose(&[2, 3]));
+        bytes.extend((2 * count as u16).to_be_bytes());
+        bytes.extend((0..count).flat_map(|k| number(k, random).to_be_bytes()));
+    }
+    bytes
+}
+
+/// Up to three such groups, and in every third file one byte that is another.
+pub fn random_file(random: &mut Random) -> Vec<u8> {
+    let groups = random.between(0, 3);
+    let mut file: Vec<u8> = (0..groups).flat_map(|_| random_group(random)).collect();
+    if random.once_in(3) && !file.is_empty() {
+        let at = random.below(file.len());
+        file[at] = random.below(256) as u8;
+    }
+    file
 }
 
 // ---- cases

@@ -4,8 +4,8 @@
 //! with no eye to speed.
 //! `random` makes the cases, the same ones for the same seed; `patterns`, `folding` and `wrong` know which are hard, `files`
 //! has block files, and `steps` makes the lists of steps that the crates store.
-//! `library` is the library for Rust callers, `peer` the library behind a pipe; `call`, `row_call`, `step_call`, `long_call` and
-//! `subject` let a test run the same calls on either, and `compare` holds what comes back to the model.
+//! `library` is the library for Rust callers, `peer` the library behind a pipe; `call`, `row_call`, `step_call`, `long_call`
+//! and `subject` let a test run the same calls on either, and `compare` and `tally` hold what comes back to the model.
 
 pub mod call;
 pub mod compare;
@@ -16,9 +16,11 @@ pub mod long_call;
 pub mod model;
 pub mod patterns;
 pub mod peer;
+pub mod program;
 pub mod random;
 pub mod row_call;
 pub mod step_call;
 pub mod steps;
 pub mod subject;
+pub mod tally;
 pub mod wrong;

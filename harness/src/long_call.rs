@@ -1,13 +1,10 @@
-//! A call on long numbers as a value, for the linked library, a peer or the model; and what compares them.
+//! A call on long numbers as a value, for the linked library, a peer or the model.
 
 use crate::call::{shape_numbers, Outcome};
 use crate::library::{Answer, Shape};
 use crate::model;
 use crate::peer::Peer;
-use crate::random::{seed, Random, SEED_VARIABLE};
-use crate::subject::Subject;
-use std::collections::BTreeMap;
-use std::time::Instant;
+use crate::tally::Asked;
 
 #[derive(Clone, Debug)]
 pub struct LongCall {
@@ -18,8 +15,10 @@ pub struct LongCall {
     pub held: Vec<i32>,
 }
 
-impl LongCall {
-    pub fn by_model(&self) -> Outcome {
+impl Asked for LongCall {
+    type Outcome = Outcome;
+
+    fn by_model(&self) -> Outcome {
         let long = |numbers: &[i32]| -> Vec<i64> { numbers.iter().map(|z| (*z).into()).collect() };
         let mut output = long(&self.held);
         let shape = self.shape.into();
@@ -33,15 +32,14 @@ impl LongCall {
     }
 
     #[cfg(hoengtila_linked)]
-    pub fn by_library(&self) -> Outcome {
+    fn by_library(&self) -> Outcome {
         let mut output = self.held.clone();
         let answer =
             crate::library::block_inverse_long(self.shape, self.extended, &self.input, &mut output);
         Outcome { answer, output }
     }
 
-    /// The request is the call's name in `peer.c`, its numbers and lengths, and its buffers.
-    pub fn through(&self, peer: &mut Peer) -> Outcome {
+    fn through(&self, peer: &mut Peer) -> Outcome {
         let mut numbers = vec![1400];
         numbers.extend(shape_numbers(&self.shape));
         numbers.push(self.extended);
@@ -60,69 +58,8 @@ impl LongCall {
         };
         Outcome { answer, output }
     }
-}
 
-/// What one test compares, with the count of it.
-pub struct LongComparison {
-    pub random: Random,
-    subject: Subject,
-    title: &'static str,
-    calls: usize,
-    numbers: usize,
-    /// how often each number was handed back
-    pub met: BTreeMap<u32, usize>,
-    pub rails: u64,
-    started: Instant,
-}
-
-impl LongComparison {
-    /// Fails where there is no library to compare with.
-    pub fn open(title: &'static str) -> LongComparison {
-        LongComparison {
-            random: Random::new(seed()),
-            subject: Subject::open().expect("no library is linked and no peer is named"),
-            title,
-            calls: 0,
-            numbers: 0,
-            met: BTreeMap::new(),
-            rails: 0,
-            started: Instant::now(),
-        }
-    }
-
-    /// What the library makes of the call, compared with the model.
-    pub fn outcome(&mut self, call: &LongCall) -> Outcome {
-        let (wanted, found) = (call.by_model(), self.subject.run_long(call));
-        assert!(
-            wanted == found,
-            "{}: {call:?}: {found:?} and not {wanted:?}\n{SEED_VARIABLE}={}",
-            self.title,
-            seed()
-        );
-        self.calls += 1;
-        self.numbers += found.output.len();
-        self.rails += u64::from(found.answer.rails);
-        *self.met.entry(found.answer.number).or_default() += 1;
-        found
-    }
-
-    /// What the library makes of a call of the other kind, on the same subject.
-    pub fn other(&mut self, call: &crate::call::Call) -> Outcome {
-        self.subject.run(std::slice::from_ref(call)).remove(0)
-    }
-
-    /// Says how much there was, and that each of these numbers was met.
-    pub fn close(self, numbers: &[u32]) {
-        eprintln!(
-            "compared: {}: {} numbers in {} calls, {:.1} s ({}, {SEED_VARIABLE}={})",
-            self.title,
-            self.numbers,
-            self.calls,
-            self.started.elapsed().as_secs_f64(),
-            self.subject.name(),
-            seed()
-        );
-        let met: Vec<u32> = self.met.into_keys().collect();
-        assert_eq!(met, numbers, "the numbers that were met");
+    fn told(outcome: &Outcome) -> (u32, usize) {
+        (outcome.answer.number, outcome.output.len())
     }
 }

@@ -101,7 +101,10 @@ fn request(call: &Call) -> Vec<u8> {
         What::Inverse(shape) | What::Forward(shape) => shape_numbers(shape).to_vec(),
     };
     numbers.insert(0, name(&call.what));
-    if !matches!(call.what, What::Weight { .. } | What::Stray { .. } | What::ShapeOf(_)) {
+    if !matches!(
+        call.what,
+        What::Weight { .. } | What::Stray { .. } | What::ShapeOf(_)
+    ) {
         numbers.extend(lengths);
     }
     let mut bytes: Vec<u8> = numbers.iter().flat_map(|n| n.to_le_bytes()).collect();
@@ -117,7 +120,9 @@ fn request(call: &Call) -> Vec<u8> {
 
 fn read_reply(from: &mut impl Read, call: &Call) -> std::io::Result<Outcome> {
     match call.what {
-        What::Weight { .. } | What::Stray { .. } => return Ok(Outcome::of_weight(read_four(from)?)),
+        What::Weight { .. } | What::Stray { .. } => {
+            return Ok(Outcome::of_weight(read_four(from)?))
+        }
         What::ShapeOf(_) => return Ok(Outcome::of_numbers(read_fours(from, 7)?)),
         _ => (),
     }

@@ -4,6 +4,7 @@ use crate::call::shape_numbers;
 use crate::library::{Answer, Shape};
 use crate::model;
 use crate::peer::Peer;
+use crate::tally::Asked;
 
 /// The shapes of the blocks, what the answers hold before, the numbers of all blocks, and what the output holds before.
 #[derive(Clone, Debug)]
@@ -22,8 +23,10 @@ pub struct RowOutcome {
     pub output: Vec<i32>,
 }
 
-impl RowCall {
-    pub fn by_model(&self) -> RowOutcome {
+impl Asked for RowCall {
+    type Outcome = RowOutcome;
+
+    fn by_model(&self) -> RowOutcome {
         let shapes: Vec<model::Shape> = self.shapes.iter().map(|s| (*s).into()).collect();
         let input: Vec<i64> = self.input.iter().map(|z| (*z).into()).collect();
         let mut output: Vec<i64> = self.held.iter().map(|z| (*z).into()).collect();
@@ -38,7 +41,7 @@ impl RowCall {
     }
 
     #[cfg(hoengtila_linked)]
-    pub fn by_library(&self) -> RowOutcome {
+    fn by_library(&self) -> RowOutcome {
         let (mut answers, mut output) = (self.answers.clone(), self.held.clone());
         let number =
             crate::library::blocks_inverse(&self.shapes, &mut answers, &self.input, &mut output);
@@ -49,8 +52,7 @@ impl RowCall {
         }
     }
 
-    /// The request is the call's name in `peer.c`, its lengths, and its shapes and buffers.
-    pub fn through(&self, peer: &mut Peer) -> RowOutcome {
+    fn through(&self, peer: &mut Peer) -> RowOutcome {
         let lengths = [
             self.shapes.len(),
             self.answers.len(),
@@ -81,5 +83,9 @@ impl RowCall {
             answers: told[1..].chunks_exact(3).map(answer).collect(),
             output,
         }
+    }
+
+    fn told(outcome: &RowOutcome) -> (u32, usize) {
+        (outcome.number, outcome.output.len())
     }
 }

@@ -1,12 +1,9 @@
-//! A call on a list of steps as a value, for the linked library, a peer or the model; and what compares them.
+//! A call on a list of steps as a value, for the linked library, a peer or the model.
 
 use crate::model::steps::{run, Taken};
 use crate::peer::Peer;
-use crate::random::{seed, Random, SEED_VARIABLE};
 use crate::steps::{make, LISTED};
-use crate::subject::Subject;
-use std::collections::BTreeMap;
-use std::time::Instant;
+use crate::tally::Asked;
 
 #[derive(Clone, Debug)]
 pub enum StepCall {
@@ -54,8 +51,10 @@ fn outcome(taken: Taken, output: Vec<i64>) -> StepOutcome {
     }
 }
 
-impl StepCall {
-    pub fn by_model(&self) -> StepOutcome {
+impl Asked for StepCall {
+    type Outcome = StepOutcome;
+
+    fn by_model(&self) -> StepOutcome {
         match self {
             StepCall::Run {
                 inputs,
@@ -83,7 +82,7 @@ impl StepCall {
     }
 
     #[cfg(hoengtila_linked)]
-    pub fn by_library(&self) -> StepOutcome {
+    fn by_library(&self) -> StepOutcome {
         use crate::library;
         match self.clone() {
             StepCall::Run {
@@ -121,8 +120,7 @@ impl StepCall {
         }
     }
 
-    /// The request is the call's name in `peer.c`, its numbers and lengths, and its buffers.
-    pub fn through(&self, peer: &mut Peer) -> StepOutcome {
+    fn through(&self, peer: &mut Peer) -> StepOutcome {
         let fours =
             |numbers: &[i32]| -> Vec<u8> { numbers.iter().flat_map(|z| z.to_le_bytes()).collect() };
         let twos =
@@ -158,6 +156,10 @@ impl StepCall {
         let output = reply.split_off(told);
         let told = reply.into_iter().map(|n| n as u32).collect();
         StepOutcome { told, output }
+    }
+
+    fn told(outcome: &StepOutcome) -> (u32, usize) {
+        (outcome.told[0], outcome.output.len())
     }
 }
 
@@ -203,61 +205,4 @@ fn forward_by_model(n: u32, x: &[i16], held: &[i32]) -> StepOutcome {
         },
     };
     outcome(taken, y)
-}
-
-/// What one test compares, with the count of it.
-pub struct StepComparison {
-    pub random: Random,
-    subject: Subject,
-    title: &'static str,
-    calls: usize,
-    numbers: usize,
-    /// how often each number was handed back
-    pub met: BTreeMap<u32, usize>,
-    started: Instant,
-}
-
-impl StepComparison {
-    /// Fails where there is no library to compare with.
-    pub fn open(title: &'static str) -> StepComparison {
-        StepComparison {
-            random: Random::new(seed()),
-            subject: Subject::open().expect("no library is linked and no peer is named"),
-            title,
-            calls: 0,
-            numbers: 0,
-            met: BTreeMap::new(),
-            started: Instant::now(),
-        }
-    }
-
-    /// What the library makes of the call, compared with the model.
-    pub fn outcome(&mut self, call: StepCall) -> StepOutcome {
-        let (wanted, found) = (call.by_model(), self.subject.run_steps(&call));
-        assert!(
-            wanted == found,
-            "{}: {call:?}: {found:?} and not {wanted:?}\n{SEED_VARIABLE}={}",
-            self.title,
-            seed()
-        );
-        self.calls += 1;
-        self.numbers += found.output.len();
-        *self.met.entry(found.told[0]).or_default() += 1;
-        found
-    }
-
-    /// Says how much there was, and that each of these numbers was met.
-    pub fn close(self, numbers: &[u32]) {
-        eprintln!(
-            "compared: {}: {} numbers in {} calls, {:.1} s ({}, {SEED_VARIABLE}={})",
-            self.title,
-            self.numbers,
-            self.calls,
-            self.started.elapsed().as_secs_f64(),
-            self.subject.name(),
-            seed()
-        );
-        let met: Vec<u32> = self.met.into_keys().collect();
-        assert_eq!(met, numbers, "the numbers that were met");
-    }
 }

@@ -1,10 +1,10 @@
 //! What a test runs its calls on: the library where the build links it, or a peer that the environment names.
 
 use crate::call::{Call, Outcome};
-use crate::long_call::LongCall;
 use crate::peer::{Peer, PEER_VARIABLE};
-use crate::row_call::{RowCall, RowOutcome};
-use crate::step_call::{StepCall, StepOutcome};
+use crate::random::{seed, SEED_VARIABLE};
+use crate::tally::Asked;
+use std::time::Instant;
 
 pub enum Subject {
     #[cfg(hoengtila_linked)]
@@ -18,6 +18,16 @@ pub enum Subject {
 const MODEL: &str = "model";
 
 impl Subject {
+    /// Says what was compared under a title, since when, in so many calls.
+    pub fn say(&self, title: &str, started: Instant, calls: usize, numbers: usize) {
+        eprintln!(
+            "compared: {title}: {numbers} numbers in {calls} calls, {:.1} s ({}, {SEED_VARIABLE}={})",
+            started.elapsed().as_secs_f64(),
+            self.name(),
+            seed()
+        );
+    }
+
     /// What is there: the peer that the environment names, else the linked library.
     pub fn open() -> Option<Subject> {
         match std::env::var(PEER_VARIABLE) {
@@ -46,25 +56,7 @@ impl Subject {
         }
     }
 
-    pub fn run_long(&mut self, call: &LongCall) -> Outcome {
-        match self {
-            #[cfg(hoengtila_linked)]
-            Subject::Linked => call.by_library(),
-            Subject::Peer(peer) => call.through(peer),
-            Subject::Model => call.by_model(),
-        }
-    }
-
-    pub fn run_row(&mut self, call: &RowCall) -> RowOutcome {
-        match self {
-            #[cfg(hoengtila_linked)]
-            Subject::Linked => call.by_library(),
-            Subject::Peer(peer) => call.through(peer),
-            Subject::Model => call.by_model(),
-        }
-    }
-
-    pub fn run_steps(&mut self, call: &StepCall) -> StepOutcome {
+    pub fn ask<C: Asked>(&mut self, call: &C) -> C::Outcome {
         match self {
             #[cfg(hoengtila_linked)]
             Subject::Linked => call.by_library(),

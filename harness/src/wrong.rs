@@ -1,11 +1,17 @@
 //! Calls that are to be refused: which tests apply, and numbers that make them apply.
 
+use crate::call::most_kept;
+use crate::library::Shape;
+use crate::patterns::{clear_outside, is_kept};
 use crate::random::Random;
 
 /// Numbers that no size, kind or depth is; a caller can hand over any of 32 bits.
 pub const NO_SIZE: [i64; 8] = [0, 1, 2, 5, 24, 64, 65_536, 4_294_967_295];
 pub const NO_KIND: [i64; 4] = [3, 4, 256, 4_294_967_295];
 pub const NO_DEPTH: [i64; 6] = [0, 7, 13, 255, 65_544, 4_294_967_295];
+
+const SIZES: [i64; 4] = [4, 8, 16, 32];
+const KINDS: [i64; 3] = [0, 1, 2];
 
 /// The table of numbers, in the order in which it is gone through: "20 .. after 5".
 pub const ORDER: [usize; 10] = [1, 2, 3, 4, 5, 20, 6, 7, 8, 9];
@@ -56,5 +62,61 @@ impl Wrong {
                 random.choose(&[1, most, most, any])
             }
         })
+    }
+
+    /// Sides of which the first, the second, both or neither is a size.
+    pub fn sides(&self, random: &mut Random) -> [u32; 2] {
+        [1, 2].map(|k| self.pick(random, k, &SIZES, &NO_SIZE) as u32)
+    }
+
+    /// A shape with these sides; its call takes depths from 8 to `deepest`.
+    pub fn shape(&self, random: &mut Random, [w, h]: [u32; 2], deepest: u32) -> Shape {
+        let [horizontal, vertical] = [3, 4].map(|k| self.pick(random, k, &KINDS, &NO_KIND) as u32);
+        let depths: Vec<i64> = (8..=deepest.into()).collect();
+        let no_depths = NO_DEPTH.iter().filter(|d| !depths.contains(d));
+        let no_depths: Vec<i64> = no_depths.copied().chain([i64::from(deepest) + 1]).collect();
+        let depth = self.pick(random, 5, &depths, &no_depths) as u32;
+        let most = most_kept([w, h, horizontal, vertical, depth]);
+        let [columns, rows] = self.kept(random, [most.columns.into(), most.rows.into()]);
+        most.keeping(columns as u32, rows as u32)
+    }
+
+    /// Small coefficients, but for some of these outside the kept part where 8 applies.
+    pub fn coefficients(&self, random: &mut Random, shape: &Shape, bad: &[i64]) -> Vec<i64> {
+        let input = self.length(random, 6, asked(shape));
+        let mut numbers = random.numbers(input, -255, 255);
+        if shape.width > 0 {
+            clear_outside(shape, &mut numbers);
+            self.spoil(random, 8, &mut numbers, |k| !is_kept(shape, *k), bad);
+        }
+        numbers
+    }
+
+    /// Some of these numbers at such places, for test `k`, where there are any.
+    pub fn spoil(
+        &self,
+        random: &mut Random,
+        k: usize,
+        numbers: &mut [i64],
+        fit: impl Fn(&usize) -> bool,
+        bad: &[i64],
+    ) {
+        let places: Vec<usize> = (0..numbers.len()).filter(fit).collect();
+        let count = if self.applies[k] {
+            places.len().min(3)
+        } else {
+            0
+        };
+        for _ in 0..count {
+            numbers[random.choose(&places)] = random.choose(bad);
+        }
+    }
+}
+
+/// The length that a shape asks for, where the peer has room for twice as many numbers, or another.
+pub fn asked(shape: &Shape) -> i64 {
+    match u64::from(shape.width) * u64::from(shape.height) {
+        area @ 1..=2048 => area as i64,
+        _ => 16,
     }
 }

@@ -1,5 +1,6 @@
--- Tests in two parts: where the first part refuses, its number is the answer; where it does not, the second part decides. And
--- what a number of 0 says: no test applied (`clear`). Assumes nothing.
+-- Tests in two parts: where the first part refuses, its number is the answer; where it does not, the second part decides. What is
+-- made of a list of which no test applies, of any list (`first-cases`, `through`), and with a test left out. And what a number of 0
+-- says: no test applied (`clear`). Assumes nothing.
 use mathlib.Core.Path.{_≡_, refl, sym, ap, _∙_, subst}
 use mathlib.Core.Bool.{Bool, true, false, cond, not, _&&_}
 use mathlib.Core.List.{List, [], _∷_, _++_}
@@ -50,6 +51,45 @@ Clear (t ∷ ts) = (t .applies ≡ false) × Clear ts
 pub clear-split : (ts us : List Refusal) → Clear (ts ++ us) → Clear ts × Clear us
 clear-split [] us c = (tt, c)
 clear-split (t ∷ ts) us c = ((c .0, clear-split ts us (c .1) .0), clear-split ts us (c .1) .1)
+
+pub clear-join : (ts us : List Refusal) → Clear ts → Clear us → Clear (ts ++ us)
+clear-join [] us c d = d
+clear-join (t ∷ ts) us c d = (c .0, clear-join ts us (c .1) d)
+
+-- ---- what is made of a list
+module _ {A : Type 0} (refused : ℕ → ℕ → A) (done : A) where
+  pub none-applies : (ts : List Refusal) → Clear ts → firstOf ts refused done ≡ done
+  none-applies [] c = refl
+  none-applies (t ∷ ts) (e, c) = rw e (none-applies ts c)
+
+  -- one test refuses, or none applies
+  pub first-cases : (P : A → Type 0) (ts : List Refusal) → ((number place : ℕ) → P (refused number place)) → (Clear ts → P done) → P (firstOf ts refused done)
+  first-cases P [] f g = g tt
+  first-cases P (t ∷ ts) f g = one (t .applies) refl (λ g. first-cases P ts f g)
+    where
+      one : (b : Bool) → t .applies ≡ b → ((Clear ts → P done) → P (firstOf ts refused done)) → P (cond b (refused (t .number) (t .place)) (firstOf ts refused done))
+      one true e next = f (t .number) (t .place)
+      one false e next = next (λ c. g (e, c))
+
+  -- a test that does not apply where those before it do not can be left out
+  pub left-out : (ts : List Refusal) (t : Refusal) (us : List Refusal) → (Clear ts → t .applies ≡ false) → firstOf (ts ++ (t ∷ us)) refused done ≡ firstOf (ts ++ us) refused done
+  left-out [] t us none = rw (none tt)
+  left-out (r ∷ ts) t us none = here (r .applies) refl (λ none. left-out ts t us none)
+    where
+      here : (b : Bool) → r .applies ≡ b → ((Clear ts → t .applies ≡ false) → firstOf (ts ++ (t ∷ us)) refused done ≡ firstOf (ts ++ us) refused done)
+          → cond b (refused (r .number) (r .place)) (firstOf (ts ++ (t ∷ us)) refused done) ≡ cond b (refused (r .number) (r .place)) (firstOf (ts ++ us) refused done)
+      here true e next = refl
+      here false e next = next (λ c. none (e, c))
+
+  -- what is read off an outcome is read off each of its cases
+  pub through : {B : Type 0} (g : A → B) (ts : List Refusal) → g (firstOf ts refused done) ≡ firstOf ts (λ number place. g (refused number place)) (g done)
+  through g [] = refl
+  through g (t ∷ ts) = here (t .applies) (through g ts)
+    where
+      here : (b : Bool) → g (firstOf ts refused done) ≡ firstOf ts (λ number place. g (refused number place)) (g done)
+          → g (cond b (refused (t .number) (t .place)) (firstOf ts refused done)) ≡ cond b (g (refused (t .number) (t .place))) (firstOf ts (λ number place. g (refused number place)) (g done))
+      here true e = refl
+      here false e = e
 
 -- no number of a list is 0
 abbrev pub numbered : List Refusal → Bool

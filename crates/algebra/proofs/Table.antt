@@ -1,6 +1,6 @@
 -- A rule of a table, proved at all of its entries by one test that the checker computes. Assumes nothing.
 use mathlib.Core.Path.{_≡_, refl, sym, ap, _∙_, subst}
-use mathlib.Core.Bool.{Bool, true, false, _&&_, _||_}
+use mathlib.Core.Bool.{Bool, true, false, _&&_}
 use mathlib.Core.List.{List, [], _∷_}
 use Prim.Native.Nat.{ℕ, zero, suc, _+_, _*_, _/_, _%_, _<_}
 use native.Mathlib.Nat.{add-zero, zero-add, add-suc, suc-add, le-of-suc-le-suc, not-suc-le-zero}
@@ -33,18 +33,6 @@ eq→eqZ a b e = subst (λ (z : ℤ). T (eqZ a z)) e (same a)
     same : (a : ℤ) → T (eqZ a a)
     same (pos n) = eqb-refl n
     same (negsuc n) = eqb-refl n
-
-pub or-left : (a b : Bool) → T a → T (a || b)
-or-left true b t = tt
-or-left false b t = absurd t
-
-pub or-right : (a b : Bool) → T b → T (a || b)
-or-right true b t = tt
-or-right false b t = t
-
-pub or-none : (a b : Bool) → (T a → ⊥) → (T b → ⊥) → T (a || b) → ⊥
-or-none true b f g t = f tt
-or-none false b f g t = g t
 
 pub eqZ-no : (a b : ℤ) → (a ≡ b → ⊥) → eqZ a b ≡ false
 eqZ-no a b n = go (eqZ a b) (λ t. n (eqZ→eq a b t))

@@ -1,7 +1,7 @@
 -- What a field that is not refused says of the file, and its tests in the code's order. Assumes nothing.
 use mathlib.Core.Path.{_≡_, refl, sym, ap, _∙_}
-use mathlib.Core.Bool.{Bool, true, false, cond, not, _&&_, _||_, false≢true}
-use mathlib.Core.List.{List, [], _∷_, _++_}
+use mathlib.Core.Bool.{Bool, true, false, cond, not, _||_}
+use mathlib.Core.List.{List, [], _∷_}
 use Prim.Native.Nat.{ℕ, zero, suc, _+_, _*_, _≤_, _<_}
 use native.Mathlib.Omega.{arith}
 use borrow.Author.Tests.{ltb-false, eqb-true, not-false, eq-eqb, ne-eqb}
@@ -10,13 +10,10 @@ use lib.ListN.{length}
 use Rattle.algebra.specs.Refusals.{Refusal, numberOf}
 use Rattle.meaning.specs.declared.Shape.{Shape}
 use Rattle.meaning.specs.Answer.{test}
+use Rattle.meaning.proofs.Cases.{or-cases, and-so}
 use Rattle.block_file.specs.Field.{byteAt, lengthAt, shapeNumber, isNone, isData, isKeeping, shapeBehind, headerTests, headerNumber, fieldNumber}
 use Rattle.block_file.proofs.Shapes.{shape-range}
 use Rattle.block_file.proofs.Tests.{Passed, number-append, passed, or-zero}
-
-or-cases : (a b : Bool) {P : Type 0} → a || b ≡ true → (a ≡ true → P) → (b ≡ true → P) → P
-or-cases true b e f g = f refl
-or-cases false b e f g = g e
 
 -- the header and the body lie in the file; a body of tag 01 has five bytes, one of tag 04 two; the latter and data follow a shape,
 -- and data has two bytes for each number of its block; the shape behind the field is not refused
@@ -36,10 +33,6 @@ three true n b k e = absurd (omega arith)
 three false zero true k e = absurd (omega arith)
 three false zero false k e = (refl, refl, refl, e)
 three false (suc n) b k e = absurd (let z : suc n ≡ 0 = (rw (ne-eqb (suc n) 0 (λ p. omega arith)) at e) in omega arith)
-
-and-so : (a b : Bool) → a && b ≡ false → a ≡ true → b ≡ false
-and-so true b e h = e
-and-so false b e h = absurd (false≢true h)
 
 -- the lengths in a header that is not refused
 module _ (tag bytes : ℕ) (shape : Shape) (e : headerNumber tag bytes shape ≡ 0) where

@@ -1,5 +1,7 @@
-// Internal: the bytes of a block file from a descriptor, for the programs. Nothing can be said of the bytes that a system reads:
-// what `read_input` does with them is to be read, and `tests/program` tries it.
+// Internal: what the programs on block files share: the bytes of a file from a descriptor, and what is said on standard error. Nothing
+// can be said of the bytes that a system reads and writes: what stands here is to be read, and `tests/program` tries it. Read
+// `read_input`, then what `blocks` at the root makes a status of.
+use libc::STDERR_FILENO;
 ghost use mathlib.Core.Path.{_≡_};
 ghost use lib.ListN.{length};
 ghost use Rattle.io.specs.Counts.{Counts};
@@ -40,4 +42,28 @@ pub fn read_input(fd: i32, file: &mut [u8]) -> Input
         count,
         failed: false,
     }
+}
+
+pub fn say(words: &[u8]) {
+    io::write_all(STDERR_FILENO, words);
+}
+
+pub fn say_numbers(a: u64, b: u64) {
+    io::print_decimal(STDERR_FILENO, a);
+    say(b" ");
+    io::print_decimal(STDERR_FILENO, b);
+}
+
+// "R number offset", for a refusal in the place of the answer; the caller ends the line.
+pub fn say_refused(number: u32, offset: usize) {
+    say(b"R ");
+    say_numbers(number as u64, offset as u64);
+}
+
+pub fn say_unread() {
+    say(b"the input could not be read\n");
+}
+
+pub fn say_unwritten() {
+    say(b"the answer could not be written\n");
 }

@@ -1,4 +1,4 @@
--- The number of fields that `reach` is given says nothing: any that is at least what is left of the file reaches the same
+-- The number of fields that `walk` is given says nothing: any that is at least what is left of the file reaches the same
 -- cursor. Assumes nothing.
 use mathlib.Core.Path.{_≡_, refl, sym}
 use mathlib.Core.Bool.{Bool, true, false, cond, false≢true}
@@ -9,7 +9,7 @@ use lib.ListN.{length}
 use Rattle.block_file.specs.declared.cursor.Cursor.{Cursor}
 use Rattle.block_file.specs.Cursor.{start, stepOf}
 use Rattle.block_file.proofs.Found.{found-cases}
-use Rattle.block_pick.specs.Pick.{passes, left, reach, picked}
+use Rattle.block_pick.specs.Pick.{passes, left, walk, picked}
 
 -- a field that is passed over lies in the file, and the next one behind it
 pub moves : (file : List ℕ) (c : Cursor) (n : ℕ) → passes (stepOf file c .tag) n ≡ true → (c .at < length file) × (c .at < stepOf file c .next .at)
@@ -27,22 +27,22 @@ at-end : (x : Bool) (a d : Cursor) → (x ≡ true → ⊥) → d ≡ cond x a d
 at-end true a d e = absurd (e refl)
 at-end false a d e = refl
 
-enough : (k j : ℕ) (file : List ℕ) (n : ℕ) (c : Cursor) → length file ≤ c .at + k → length file ≤ c .at + j → reach k file n c ≡ reach j file n c
-unfolding reach
+enough : (k j : ℕ) (file : List ℕ) (n : ℕ) (c : Cursor) → length file ≤ c .at + k → length file ≤ c .at + j → walk k file n c ≡ walk j file n c
+unfolding walk
 enough zero zero file n c h g = refl
-enough zero (suc j) file n c h g = at-end (passes (stepOf file c .tag) n) (reach j file (left (stepOf file c .tag) n) (stepOf file c .next)) c (λ e. let m = moves file c n e in omega arith)
-enough (suc k) zero file n c h g = sym (at-end (passes (stepOf file c .tag) n) (reach k file (left (stepOf file c .tag) n) (stepOf file c .next)) c (λ e. let m = moves file c n e in omega arith))
+enough zero (suc j) file n c h g = at-end (passes (stepOf file c .tag) n) (walk j file (left (stepOf file c .tag) n) (stepOf file c .next)) c (λ e. let m = moves file c n e in omega arith)
+enough (suc k) zero file n c h g = sym (at-end (passes (stepOf file c .tag) n) (walk k file (left (stepOf file c .tag) n) (stepOf file c .next)) c (λ e. let m = moves file c n e in omega arith))
 enough (suc k) (suc j) file n c h g =
     let s = stepOf file c in
-    either (passes (s .tag) n) (reach k file (left (s .tag) n) (s .next)) (reach j file (left (s .tag) n) (s .next)) c
+    either (passes (s .tag) n) (walk k file (left (s .tag) n) (s .next)) (walk j file (left (s .tag) n) (s .next)) c
     (λ e. let m = moves file c n e in enough k j file (left (s .tag) n) (s .next) (omega arith) (omega arith))
 
-pub fuel : (file : List ℕ) (n k : ℕ) → length file ≤ k → reach k file n start ≡ picked file n
+pub fuel : (file : List ℕ) (n k : ℕ) → length file ≤ k → walk k file n start ≡ picked file n
 unfolding picked
 fuel file n k h = enough k (length file) file n start (omega arith) (omega arith)
 
 -- one field, and then the rest
 pub one-field : (file : List ℕ) (n : ℕ) (c : Cursor)
-    → reach (length file) file n c ≡ cond (passes (stepOf file c .tag) n) (reach (length file) file (left (stepOf file c .tag) n) (stepOf file c .next)) c
-unfolding reach
+    → walk (length file) file n c ≡ cond (passes (stepOf file c .tag) n) (walk (length file) file (left (stepOf file c .tag) n) (stepOf file c .next)) c
+unfolding walk
 one-field file n c = enough (length file) (suc (length file)) file n c (omega arith) (omega arith)

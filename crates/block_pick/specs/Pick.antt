@@ -19,12 +19,12 @@ unfoldable pub left : ℕ → ℕ → ℕ
 left tag n = cond (isData tag) (n - 1) n
 
 -- over at most k fields from a cursor on
-unfoldable pub reach : ℕ → List ℕ → ℕ → Cursor → Cursor
-reach zero file n cursor = cursor
-reach (suc k) file n cursor =
+unfoldable pub walk : ℕ → List ℕ → ℕ → Cursor → Cursor
+walk zero file n cursor = cursor
+walk (suc k) file n cursor =
     let step = stepOf file cursor in
-    cond (passes (step .tag) n) (reach k file (left (step .tag) n) (step .next)) cursor
+    cond (passes (step .tag) n) (walk k file (left (step .tag) n) (step .next)) cursor
 
 -- a file has no more fields than bytes (proofs/Fuel: any larger number reaches the same)
 unfoldable pub picked : List ℕ → ℕ → Cursor
-picked file n = reach (length file) file n start
+picked file n = walk (length file) file n start

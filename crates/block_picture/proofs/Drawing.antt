@@ -1,6 +1,6 @@
 -- What the calls that a picture is made by come to. Assumes nothing.
-use mathlib.Core.Path.{_≡_, refl, sym, ap, _∙_}
-use mathlib.Core.Bool.{true, cond, false≢true}
+use mathlib.Core.Path.{_≡_, sym, ap, _∙_}
+use mathlib.Core.Bool.{cond}
 use mathlib.Core.List.{List}
 use Prim.Native.Nat.{ℕ}
 use native.Mathlib.Omega.{arith}
@@ -13,13 +13,9 @@ use Rattle.meaning.specs.Answer.{Outcome}
 use Rattle.meaning.specs.Inverse.{inverseOutcome}
 use Rattle.block_file.specs.declared.cursor.Cursor.{Cursor}
 use Rattle.block_file.specs.declared.cursor.Step.{Step}
-use Rattle.block_file.specs.Field.{isData}
-use Rattle.block_file.specs.Cursor.{stepOf, foundAt, bytesOf}
-use Rattle.block_file.proofs.Found.{found-cases}
+use Rattle.block_file.specs.Cursor.{stepOf, bytesOf}
 use Rattle.block_numbers.specs.Numbers.{numbers}
 use Rattle.block_run.specs.Run.{blank}
-use Rattle.block_run.specs.Does.{Fits}
-use Rattle.block_run.proofs.Steps.{read-data}
 use Rattle.block_pick.specs.Pick.{picked}
 use Rattle.block_picture.specs.declared.shown.View.{View}
 use Rattle.block_picture.specs.Shown.{refusedAt, drawnAt, inverseShown, shownOutcome}
@@ -38,14 +34,6 @@ module _ (sh : Shape) (c z : List ℤ) (offset : ℕ) (out : List ℕ) (a : Answ
 
   pub inverse-drawn : a .number ≡ 0 → drawnAt sh l offset out ≡ inverseShown sh c offset out
   inverse-drawn h = sym (rw (eq-eqb (a .number) 0 h)) ∙ by-outcome
-
--- ---- data fits the shape that holds
-module _ (file : List ℕ) (k : Cursor) where
-  taken : isData (foundAt file k .tag) ≡ true → foundAt file k .number ≡ 0
-  taken = found-cases file k (λ f. isData (f .tag) ≡ true → f .number ≡ 0) (λ n z e. absurd (false≢true e)) (λ h l w e. refl)
-
-  pub data-fits : isData (foundAt file k .tag) ≡ true → Fits (k .shape) (bytesOf file k)
-  data-fits e = read-data file k (taken e) e .0
 
 -- ---- the field that was picked, by its tag
 module _ (file : List ℕ) (n : ℕ) (out : List ℕ) (k : Cursor) (e : k ≡ picked file n) (st : Step) (s : st ≡ stepOf file k) where

@@ -2,7 +2,9 @@
 // system reads and writes: what `answer` and `tell` do with them is to be read, and `tests/program` tries it.
 use block_input::file_buffer;
 use block_input::read_input;
-use libc::STDERR_FILENO;
+use block_input::say;
+use block_input::say_unread;
+use block_input::say_unwritten;
 ghost use mathlib.Core.Path.{_≡_};
 ghost use lib.ListN.{length};
 ghost use Rattle.block_program.specs.Refused.{refusedText};
@@ -61,12 +63,12 @@ pub fn answer(input: i32, output: i32) -> u32 {
 // Says how a program ended, where that is not the file's end; `blocks` at the root makes of it the status.
 pub fn tell(ending: u32) {
     if ending == REFUSED {
-        io::write_all(STDERR_FILENO, b"a refusal ended the run\n");
+        say(b"a refusal ended the run\n");
     }
     if ending == UNREAD {
-        io::write_all(STDERR_FILENO, b"the input could not be read\n");
+        say_unread();
     }
     if ending == UNWRITTEN {
-        io::write_all(STDERR_FILENO, b"the answer could not be written\n");
+        say_unwritten();
     }
 }

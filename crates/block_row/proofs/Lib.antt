@@ -1,4 +1,4 @@
-mod Areas
+mod Spans
 mod Listed
 mod Lengths
 mod Passed

@@ -1,6 +1,6 @@
 -- A row of calls, one on: what is done, and what is still to do. Assumes nothing.
 use mathlib.Core.Path.{_≡_, refl, sym, ap, _∙_}
-use mathlib.Core.List.{List, [], _∷_, _++_, append-assoc}
+use mathlib.Core.List.{List, [], _++_, append-assoc}
 use Prim.Native.Nat.{ℕ, suc, _+_, _-_, _<_, _≤_}
 use native.Mathlib.Omega.{arith}
 use native.Mathlib.Numerals.{add-one}
@@ -12,33 +12,33 @@ use Rattle.meaning.specs.declared.Answer.{Answer}
 use Rattle.meaning.specs.Answer.{Outcome}
 use Rattle.meaning.specs.Inverse.{inverseOutcome}
 use Rattle.block_row.specs.Numbers.{putAt, putAll}
-use Rattle.block_row.specs.Row.{area, areas, Answered, blocks, answered}
-use Rattle.block_row.proofs.Areas.{areas-more}
+use Rattle.block_row.specs.Row.{span, spans, Answered, blocks, answered}
+use Rattle.block_row.proofs.Spans.{spans-more}
 use Rattle.block_row.proofs.Lengths.{inverse-long}
 
 -- k calls are made, and o numbers of both buffers are behind
 pub record Made (T : List Shape) (before : List ℕ) (c out₀ : List ℤ) (k o : ℕ) (answers : List ℕ) (out : List ℤ) : Type 0 where
-  pub left : o + areas (drop k T) ≡ length c
+  pub left : o + spans (drop k T) ≡ length c
   pub long : length out ≡ length c
   pub equal : _≡_ {A = Answered} (putAll (blocks (drop k T) (drop o c) (drop o out) .0) k answers, take o out ++ blocks (drop k T) (drop o c) (drop o out) .1) (answered T before c out₀)
 
-pub made-none : (T : List Shape) (before : List ℕ) (c out : List ℤ) → length c ≡ areas T → length out ≡ areas T → Made T before c out 0 0 before out
+pub made-none : (T : List Shape) (before : List ℕ) (c out : List ℤ) → length c ≡ spans T → length out ≡ spans T → Made T before c out 0 0 before out
 unfolding answered
 made-none T before c out a l = record { left = omega arith; long = l ∙ sym a; equal = refl }
 
 module _ {T : List Shape} {before : List ℕ} {c out₀ : List ℤ} {k o : ℕ} {answers : List ℕ} {out : List ℤ} (m : Made T before c out₀ k o answers out) where
   -- the next stretch lies within
-  pub made-room : (d : Shape) → k < length T → o + area (getD T k d) ≤ length c
-  made-room d h = omega (arith, m .left, areas-more T k d h)
+  pub made-room : (d : Shape) → k < length T → o + span (getD T k d) ≤ length c
+  made-room d h = omega (arith, m .left, spans-more T k d h)
 
   module _ (d : Shape) (r : Answer) (ys : List ℤ) (e : ℕ) where
-    pub made-next : k < length T → e ≡ o + area (getD T k d)
+    pub made-next : k < length T → e ≡ o + span (getD T k d)
         → _≡_ {A = Outcome} (r, ys) (inverseOutcome (getD T k d) (take (e - o) (drop o c)) (take (e - o) (drop o out)))
         → Made T before c out₀ (k + 1) e (putAt answers k r) (take o out ++ (ys ++ drop (e - o) (drop o out)))
     unfolding blocks putAll
     made-next h q b =
         let sh = getD T k d in
-        let a = area sh in
+        let a = span sh in
         let C = drop o c in
         let O = drop o out in
         let D = take o out in
@@ -57,7 +57,7 @@ module _ {T : List Shape} {before : List ℕ} {c out₀ : List ℤ} {k o : ℕ} 
         = ap (λ (z : Outcome). putAll (R .0) (suc k) (putAt answers k (z .0))) b′ in
         let y : (D ++ ys) ++ R .1 ≡ D ++ (inverseOutcome sh (take a C) (take a O) .1 ++ R .1)
         = append-assoc D ys (R .1) ∙ ap (λ (z : Outcome). D ++ (z .1 ++ R .1)) b′ in
-        let p : areas (drop k T) ≡ a + areas (drop (suc k) T) = areas-more T k d h in
+        let p : spans (drop k T) ≡ a + spans (drop (suc k) T) = spans-more T k d h in
         rw (s, add-one k) (record {
           left = omega (arith, m .left);
           long = length-append (D ++ ys) (drop a O) ∙ omega (arith, length-drop a O, length-drop o out, m .long);
@@ -65,11 +65,11 @@ module _ {T : List Shape} {before : List ℕ} {c out₀ : List ℤ} {k o : ℕ} 
         })
 
     -- the same, with the shape as it was read
-    pub made-next-of : (sh : Shape) → getD T k d ≡ sh → k < length T → e ≡ o + area sh
+    pub made-next-of : (sh : Shape) → getD T k d ≡ sh → k < length T → e ≡ o + span sh
         → _≡_ {A = Outcome} (r, ys) (inverseOutcome sh (take (e - o) (drop o c)) (take (e - o) (drop o out)))
         → Made T before c out₀ (k + 1) e (putAt answers k r) (take o out ++ (ys ++ drop (e - o) (drop o out)))
     made-next-of sh p h q b =
-        made-next h (q ∙ ap (λ (s : Shape). o + area s) (sym p))
+        made-next h (q ∙ ap (λ (s : Shape). o + span s) (sym p))
         (b ∙ ap (λ (s : Shape). inverseOutcome s (take (e - o) (drop o c)) (take (e - o) (drop o out))) (sym p))
 
 -- all calls are made

@@ -17,9 +17,9 @@ use Rattle.meaning.specs.Exact.{exact, weightSizes}
 use Rattle.meaning.proofs.Accepted.{inverse-accepted}
 use Rattle.meaning.proofs.NearExact.{demand3-call}
 use Rattle.block_row.specs.Numbers.{answerAt}
-use Rattle.block_row.specs.Row.{area, rowOutcome}
+use Rattle.block_row.specs.Row.{span, rowOutcome}
 use Rattle.block_row.specs.Calls.{stretch, startOf}
-use Rattle.block_row.proofs.Areas.{area-sized}
+use Rattle.block_row.proofs.Spans.{span-sized}
 use Rattle.block_row.proofs.OneByOne.{block-answer, block-stretch}
 
 module _ (shapes : List Shape) (answers : List ℕ) (c out : List ℤ) (number : rowOutcome shapes answers c out .0 ≡ 0)
@@ -32,7 +32,7 @@ module _ (shapes : List Shape) (answers : List ℕ) (c out : List ℤ) (number :
   start = startOf shapes k
 
   abbrev pub coefficients : List ℤ
-  coefficients = stretch start (area shape) c
+  coefficients = stretch start (span shape) c
 
   abbrev pub answer : Answer
   answer = answerAt (rowOutcome shapes answers c out .1 .0) k
@@ -43,14 +43,14 @@ module _ (shapes : List Shape) (answers : List ℕ) (c out : List ℤ) (number :
   pub block-demand3 : answer .number ≡ 0 → answer .rails ≡ 0 → (x y : ℕ) → x < shape .width → y < shape .height
       → natAbs (pos (2 ^ (27 - shape .depth)) *ℤ residualAt x y -ℤ exact (planOf shape) coefficients x y) ≤ 64 * (weightSizes (planOf shape) x + 2 ^ (20 - shape .depth))
   block-demand3 n r x y hx hy =
-      let O = stretch start (area shape) out in
+      let O = stretch start (span shape) out in
       let a = block-answer shapes answers c out number k d h room in
       let n′ = ap (λ (b : Answer). b .number) (sym a) ∙ n in
       let t = inverse-accepted shape coefficients O n′ .0 .taken in
-      let in-block : x + y * shape .width < area shape
-      = omega (arith, area-sized shape (t .width) (t .height), mul-comm (shape .width) (shape .height), place-in {x = x} {y = y} {w = shape .width} {h = shape .height} hx hy) in
+      let in-block : x + y * shape .width < span shape
+      = omega (arith, span-sized shape (t .width) (t .height), mul-comm (shape .width) (shape .height), place-in {x = x} {y = y} {w = shape .width} {h = shape .height} hx hy) in
       let out′ = rowOutcome shapes answers c out .1 .1 in
-      let z : residualAt x y ≡ at (stretch start (area shape) out′) (x + y * shape .width)
-      = sym (getD-take (area shape) (drop start out′) (x + y * shape .width) (pos 0) in-block ∙ getD-drop start out′ (x + y * shape .width) (pos 0)) in
+      let z : residualAt x y ≡ at (stretch start (span shape) out′) (x + y * shape .width)
+      = sym (getD-take (span shape) (drop start out′) (x + y * shape .width) (pos 0) in-block ∙ getD-drop start out′ (x + y * shape .width) (pos 0)) in
       rw (z ∙ ap (λ (l : List ℤ). at l (x + y * shape .width)) (block-stretch shapes answers c out number k d h))
       (demand3-call shape coefficients O n′ x y hx hy (ap (λ (b : Answer). b .rails) (sym a) ∙ r))

@@ -8,12 +8,12 @@ use lib.ListN.{length}
 use Rattle.algebra.specs.Refusals.{firstOf, numberOf}
 use Rattle.algebra.proofs.Refusals.{Clear, clear}
 use Rattle.meaning.specs.declared.Shape.{Shape}
-use Rattle.block_row.specs.Row.{areas, rowTests}
+use Rattle.block_row.specs.Row.{spans, rowTests}
 
 pub record Passed (shapes : List Shape) (input output : ℕ) : Type 0 where
   pub few : length shapes ≤ 64
-  pub long : input ≡ areas shapes
-  pub room : output ≡ areas shapes
+  pub long : input ≡ spans shapes
+  pub room : output ≡ spans shapes
 
 -- by any outcome that tells the number of its refusal
 module _ {A : Type 0} (number : A → ℕ) (refused : ℕ → ℕ → A) (done : A) (tells : (n place : ℕ) → number (refused n place) ≡ n) where
@@ -22,7 +22,7 @@ module _ {A : Type 0} (number : A → ℕ) (refused : ℕ → ℕ → A) (done :
     where
       of : Clear (rowTests shapes input output) → Passed shapes input output
       of (f, (l, (r, _))) =
-          let n = areas shapes in
+          let n = spans shapes in
           record { few = ltb-false 64 (length shapes) f; long = eqb-true input n (not-false (eqb input n) l); room = eqb-true output n (not-false (eqb output n) r) }
 
 -- by the number alone

@@ -14,21 +14,21 @@ use Rattle.meaning.specs.Inverse.{inverseOutcome}
 use Rattle.block_row.specs.Numbers.{putAll}
 
 -- "w*h": "A shape that fails 1 or 2 adds nothing to that sum"
-unfoldable pub area : Shape → ℕ
-area sh = cond (isSize (sh .width) && isSize (sh .height)) (sh .width * sh .height) 0
+unfoldable pub span : Shape → ℕ
+span sh = cond (isSize (sh .width) && isSize (sh .height)) (sh .width * sh .height) 0
 
 -- "the sum of w*h over the list"
-unfoldable pub areas : List Shape → ℕ
-areas [] = 0
-areas (sh ∷ shs) = area sh + areas shs
+unfoldable pub spans : List Shape → ℕ
+spans [] = 0
+spans (sh ∷ shs) = span sh + spans shs
 
 -- "an answer per block", and what the output holds: each block has the front of both buffers, and the blocks after it have the
 -- rest. "A refused block keeps its own stretch of the output; the others go on"
 unfoldable pub blocks : List Shape → List ℤ → List ℤ → List Answer × List ℤ
 blocks [] c out = ([], out)
 blocks (sh ∷ shs) c out =
-    let here = inverseOutcome sh (take (area sh) c) (take (area sh) out) in
-    let rest = blocks shs (drop (area sh) c) (drop (area sh) out) in
+    let here = inverseOutcome sh (take (span sh) c) (take (span sh) out) in
+    let rest = blocks shs (drop (span sh) c) (drop (span sh) out) in
     (here .0 ∷ rest .0, here .1 ++ rest .1)
 
 -- the numbers of the answers, and what the output holds
@@ -42,7 +42,7 @@ answered shapes answers c out = let made = blocks shapes c out in (putAll (made 
 -- "Refusals, for the whole call and in this order: .. 16 above 64 blocks; 6, then 7, where the buffers differ from the sum of
 -- w*h over the list"
 abbrev pub rowTests : List Shape → ℕ → ℕ → List Refusal
-rowTests shapes input output = test (ltb 64 (length shapes)) 16 ∷ lengthTests (areas shapes) input output
+rowTests shapes input output = test (ltb 64 (length shapes)) 16 ∷ lengthTests (spans shapes) input output
 
 -- the number of the whole call, the numbers of the answers, and what the output holds
 abbrev pub RowOutcome : Type 0

@@ -8,11 +8,11 @@ ghost use Prim.Native.Nat.{_≤_};
 ghost use lib.ListN.{length};
 ghost use Rattle.algebra.specs.Refusals.{numberOf};
 ghost use Rattle.block_row.specs.Numbers.{shapesOf};
-ghost use Rattle.block_row.specs.Row.{area, areas, Answered, answered, rowTests, RowOutcome, rowOutcome};
+ghost use Rattle.block_row.specs.Row.{span, spans, Answered, answered, rowTests, RowOutcome, rowOutcome};
 
 // How long a block's stretch of both buffers is.
-fn area_of(shape: Shape) -> usize
-    ensures { λ r. ⌜ r ≡ area shape ⌝ }
+fn span_of(shape: Shape) -> usize
+    ensures { λ r. ⌜ r ≡ span shape ⌝ }
 {
     if !is_size(shape.width) {
         return 0;
@@ -26,12 +26,12 @@ fn area_of(shape: Shape) -> usize
 // How long both buffers are.
 fn total(shapes: &[u32; 448], count: usize) -> usize
     requires { ⌜ count ≤ 64 ⌝ }
-    ensures { λ r. ⌜ r ≡ areas (shapesOf count (now (shapes .entry))) ⌝ }
+    ensures { λ r. ⌜ r ≡ spans (shapesOf count (now (shapes .entry))) ⌝ }
 {
     let mut sum = 0;
     let mut i = 0;
     while i < count {
-        sum += area_of(shape_at(shapes, i));
+        sum += span_of(shape_at(shapes, i));
         i += 1;
     }
     sum
@@ -69,7 +69,7 @@ fn each(
     let mut start = 0;
     while k < count {
         let shape = shape_at(shapes, k);
-        let end = start + area_of(shape);
+        let end = start + span_of(shape);
         let answer = transform::block::inverse(
             shape,
             &coefficients[start..end],

@@ -2,7 +2,7 @@
 use mathlib.Core.Path.{_≡_, refl, sym, ap, subst, _∙_}
 use mathlib.Core.Bool.{Bool, true, false, cond, not, false≢true}
 use mathlib.Core.List.{List, []}
-use Prim.Native.Nat.{ℕ, _+_, _*_, _-_, _≤_, _<_}
+use Prim.Native.Nat.{ℕ, _+_, _*_, _≤_, _<_}
 use native.Mathlib.Omega.{arith}
 use borrow.Author.Tests.{eq-eqb, ne-eqb}
 use lib.Dec.{eqb}
@@ -78,6 +78,12 @@ module _ (file : List ℕ) (c : Cursor) where
       found-cases file c (λ f. f .number ≡ 0 → isData (f .tag) ≡ true → Fits (c .shape) (take (f .bytes) (drop (f .start) file)) × Read file c f)
       (λ n h z e. absurd (false≢true e))
       (λ h l w z e. (record { held = data-held file (c .at) (c .shape) w e; long = body-long (w .body) ∙ w .numbers e }, read-field w l))
+
+  data-read : isData (foundAt file c .tag) ≡ true → foundAt file c .number ≡ 0
+  data-read = found-cases file c (λ f. isData (f .tag) ≡ true → f .number ≡ 0) (λ n z e. absurd (false≢true e)) (λ h l w e. refl)
+
+  pub data-fits : isData (foundAt file c .tag) ≡ true → Fits (c .shape) (bytesOf file c)
+  data-fits e = read-data (data-read e) e .0
 
   pub data-follows : {t : Turn} {at : ℕ} {o o₁ : List ℕ} {d : Done} → Fits (c .shape) (bytesOf file c) × Read file c (foundAt file c)
       → Does t (35 + 6 * length (bytesOf file c)) at o o₁ d → t .next ≡ foundAt file c .next → Follows (c .at) at d

@@ -1,4 +1,3 @@
 pub mod Writing
 pub mod Digits
-mod Signs
 mod Spaced

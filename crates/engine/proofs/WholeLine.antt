@@ -1,13 +1,13 @@
 -- A whole line by pairs, over the stored weights of its size: what it is given, and that it is the line. Assumes nothing.
-use mathlib.Core.Path.{_≡_, refl, sym, ap, _∙_, subst}
+use mathlib.Core.Path.{_≡_, refl, sym, ap, _∙_}
 use mathlib.Core.Bool.{Bool, true, false}
-use mathlib.Core.Logic.{_⊎_, inl}
+use mathlib.Core.Logic.{inl}
 use mathlib.Core.List.{List}
 use Prim.Native.Nat.{ℕ, _+_, _*_, _≤_, _<_}
 use native.Mathlib.Nat.{zero-add}
 use native.Mathlib.Omega.{arith}
 use lib.ListN.{length}
-use lib.IntN.{ℤ, pos, natAbs, _*ℤ_, *ℤ-comm}
+use lib.IntN.{ℤ, pos, _*ℤ_, *ℤ-comm}
 use Rattle.algebra.specs.Sum.{sum}
 use Rattle.algebra.specs.Lists.{at, tabulate}
 use Rattle.algebra.proofs.Sum.{sum-cong}
@@ -15,15 +15,11 @@ use Rattle.algebra.proofs.Lists.{tab-cong}
 use Rattle.meaning.specs.Weights.{weight}
 use Rattle.meaning.specs.Line.{forwardSum, inverseSum, forwardLine, inverseLine}
 use Rattle.meaning.specs.Taken.{TakenLine}
-use Rattle.meaning.proofs.Sizes.{weightSize}
 use Rattle.product.specs.Product.{spot, Laid, lineSum, shifted, Line}
 use Rattle.product.proofs.Laid.{spot-two, exact}
 use Rattle.tables.specs.Term.{term}
+use Rattle.tables.proofs.Terms.{laid-size}
 use Rattle.engine.specs.Lines.{Place, lineOf}
-
-light : (forward : Bool) (kind n j i : ℕ) → natAbs (term forward kind n j i) ≤ 90
-light true kind n j i = weightSize kind n j i
-light false kind n j i = weightSize kind n i j
 
 -- the sums of a line, in either direction
 sums : (forward : Bool) (kind n : ℕ) (x : ℕ → ℤ) → tabulate n (λ j. sum n (λ i. term forward kind n j i *ℤ x i)) ≡ lineOf forward kind n x
@@ -44,7 +40,7 @@ module _ {n m : ℕ} (q : n ≡ m) (pairs : ℕ) (two : 2 * pairs ≡ m) (few : 
         few = few;
         there = λ i l. omega (arith, spot-two i, w .long);
         held = λ i j l g. z .held i j l (omega (arith, room));
-        light = λ i j l g. inl (subst (λ (v : ℤ). natAbs v ≤ 90) (sym (z .right i j l (omega (arith, room)))) (light forward kind m j i));
+        light = λ i j l g. inl (laid-size forward kind z i j l (omega (arith, room)));
       }
 
   output : (j : ℕ) → j < m → shifted (pos 0) 0 (lineSum x 0 2 t (2 * m) pairs j) ≡ sum m (λ i. term forward kind m j i *ℤ at x i)

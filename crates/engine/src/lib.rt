@@ -2,12 +2,11 @@
 // functions ask that sizes and lengths were tested before, so they have a `requires`; every function that a user calls stands in
 // `transform` and has none. Read specs/Lines.
 use product::line;
+use tables::zipped::put_32;
 use tables::zipped::zipped_4;
 use tables::zipped::zipped_8;
 use tables::zipped::zipped_16;
-use tables::zipped::zipped_32;
 ghost use mathlib.Core.Path.{_≡_};
-ghost use mathlib.Core.Bool.{true};
 ghost use Prim.Native.Nat.{_+_, _*_, _<_};
 ghost use lib.ListN.{length};
 ghost use Rattle.algebra.specs.Lists.{at};
@@ -47,7 +46,8 @@ pub fn entry(n: usize, kind: u32, i: usize, j: usize) -> i32
         let t = zipped_16(kind, false);
         return stored(&t, 32, i, j);
     }
-    let t = zipped_32(kind, false);
+    let mut t = [0i16; 1024];
+    put_32(kind, false, &mut t);
     stored(&t, 64, i, j)
 }
 
@@ -66,7 +66,8 @@ pub fn full(n: usize, kind: u32, forward: bool, x: &[i16], y: &mut [i32])
         let t = zipped_16(kind, forward);
         line(8, 32, x, 0, 2, &t, 0, 0, y);
     } else {
-        let t = zipped_32(kind, forward);
+        let mut t = [0i16; 1024];
+        put_32(kind, forward, &mut t);
         line(16, 64, x, 0, 2, &t, 0, 0, y);
     }
 }

@@ -16,7 +16,6 @@ ghost use mathlib.Core.Path.{_≡_};
 ghost use lib.ListN.{length};
 ghost use Rattle.algebra.specs.Lists.{at};
 ghost use Rattle.meaning.specs.Line.{forwardLine};
-ghost use Rattle.folding.specs.Folds.{width};
 ghost use Rattle.folding.specs.Lines.{Given, kindOf, reading};
 ghost use Rattle.folding.specs.Steps.{Gathered};
 

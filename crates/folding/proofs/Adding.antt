@@ -1,5 +1,5 @@
 -- The sums of a class, row by row. Assumes nothing.
-use mathlib.Core.Path.{_≡_, refl, sym, ap, _∙_, subst}
+use mathlib.Core.Path.{_≡_, sym, ap, _∙_, subst}
 use mathlib.Core.List.{List, [], _∷_}
 use Prim.Native.Nat.{ℕ, _+_, _*_, _≤_, _<_}
 use native.Mathlib.Omega.{arith}
@@ -10,7 +10,7 @@ use Rattle.algebra.specs.Lists.{at}
 use Rattle.algebra.proofs.Lists.{Filled, zeros-at}
 use Rattle.meaning.specs.Weights.{S}
 use Rattle.tables.specs.Table.{Table}
-use Rattle.folding.specs.Folds.{Part, plus, folded}
+use Rattle.folding.specs.Folds.{Part, plus}
 use Rattle.folding.specs.Steps.{Small, Adding, Added}
 use Rattle.meaning.proofs.Sizes.{S-size}
 use Rattle.folding.proofs.Classes.{Summed}

@@ -1,23 +1,22 @@
 -- That every row of a class is folded so, and that the two sides of a fold are one, is computed: one test for each size over the
 -- whole table of weights, carried to each row and place. Then the law gives each output of a forward line and each place of an
 -- inverse one, over (n, p, q). Assumes nothing.
-use mathlib.Core.Path.{_≡_, refl, sym, ap, ap₂, _∙_, subst}
+use mathlib.Core.Path.{_≡_, refl, sym, ap, _∙_}
 use mathlib.Core.Bool.{Bool, true, false, cond, not, _&&_, _||_}
-use mathlib.Core.List.{List, [], _∷_}
-use Prim.Native.Nat.{ℕ, _+_, _*_, _%_, _≤_, _<_}
+use mathlib.Core.List.{List}
+use Prim.Native.Nat.{ℕ, _+_, _*_, _%_, _<_}
 use native.Mathlib.Omega.{arith}
-use native.Mathlib.Nat.{mul-le-mul, le-trans, le-refl}
-use lib.Dec.{T, eqb, eqb→eq}
-use borrow.Author.Tests.{eq-eqb, ne-eqb}
-use lib.IntN.{ℤ, pos, natAbs, _+ℤ_, _*ℤ_, +ℤ-idl, +ℤ-idr, zero-*ℤ, *ℤ-zero}
+use lib.Dec.{T, eqb}
+use borrow.Author.Tests.{eq-eqb}
+use lib.IntN.{ℤ, pos, _+ℤ_, _*ℤ_, +ℤ-idl, +ℤ-idr, zero-*ℤ, *ℤ-zero}
 use Rattle.algebra.specs.Equal.{eqZ}
 use Rattle.algebra.specs.Sum.{sum}
 use Rattle.algebra.specs.Lists.{at}
 use Rattle.algebra.proofs.Ring.{*ℤ-add, one-*ℤ}
 use Rattle.algebra.proofs.Sum.{sum-cong, sum-add}
 use Rattle.algebra.proofs.Table.{allTo, allTo-at, and-left, and-right, eqZ→eq}
-use Rattle.meaning.specs.Weights.{S, fold, first}
-use Rattle.folding.specs.Folds.{Part, folded, coefficient, half, classOf, leading, periodic, leadingInto, periodicInto, width, parts, into}
+use Rattle.meaning.specs.Weights.{S, first}
+use Rattle.folding.specs.Folds.{Part, folded, occurrence, half, classOf, width, parts, into}
 use Rattle.folding.specs.Steps.{Sized, shortSum, only, Class, joined}
 use Rattle.folding.proofs.Law.{below, folded-sum, fold-inputs, fold-sums}
 
@@ -29,7 +28,7 @@ abbrev placeFolds : ℕ → ℕ → ℕ → ℕ → ℕ → Bool
 placeFolds n p q c k = below (width p q c) (parts p q c k) && allTo n (rowFolds n p q c k)
 
 abbrev sameSide : ℕ → ℕ → ℕ → ℕ → ℕ → ℕ → Bool
-sameSide n p q c g k = eqZ (coefficient (into n p q c g) k) (coefficient (parts p q c k) g)
+sameSide n p q c g k = eqZ (occurrence (into n p q c g) k) (occurrence (parts p q c k) g)
 
 abbrev turnsRound : ℕ → ℕ → ℕ → ℕ → ℕ → Bool
 turnsRound n p q c g = below n (into n p q c g) && allTo n (sameSide n p q c g)
@@ -67,20 +66,20 @@ module _ (n p q c : ℕ) (t : T (folds n p q c)) where
           never z = omega arith
 
   -- a number that the inputs are folded to, seen from the places
-  gathered : (x : ℕ → ℤ) (g : ℕ) → g < width p q c → folded x (into n p q c g) ≡ sum n (λ k. coefficient (parts p q c k) g *ℤ x k)
+  gathered : (x : ℕ → ℤ) (g : ℕ) → g < width p q c → folded x (into n p q c g) ≡ sum n (λ k. occurrence (parts p q c k) g *ℤ x k)
   gathered x g h =
       let b = below n (into n p q c g) in
       let a = allTo n (sameSide n p q c g) in
       folded-sum n x (into n p q c g) (and-left b a (turn-of g h))
-      ∙ sum-cong n (λ k. coefficient (into n p q c g) k *ℤ x k) (λ k. coefficient (parts p q c k) g *ℤ x k)
-      (λ k l. ap (λ (z : ℤ). z *ℤ x k) (eqZ→eq (coefficient (into n p q c g) k) (coefficient (parts p q c k) g) (allTo-at n (sameSide n p q c g) (and-right b a (turn-of g h)) k l)))
+      ∙ sum-cong n (λ k. occurrence (into n p q c g) k *ℤ x k) (λ k. occurrence (parts p q c k) g *ℤ x k)
+      (λ k l. ap (λ (z : ℤ). z *ℤ x k) (eqZ→eq (occurrence (into n p q c g) k) (occurrence (parts p q c k) g) (allTo-at n (sameSide n p q c g) (and-right b a (turn-of g h)) k l)))
 
   -- forward: an output of the class
   pub short-is : (x : ℕ → ℤ) (t : List ℤ) → ((g : ℕ) → g < width p q c → at t g ≡ folded x (into n p q c g)) → (i : ℕ) → i < n → classOf p q i ≡ c
       → shortSum n (width p q c) t i ≡ sum n (λ k. S n i k *ℤ x k)
   unfolding shortSum
   short-is x t e i h d =
-      sum-cong (width p q c) (λ g. S n i g *ℤ at t g) (λ g. S n i g *ℤ sum n (λ k. coefficient (parts p q c k) g *ℤ x k)) (λ g l. ap (λ (z : ℤ). S n i g *ℤ z) (e g l ∙ gathered x g l))
+      sum-cong (width p q c) (λ g. S n i g *ℤ at t g) (λ g. S n i g *ℤ sum n (λ k. occurrence (parts p q c k) g *ℤ x k)) (λ g l. ap (λ (z : ℤ). S n i g *ℤ z) (e g l ∙ gathered x g l))
       ∙ sym (fold-inputs n (width p q c) (S n i) x (parts p q c) low (λ k l. row-folds k i l h d))
 
   -- inverse: a place, from the sums of the class
@@ -92,7 +91,7 @@ module _ (n p q c : ℕ) (t : T (folds n p q c)) where
     where
       folded-cong : (m : ℕ) (f g : ℕ → ℤ) (E : List Part) → T (below m E) → ((k : ℕ) → k < m → f k ≡ g k) → folded f E ≡ folded g E
       folded-cong m f g E b e =
-          folded-sum m f E b ∙ sum-cong m (λ k. coefficient E k *ℤ f k) (λ k. coefficient E k *ℤ g k) (λ k h. ap (λ (z : ℤ). coefficient E k *ℤ z) (e k h)) ∙ sym (folded-sum m g E b)
+          folded-sum m f E b ∙ sum-cong m (λ k. occurrence E k *ℤ f k) (λ k. occurrence E k *ℤ g k) (λ k h. ap (λ (z : ℤ). occurrence E k *ℤ z) (e k h)) ∙ sym (folded-sum m g E b)
 
       either : (b : Bool) (w v x : ℤ) → T (not b || eqZ w v) → w *ℤ cond b x (pos 0) ≡ v *ℤ cond b x (pos 0)
       either true w v x t = ap (λ (y : ℤ). y *ℤ x) (eqZ→eq w v t)
@@ -130,14 +129,14 @@ pub record Summed (n m : ℕ) (x : ℕ → ℤ) (rows : List Part) (a : List ℤ
   pub are : (g : ℕ) → g < m → at a g ≡ folded (λ i. S n i g *ℤ x i) rows
 
 abbrev pub these : ℕ → ℕ → ℕ → ℕ → List Part → Bool
-these n p q c rows = below n rows && allTo n (λ i. eqZ (coefficient rows i) (cond (eqb (classOf p q i) c) (pos 1) (pos 0)))
+these n p q c rows = below n rows && allTo n (λ i. eqZ (occurrence rows i) (cond (eqb (classOf p q i) c) (pos 1) (pos 0)))
 
 pub class-is : {n p q c : ℕ} {x : ℕ → ℤ} {rows : List Part} {a : List ℤ} → T (these n p q c rows) → Summed n (width p q c) x rows a → Class n p q c x a
 class-is {n} {p} {q} {c} {x} {rows} {a} t s =
     record {
       are = λ g h. s .are g h ∙ folded-sum n (λ i. S n i g *ℤ x i) rows (and-left (below n rows) _ t)
-          ∙ sum-cong n (λ i. coefficient rows i *ℤ (S n i g *ℤ x i)) (λ i. S n i g *ℤ only p q c x i)
-          (λ i l. ap (λ (z : ℤ). z *ℤ (S n i g *ℤ x i)) (eqZ→eq (coefficient rows i) (cond (eqb (classOf p q i) c) (pos 1) (pos 0)) (allTo-at n (λ i. eqZ (coefficient rows i) (cond (eqb (classOf p q i) c) (pos 1) (pos 0))) (and-right (below n rows) _ t) i l))
+          ∙ sum-cong n (λ i. occurrence rows i *ℤ (S n i g *ℤ x i)) (λ i. S n i g *ℤ only p q c x i)
+          (λ i l. ap (λ (z : ℤ). z *ℤ (S n i g *ℤ x i)) (eqZ→eq (occurrence rows i) (cond (eqb (classOf p q i) c) (pos 1) (pos 0)) (allTo-at n (λ i. eqZ (occurrence rows i) (cond (eqb (classOf p q i) c) (pos 1) (pos 0))) (and-right (below n rows) _ t) i l))
           ∙ either (eqb (classOf p q i) c) (S n i g) (x i));
     }
   where

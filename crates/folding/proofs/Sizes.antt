@@ -1,12 +1,11 @@
 -- The three sizes with shared weights: L = 2n+1 is 3 * 3, 3 * 11 and 5 * 13. Assumes nothing.
-use mathlib.Core.Path.{_≡_, refl, subst}
-use mathlib.Core.Bool.{Bool}
-use Prim.Native.Nat.{ℕ, _+_, _*_, _/_, _≤_, _<_}
+use mathlib.Core.Path.{refl}
+use Prim.Native.Nat.{ℕ, _+_, _*_, _≤_, _<_}
 use native.Mathlib.Omega.{arith}
 use Rattle.meaning.specs.Weights.{S, fold, first}
 use Rattle.algebra.proofs.Lists.{row-in}
-use Rattle.folding.specs.Folds.{half, classOf, leading, periodic, leadingInto, periodicInto}
-use Rattle.folding.specs.Steps.{Stretched, Sized}
+use Rattle.folding.specs.Folds.{classOf, leading, periodic, leadingInto, periodicInto}
+use Rattle.folding.specs.Steps.{Stretched}
 use Rattle.folding.proofs.Classes.{Shared}
 
 each : (n s m : ℕ) → m * s ≤ n → (k : ℕ) → k < m → k * s + s ≤ n

@@ -1,15 +1,15 @@
 -- DCT-VIII by the weights of DST-VII: forward, the inputs backwards and the signs on the sums; inverse, the signs on the inputs and
 -- the sums backwards. Assumes nothing.
 use mathlib.Core.Path.{_≡_, refl, sym, ap, _∙_, subst}
-use mathlib.Core.Bool.{Bool, true, false, cond, _||_}
+use mathlib.Core.Bool.{Bool, true, false, _||_}
 use mathlib.Core.List.{List}
-use Prim.Native.Nat.{ℕ, suc, _+_, _-_, _<_}
+use Prim.Native.Nat.{ℕ, suc, _-_, _<_}
 use native.Mathlib.Omega.{arith}
 use lib.Dec.{T, eqb, eqb→eq}
 use lib.ListN.{length}
 use lib.IntN.{ℤ, _*ℤ_}
 use Rattle.algebra.specs.Sum.{sum}
-use Rattle.algebra.specs.Lists.{at, tabulate}
+use Rattle.algebra.specs.Lists.{at}
 use Rattle.algebra.proofs.Ring.{neg-*ℤ, *ℤ-neg}
 use Rattle.algebra.proofs.Sum.{sum-cong, sum-rev, sum-neg}
 use Rattle.algebra.proofs.Lists.{tabulated}

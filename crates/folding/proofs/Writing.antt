@@ -1,19 +1,16 @@
 -- The outputs of a forward line, written row by row in any order. Assumes nothing.
 use mathlib.Core.Path.{_≡_, refl, sym, ap, _∙_, subst}
-use mathlib.Core.Bool.{Bool, true, false, not, cond, _&&_, _||_}
+use mathlib.Core.Bool.{Bool, true, false, not, _||_}
 use mathlib.Core.List.{List}
 use Prim.Native.Nat.{ℕ, _≤_, _<_}
 use native.Mathlib.Omega.{arith}
-use native.Mathlib.Decide.{ℕ-discrete}
-use borrow.Author.Tests.{eq-eqb, ne-eqb}
+use borrow.Author.Tests.{eq-eqb}
 use lib.Dec.{T, eqb, eqb→eq}
 use lib.ListN.{length, set, length-set}
 use lib.Seq.{getD-set-same, getD-set-other}
-use lib.IntN.{ℤ, pos, _*ℤ_}
-use Rattle.algebra.specs.Sum.{sum}
+use lib.IntN.{ℤ, pos}
 use Rattle.algebra.specs.Lists.{at}
 use Rattle.algebra.proofs.Table.{allTo, allTo-at}
-use Rattle.meaning.specs.Weights.{S}
 use Rattle.meaning.specs.Line.{forwardLine}
 use Rattle.tables.specs.Table.{Table}
 use Rattle.folding.specs.Folds.{classOf, width}

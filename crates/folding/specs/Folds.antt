@@ -21,10 +21,10 @@ folded f (plus g ∷ E) = f g +ℤ folded f E
 folded f (minus g ∷ E) = negℤ (f g) +ℤ folded f E
 
 -- how often, and with which sign, place k occurs
-abbrev pub coefficient : List Part → ℕ → ℤ
-coefficient [] k = pos 0
-coefficient (plus g ∷ E) k = cond (eqb g k) (pos 1) (pos 0) +ℤ coefficient E k
-coefficient (minus g ∷ E) k = cond (eqb g k) (negsuc 0) (pos 0) +ℤ coefficient E k
+abbrev pub occurrence : List Part → ℕ → ℤ
+occurrence [] k = pos 0
+occurrence (plus g ∷ E) k = cond (eqb g k) (pos 1) (pos 0) +ℤ occurrence E k
+occurrence (minus g ∷ E) k = cond (eqb g k) (negsuc 0) (pos 0) +ℤ occurrence E k
 
 -- ---- the classes
 abbrev pub half : ℕ → ℕ

@@ -11,7 +11,7 @@ use Rattle.algebra.specs.Lists.{at}
 use Rattle.meaning.specs.Weights.{S}
 use Rattle.tables.specs.Table.{Table}
 use Rattle.folding.specs.Folds.{half, classOf, width, parts, into, folded}
-use Rattle.folding.specs.Lines.{turned, reading, used}
+use Rattle.folding.specs.Lines.{turned}
 
 -- m numbers, of size at most B
 pub record Small (m B : ℕ) (a : List ℤ) : Type 0 where

@@ -3,3 +3,4 @@ pub mod OneLine
 pub mod TwoStages
 pub mod RoomsFor
 pub mod Ends
+pub mod Turning

@@ -40,10 +40,10 @@ fewer-rows : {rows h k w : ℕ} → k ≤ w → 0 < w → rows < h → rows * k 
 fewer-rows {rows} {h} {k} {w} c s l = omega (arith, mul-le-mul-left rows c, mul-le-mul-right w l, suc-mul rows w)
 
 -- the weights of the kept outputs
-laid-few : {kind n kept outputs : ℕ} {t : List ℤ} → Outputs kind n kept outputs t → Laid kept (n / 2) 2 (2 * outputs) (λ i j. weight kind n j i) t
-laid-few o = laid-less (o .enough) (omega arith) (λ i j h g. refl) (o .laid)
+laid-few : (kind : ℕ) {n kept : ℕ} {t : List ℤ} → kept ≤ n → Outputs kind n t → Laid kept (n / 2) 2 (2 * n) (λ i j. weight kind n j i) t
+laid-few kind l = laid-less l (omega arith) (λ i j h g. refl)
 
-module _ {sh : Shape} {r t u : List ℤ} {across tall room : ℕ} (g : Residuals sh r) (m : Rooms sh across t tall u room) where
+module _ {sh : Shape} {r t u : List ℤ} {room : ℕ} (g : Residuals sh r) (m : Rooms sh t u room) where
   abbrev w : ℕ
   w = sh .width
 
@@ -79,20 +79,20 @@ module _ {sh : Shape} {r t u : List ℤ} {across tall room : ℕ} (g : Residuals
       place : (i y : ℕ) → w * y + spot 2 i ≡ i + y * w
       place i y = omega (arith, mul-comm w y)
 
-  row-same : (x y : ℕ) → x < columns → y < h → lineValue (w / 2) r w 2 t (2 * across) (rowShift sh) x y ≡ rowValue sh r x y
+  row-same : (x y : ℕ) → x < columns → y < h → lineValue (w / 2) r w 2 t (2 * w) (rowShift sh) x y ≡ rowValue sh r x y
   unfolding rowValue forwardSum
   row-same x y hx hy =
       ap (nearest (rowShift sh))
-      (line-is row-laid (m .along .laid) y x hy (omega (arith, m .along .enough))
+      (line-is row-laid (m .along) y x hy (omega (arith, columns-kept sh (g .taken) .within))
       ∙ ap (λ (n : ℕ). sum n (λ i. at r (i + y * w) *ℤ weight (sh .horizontal) w x i)) (wide .1)
       ∙ sum-cong w _ _ (λ i _. *ℤ-comm (at r (i + y * w)) (weight (sh .horizontal) w x i)))
 
-  pub row-put : (size : ℕ) → size ≡ w * h → Put (w / 2) r w 2 t (2 * across) columns h columns (rowShift sh) size
+  pub row-put : (size : ℕ) → size ≡ w * h → Put (w / 2) r w 2 t (2 * w) columns h columns (rowShift sh) size
   row-put size e =
       let l = log-in w in
       let d = depth-cases (sh .depth) (g .taken .depth) in
       record {
-        lines = lines-given row-laid (laid-few (m .along)) (omega (arith, wide)) (omega (arith, size-in w (g .taken .width))) (λ i x y. inl (weightSize (sh .horizontal) w x i));
+        lines = lines-given row-laid (laid-few (sh .horizontal) (columns-kept sh (g .taken) .within) (m .along)) (omega (arith, wide)) (omega (arith, size-in w (g .taken .width))) (λ i x y. inl (weightSize (sh .horizontal) w x i));
         few = few;
         narrow = omega arith;
         held = omega (arith, mul-le-mul-left h (columns-kept sh (g .taken) .within), area);
@@ -102,7 +102,7 @@ module _ {sh : Shape} {r t u : List ℤ} {across tall room : ℕ} (g : Residuals
       }
 
   -- ---- between the stages
-  module _ {c c₀ : List ℤ} (long : length c₀ ≡ w * h) (s : Stage columns columns h (lineValue (w / 2) r w 2 t (2 * across) (rowShift sh)) c c₀) where
+  module _ {c c₀ : List ℤ} (long : length c₀ ≡ w * h) (s : Stage columns columns h (lineValue (w / 2) r w 2 t (2 * w) (rowShift sh)) c c₀) where
     pub zip-given : {z : List ℤ} → length z ≡ room → Rows (h / 2) columns columns c z
     zip-given {z} e =
         record {
@@ -118,19 +118,19 @@ module _ {sh : Shape} {r t u : List ℤ} {across tall room : ℕ} (g : Residuals
 
     -- ---- columns
     module _ {z : List ℤ} (zipped : Laid columns (h / 2) 2 (2 * columns) (λ i x. at c (x + i * columns)) z) where
-      column-same : (x y : ℕ) → x < columns → y < rows → lineValue (h / 2) u 2 (2 * tall) z (2 * columns) (columnShift sh) x y ≡ columnValue sh r x y
+      column-same : (x y : ℕ) → x < columns → y < rows → lineValue (h / 2) u 2 (2 * h) z (2 * columns) (columnShift sh) x y ≡ columnValue sh r x y
       unfolding columnValue forwardSum
       column-same x y hx hy =
           ap (nearest (columnShift sh))
-          (line-is (m .down .laid) zipped y x (omega (arith, m .down .enough)) hx
+          (line-is (m .down) zipped y x (omega (arith, rows-kept sh (g .taken) .within)) hx
           ∙ ap (λ (n : ℕ). sum n (λ i. weight (sh .vertical) h y i *ℤ at c (x + i * columns))) (high .1)
           ∙ sum-cong h _ _ (λ i k q. weight (sh .vertical) h y i *ℤ (s .done x i hx k ∙ row-same x i hx k) q))
 
-      pub column-put : (size : ℕ) → size ≡ w * h → Put (h / 2) u 2 (2 * tall) z (2 * columns) columns rows w (columnShift sh) size
+      pub column-put : (size : ℕ) → size ≡ w * h → Put (h / 2) u 2 (2 * h) z (2 * columns) columns rows w (columnShift sh) size
       column-put size e =
           let l = log-in h in
           record {
-            lines = lines-given (laid-few (m .down)) zipped (omega (arith, high)) (omega (arith, size-in h (g .taken .height))) (λ i x y. inr (weightSize (sh .vertical) h y i));
+            lines = lines-given (laid-few (sh .vertical) (rows-kept sh (g .taken) .within) (m .down)) zipped (omega (arith, high)) (omega (arith, size-in h (g .taken .height))) (λ i x y. inr (weightSize (sh .vertical) h y i));
             few = few;
             narrow = columns-kept sh (g .taken) .within;
             held = omega (arith, mul-le-mul-right w (rows-kept sh (g .taken) .within), area);
@@ -143,7 +143,7 @@ module _ {sh : Shape} {r t u : List ℤ} {across tall room : ℕ} (g : Residuals
 
       -- all places: the kept ones are written, and where there are others they were cleared
       pub block-done : {a a₀ : List ℤ} → length a₀ ≡ w * h → (rows * columns < length a₀ → (k : ℕ) → k < length a₀ → at a₀ k ≡ pos 0)
-          → Stage columns w rows (lineValue (h / 2) u 2 (2 * tall) z (2 * columns) (columnShift sh)) a a₀ → a ≡ forwardBlock sh r
+          → Stage columns w rows (lineValue (h / 2) u 2 (2 * h) z (2 * columns) (columnShift sh)) a a₀ → a ≡ forwardBlock sh r
       unfolding forwardBlock coefficient
       block-done {a} {a₀} l none q =
           block-ext w h (coefficient sh r) a (q .long ∙ l ∙ sym area)

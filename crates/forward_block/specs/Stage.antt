@@ -40,14 +40,12 @@ pub record Stage (kept wide some : ℕ) (f : ℕ → ℕ → ℤ) (a a₀ : List
   pub beside : (x y : ℕ) → kept ≤ x → x < wide → y < some → at a (x + y * wide) ≡ at a₀ (x + y * wide)
   pub below : (k : ℕ) → some * wide ≤ k → at a k ≡ at a₀ k
 
--- the weights of a stage: of `outputs` outputs, the kept ones among them, and of all n inputs
-pub record Outputs (kind n kept outputs : ℕ) (t : List ℤ) : Type 0 where
-  pub enough : kept ≤ outputs
-  pub few : outputs ≤ 32
-  pub laid : Laid outputs (n / 2) 2 (2 * outputs) (λ i j. weight kind n j i) t
+-- the weights of a stage of n points, all of them
+abbrev pub Outputs : ℕ → ℕ → List ℤ → Type 0
+Outputs kind n t = Laid n (n / 2) 2 (2 * n) (λ i j. weight kind n j i) t
 
 -- those of both stages, and room for the pairs of rows between them
-pub record Rooms (sh : Shape) (across : ℕ) (t : List ℤ) (tall : ℕ) (u : List ℤ) (room : ℕ) : Type 0 where
-  pub along : Outputs (sh .horizontal) (sh .width) (sh .columns) across t
-  pub down : Outputs (sh .vertical) (sh .height) (sh .rows) tall u
+pub record Rooms (sh : Shape) (t u : List ℤ) (room : ℕ) : Type 0 where
+  pub along : Outputs (sh .horizontal) (sh .width) t
+  pub down : Outputs (sh .vertical) (sh .height) u
   pub between : sh .height * sh .columns ≤ room

@@ -1,6 +1,8 @@
 // Both stages of a forward block. Along a row the inputs of a line are its residuals; down the columns they are weights, and the
 // weights are the rows between the stages, zipped: output y of every column is one line. What stands between the stages is
 // written where the coefficients will stand.
+use crate::four::four;
+use crate::four::is_four;
 use crate::place::clear_beyond;
 use crate::place::narrow;
 use crate::shift::column_shift;
@@ -11,12 +13,11 @@ use meaning::kept_columns;
 use meaning::kept_rows;
 use product::half;
 use product::lines;
-use tables::stage::weights_128;
-use tables::stage::weights_512;
-use tables::stage::weights_1024;
+use tables::stage::put_128;
+use tables::stage::put_1024;
 ghost use mathlib.Core.Path.{_≡_};
 ghost use mathlib.Core.Bool.{true};
-ghost use Prim.Native.Nat.{_*_, _/_, _≤_, min};
+ghost use Prim.Native.Nat.{_*_, _/_, _≤_};
 ghost use lib.ListN.{length};
 ghost use Rattle.meaning.specs.Shape.{isSize};
 ghost use Rattle.meaning.specs.Forward.{forwardBlock};
@@ -95,18 +96,15 @@ fn stage(
 }
 
 // "Rows first", the kept columns of them; "then columns", the kept rows of them. In lent rooms, whatever their lengths are: `along`
-// has the weights of `across` outputs, `down` those of `tall`.
+// has the weights of the rows, and then the rows between the stages, zipped; `down` has those of the columns.
 fn worked(
     shape: Shape,
     residuals: &[i16],
-    along: &[i16],
-    across: usize,
+    along: &mut [i16],
     down: &[i16],
-    tall: usize,
-    z: &mut [i16],
     coefficients: &mut [i16],
 )
-    requires { ⌜ Residuals shape (now residuals) × (Rooms shape across (now along) tall (now down) (length (now z)) × (length (now coefficients) ≡ shape .width * shape .height)) ⌝ }
+    requires { ⌜ Residuals shape (now residuals) × (Rooms shape (now along) (now down) (length (now along)) × (length (now coefficients) ≡ shape .width * shape .height)) ⌝ }
     ensures { λ _. ⌜ now (coefficients .exit) ≡ forwardBlock shape (now (residuals .entry)) ⌝ }
 {
     let w = shape.width as usize;
@@ -121,21 +119,21 @@ fn worked(
         w,
         2,
         along,
-        2 * across,
+        2 * w,
         columns,
         h,
         columns,
         p,
         coefficients,
     );
-    zip(coefficients, columns, h / 2, columns, z);
+    zip(coefficients, columns, h / 2, columns, along);
     clear_beyond(rows * columns, coefficients);
     stage(
         h,
         down,
         2,
-        2 * tall,
-        z,
+        2 * h,
+        along,
         2 * columns,
         columns,
         rows,
@@ -152,55 +150,26 @@ fn small(shape: Shape, residuals: &[i16], coefficients: &mut [i16])
 {
     let w = shape.width as usize;
     let h = shape.height as usize;
-    let along = weights_128(shape.horizontal, true, w);
-    let down = weights_128(shape.vertical, true, h);
-    let mut z = [0i16; 64];
-    worked(shape, residuals, &along, w, &down, h, &mut z, coefficients);
+    let mut along = [0i16; 128];
+    put_128(shape.horizontal, true, w, &mut along);
+    let mut down = [0i16; 128];
+    put_128(shape.vertical, true, h, &mut down);
+    worked(shape, residuals, &mut along, &down, coefficients);
 }
 
-fn least(a: usize, b: usize) -> usize
-    ensures { λ r. ⌜ r ≡ min a b ⌝ }
-{
-    if a < b { a } else { b }
-}
-
-// Where no more than 16 columns and rows are kept.
 fn large(shape: Shape, residuals: &[i16], coefficients: &mut [i16])
-    requires { ⌜ Residuals shape (now residuals) × ((length (now coefficients) ≡ shape .width * shape .height) × ((shape .columns ≤ 16) × (shape .rows ≤ 16))) ⌝ }
-    ensures { λ _. ⌜ now (coefficients .exit) ≡ forwardBlock shape (now (residuals .entry)) ⌝ }
-{
-    let w = shape.width as usize;
-    let h = shape.height as usize;
-    let along = weights_512(shape.horizontal, true, w);
-    let down = weights_512(shape.vertical, true, h);
-    let across = least(w, 16);
-    let tall = least(h, 16);
-    let mut z = [0i16; 512];
-    worked(
-        shape,
-        residuals,
-        &along,
-        across,
-        &down,
-        tall,
-        &mut z,
-        coefficients,
-    );
-}
-
-fn largest(shape: Shape, residuals: &[i16], coefficients: &mut [i16])
     requires { ⌜ Residuals shape (now residuals) × (length (now coefficients) ≡ shape .width * shape .height) ⌝ }
     ensures { λ _. ⌜ now (coefficients .exit) ≡ forwardBlock shape (now (residuals .entry)) ⌝ }
 {
     let w = shape.width as usize;
     let h = shape.height as usize;
-    let along = weights_1024(shape.horizontal, true, w);
-    let down = weights_1024(shape.vertical, true, h);
-    let mut z = [0i16; 1024];
-    worked(shape, residuals, &along, w, &down, h, &mut z, coefficients);
+    let mut along = [0i16; 1024];
+    put_1024(shape.horizontal, true, w, &mut along);
+    let mut down = [0i16; 1024];
+    put_1024(shape.vertical, true, h, &mut down);
+    worked(shape, residuals, &mut along, &down, coefficients);
 }
 
-// A block of up to 8 by 8, then one of which no more than 16 columns and rows are kept, then all others.
 fn is_small(shape: Shape) -> bool
     ensures { λ r. ⌜ (r ≡ true → (shape .width ≤ 8) × (shape .height ≤ 8)) ⌝ }
 {
@@ -210,24 +179,15 @@ fn is_small(shape: Shape) -> bool
     shape.height <= 8
 }
 
-fn is_large(shape: Shape) -> bool
-    ensures { λ r. ⌜ (r ≡ true → (shape .columns ≤ 16) × (shape .rows ≤ 16)) ⌝ }
-{
-    if 16 < kept_columns(shape) {
-        return false;
-    }
-    kept_rows(shape) <= 16
-}
-
 pub fn stages(shape: Shape, residuals: &[i16], coefficients: &mut [i16])
     requires { ⌜ Residuals shape (now residuals) × (length (now coefficients) ≡ shape .width * shape .height) ⌝ }
     ensures { λ _. ⌜ now (coefficients .exit) ≡ forwardBlock shape (now (residuals .entry)) ⌝ }
 {
-    if is_small(shape) {
+    if is_four(shape) {
+        four(shape, residuals, coefficients);
+    } else if is_small(shape) {
         small(shape, residuals, coefficients);
-    } else if is_large(shape) {
-        large(shape, residuals, coefficients);
     } else {
-        largest(shape, residuals, coefficients);
+        large(shape, residuals, coefficients);
     }
 }

@@ -6,11 +6,11 @@ use mathlib.Core.Path.{_≡_, refl, sym, ap, _∙_}
 use mathlib.Core.List.{[], _∷_}
 use Prim.Native.Nat.{ℕ, zero, suc, _+_, _*_, _-_, _≤_, _<_}
 use native.Mathlib.Omega.{arith}
-use lib.IntN.{ℤ, pos, negℤ, _+ℤ_, _-ℤ_, _*ℤ_}
+use lib.IntN.{ℤ, negℤ, _+ℤ_, _-ℤ_, _*ℤ_}
 use Rattle.algebra.specs.Sum.{sum}
 use Rattle.algebra.proofs.Ring.{neg-*ℤ, *ℤ-neg, *ℤ-add}
-use Rattle.algebra.proofs.Normal.{ν, _⊕_, _⊖_, _⊗_, ring! }
-use Rattle.algebra.proofs.Sum.{sum-suc, sum-cong, sum-add, sum-neg, sum-split, sum-rev}
+use Rattle.algebra.proofs.Normal.{ν, _⊕_, ring! }
+use Rattle.algebra.proofs.Sum.{sum-cong, sum-add, sum-neg, sum-split, sum-rev}
 use Rattle.meaning.specs.Weights.{weight}
 use Rattle.meaning.specs.Line.{forwardSum, inverseSum}
 use Rattle.halves.specs.Halves.{Halves, odd, oddSum, evens, sums, differences}

@@ -2,11 +2,11 @@
 -- Assumes nothing.
 use mathlib.Core.Path.{_≡_, sym, ap, _∙_, subst}
 use mathlib.Core.List.{List}
-use Prim.Native.Nat.{ℕ, _+_, _*_, _-_, _/_, _%_, _≤_, _<_}
+use Prim.Native.Nat.{ℕ, _+_, _*_, _≤_, _<_}
 use native.Mathlib.Nat.{zero-add, one-mul, mul-le-mul, mul-add, mul-assoc, mul-comm}
 use native.Mathlib.Omega.{arith}
 use lib.ListN.{length}
-use lib.IntN.{ℤ, pos, natAbs, _*ℤ_}
+use lib.IntN.{ℤ, natAbs, _*ℤ_}
 use Rattle.algebra.specs.Sum.{sum}
 use Rattle.algebra.specs.Lists.{at, tabulate}
 use Rattle.algebra.proofs.Order.{abs-mul}
@@ -18,7 +18,7 @@ use Rattle.meaning.specs.Taken.{TakenLine, NoneAbove}
 use Rattle.meaning.proofs.Sizes.{weightSize}
 use Rattle.halves.specs.Halves.{Halves, odd, oddSum, evens}
 use Rattle.halves.specs.Lines.{strided, Inputs, Sums, Joined}
-use Rattle.halves.proofs.Tables.{tab-holds, tab-long}
+use Rattle.halves.proofs.Tables.{odd-size, tab-holds, tab-long}
 use Rattle.halves.proofs.Joining.{joined}
 
 -- ---- sizes: no sum of 16 products is near the end of 32 bits
@@ -59,7 +59,7 @@ module _ {h apart : ℕ} {x : List ℤ} (inputs : Inputs (h + h) apart x) where
           even = λ j l. subst (λ (z : ℤ). natAbs z ≤ 1000000000) (sym (tab-holds h e _ evened j l))
               (small-sum h (λ i. weight 0 h i j) (strided x (2 * apart)) few (λ i. weightSize 0 h i j) (λ i. inputs .low (2 * apart * i)));
           odd = λ j l. subst (λ (z : ℤ). natAbs z ≤ 1000000000) (sym (odded j l))
-              (small-sum h (λ i. odd (h + h) i j) (λ i. at x (apart + i * (2 * apart))) few (λ i. weightSize 0 (h + h) (2 * i + 1) j) (λ i. inputs .low (apart + i * (2 * apart))));
+              (small-sum h (λ i. odd (h + h) i j) (λ i. at x (apart + i * (2 * apart))) few (λ i. odd-size (h + h) i j) (λ i. inputs .low (apart + i * (2 * apart))));
         }
 
     pub step : Halves (h + h) h → (out : List ℤ) → Joined h h e o out → out ≡ tabulate (h + h) (inverseSum 0 (h + h) (h + h) (strided x apart))

@@ -1,6 +1,6 @@
 -- A stored half by one computed test, and what the product by pairs is given of it. Assumes nothing.
-use mathlib.Core.Path.{_≡_, refl, sym, ap, _∙_, subst}
-use mathlib.Core.Logic.{_⊎_, inl}
+use mathlib.Core.Path.{_≡_, sym, ap, _∙_, subst}
+use mathlib.Core.Logic.{inl}
 use mathlib.Core.List.{List}
 use Prim.Native.Nat.{ℕ, _+_, _*_, _≤_, _<_}
 use native.Mathlib.Nat.{zero-add}
@@ -13,9 +13,11 @@ use Rattle.algebra.specs.Lists.{at, tabulate}
 use Rattle.algebra.proofs.Sum.{sum-cong}
 use Rattle.algebra.proofs.Lists.{tab-at, tab-length}
 use Rattle.algebra.proofs.Table.{every}
+use Rattle.meaning.proofs.Sizes.{weightSize}
 use Rattle.product.specs.Product.{spot, Laid, lineSum, shifted, Line}
 use Rattle.product.proofs.Laid.{spot-two, exact}
 use Rattle.tables.proofs.Pairs.{byPair, laid-by}
+use Rattle.halves.specs.Halves.{odd}
 use Rattle.halves.specs.Lines.{Half, Row}
 
 -- what a tabulated list holds
@@ -26,6 +28,10 @@ pub tab-long : (n : ℕ) (l : List ℤ) (f : ℕ → ℤ) → l ≡ tabulate n f
 tab-long n l f e = ap length e ∙ tab-length n f
 
 -- ---- a stored half
+-- the weights of an odd half are weights
+pub odd-size : (n i j : ℕ) → natAbs (odd n i j) ≤ 90
+odd-size n i j = weightSize 0 n (2 * i + 1) j
+
 pub laid-half : {W : ℕ → ℕ → ℤ} {h : ℕ} {t : List ℤ} (pairs : ℕ) → 2 * pairs ≡ h → h ≤ 16 → Laid h pairs 2 (2 * h) W t → Half W h t
 laid-half pairs two few z = record { few = few; held = λ i j k g. z .held i j (omega arith) g; right = λ i j k g. z .right i j (omega arith) g }
 

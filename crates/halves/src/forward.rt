@@ -9,7 +9,7 @@ use crate::table::odd_16;
 use crate::table::odd_32;
 use tables::zipped::zipped_4;
 ghost use mathlib.Core.Path.{_≡_};
-ghost use Prim.Native.Nat.{ℕ, _+_, _*_, _≤_, _<_};
+ghost use Prim.Native.Nat.{_+_, _*_, _<_};
 ghost use lib.IntN.{_*ℤ_};
 ghost use lib.ListN.{length};
 ghost use Rattle.algebra.specs.Sum.{sum};

@@ -9,7 +9,7 @@ use crate::table::odd_32;
 use product::line;
 use tables::zipped::zipped_4;
 ghost use mathlib.Core.Path.{_≡_};
-ghost use Prim.Native.Nat.{ℕ, _+_, _*_, _≤_, _<_};
+ghost use Prim.Native.Nat.{ℕ, _+_, _*_, _<_};
 ghost use lib.ListN.{length};
 ghost use Rattle.algebra.specs.Lists.{at, tabulate};
 ghost use Rattle.meaning.specs.Line.{inverseSum, inverseLine};

@@ -1,4 +1,6 @@
-// Internal: lines of kind 0 by their even and odd halves.
+// Internal: lines of kind 0 by their even and odd halves, for calls that were tested, so with a `requires`. Read specs/Halves; of
+// proofs/, ByHalves, which has the split once over the size, and Halved, that every size's weights are such; then inverse and forward,
+// with specs/Lines. table has the weights of the odd halves, arith sums in 32 bits.
 pub mod arith;
 pub mod forward;
 pub mod inverse;

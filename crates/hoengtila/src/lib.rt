@@ -1,6 +1,6 @@
 // The library for C and Rust: each public function of `transform`, `long_block`, `wrapping`, `block_row`, `round_trip`, `report`,
-// `step_run`, `step_lists`, `picture` and `salvage`, and the one that makes a shape, under the name and with the arguments that
-// include/hoengtila.h declares. A wrapper is one call and has the contract of what it calls; none has a `requires`, so whatever
+// `step_run`, `step_lists`, `picture` and `salvage`, and the one that makes a shape, under the name and with the
+// arguments that include/hoengtila.h declares. A wrapper is one call and has the contract of what it calls; none has a `requires`, so whatever
 // numbers and lengths a caller hands over, the contract says what comes back. Read it beside the header.
 use meaning::Answer;
 use meaning::Shape;

@@ -1,27 +1,22 @@
--- The hunt for 8 and the parts of a block: what is zero outside of a kept part is not found, and what is not found is zero.
--- Assumes nothing.
-use mathlib.Core.Path.{_≡_, refl, sym, ap, _∙_, subst}
-use mathlib.Core.Bool.{Bool, true, false, not, _&&_}
+-- The live part of a block, and the hunt for 8: what is zero outside of a kept part is not found. Assumes nothing.
+use mathlib.Core.Path.{_≡_, refl, sym, _∙_, subst}
+use mathlib.Core.Bool.{Bool, false, not, _&&_}
 use mathlib.Core.List.{List}
 use Prim.Native.Nat.{ℕ, _+_, _*_, _≤_, _<_}
 use native.Mathlib.Nat.{mul-comm, zero-add, mul-le-mul-right}
 use native.Mathlib.Omega.{arith}
 use native.Mathlib.Decide.{decLt}
-use borrow.Author.Tests.{lt-ltb, le-ltb, eqb-true}
-use lib.Dec.{eqb, ltb}
+use lib.Dec.{eqb}
 use lib.IntN.{ℤ, pos, natAbs}
 use lib.ListN.{length}
 use Rattle.algebra.specs.Lists.{at}
-use Rattle.algebra.proofs.Order.{abs-zero}
 use Rattle.algebra.proofs.Lists.{every-place, place-in, column-of, row-of}
-use Rattle.algebra.proofs.First.{first-before, first-past}
+use Rattle.algebra.proofs.First.{first-past}
 use Rattle.meaning.specs.declared.Shape.{Shape}
 use Rattle.meaning.specs.Plan.{planOf}
-use Rattle.meaning.specs.Inverse.{outside, firstOutside}
-use Rattle.meaning.specs.Taken.{Taken}
-use Rattle.meaning.proofs.KeptPart.{columns-kept, rows-kept}
+use Rattle.meaning.specs.Inverse.{outside, firstOutside, outsideAt}
 use Rattle.layout.specs.Live.{Live, LiveColumns}
-use Rattle.inverse_block.specs.Part.{outsideAt, Part}
+use Rattle.layout.specs.Part.{Part}
 use Rattle.inverse_block.proofs.Tests.{kept-not}
 
 -- the live part, as it was found
@@ -65,33 +60,3 @@ module _ (sh : Shape) (c : List ℤ) (long : length c ≡ sh .width * sh .height
           pick (yes a) (yes b) = kept-not (sh .columns) (sh .rows) x y (at c (x + y * w)) (omega arith) (omega arith)
           pick (no a) b = zero-not (at c (x + y * w)) _ (p .right x y (omega arith) g v)
           pick (yes a) (no b) = zero-not (at c (x + y * w)) _ (p .below x y g (omega arith) v)
-
-  -- nothing was found
-  pub kept-part : Taken sh → length c ≤ firstOutside (planOf sh) c → Part w h (sh .columns) (sh .rows) c
-  kept-part t l =
-      record {
-        narrow = columns-kept sh t .within;
-        low = rows-kept sh t .within;
-        right = λ x y k g v. out x y g v (rw (le-ltb x (sh .columns) k) refl);
-        below = λ x y g k v. out x y g v (rw (le-ltb y (sh .rows) k) (both (ltb x (sh .columns))));
-      }
-    where
-      both : (b : Bool) → b && false ≡ false
-      both true = refl
-      both false = refl
-
-      zero : (z : ℤ) (b : Bool) → b ≡ false → not (eqb (natAbs z) 0) && not b ≡ false → z ≡ pos 0
-      zero z b e f = abs-zero z (eqb-true (natAbs z) 0 (test (eqb (natAbs z) 0) (subst (λ (b : Bool). not (eqb (natAbs z) 0) && not b ≡ false) e f)))
-        where
-          test : (t : Bool) → not t && true ≡ false → t ≡ true
-          test true q = refl
-          test false q = absurd (let z : _≡_ {A = ℕ} 0 1 = cc in omega arith)
-
-      out : (x y : ℕ) → x < w → y < h → ltb x (sh .columns) && ltb y (sh .rows) ≡ false → at c (x + y * w) ≡ pos 0
-      out x y g v e =
-          let k = x + y * w in
-          let m : k < length c = omega (arith, long, mul-comm w h, place-in {x = x} {y = y} {w = w} {h = h} g v) in
-          let b : 0 + k < firstOutside (planOf sh) c = omega arith in
-          let f : outside (planOf sh) (0 + k) (at c k) ≡ false = first-before (outside (planOf sh)) c 0 k m b in
-          let f′ : outside (planOf sh) k (at c k) ≡ false = subst (λ (j : ℕ). outside (planOf sh) j (at c k) ≡ false) (zero-add k) f in
-          zero (at c k) (ltb x (sh .columns) && ltb y (sh .rows)) e (rw (column-of {x = x} {w = w} y g, row-of {x = x} {w = w} y g) at f′)

@@ -11,7 +11,7 @@ use lib.ListN.{length, drop}
 use Rattle.algebra.specs.Lists.{at}
 use Rattle.algebra.specs.First.{firstAt}
 use Rattle.algebra.proofs.First.{first-on}
-use Rattle.inverse_block.specs.Part.{outsideAt}
+use Rattle.meaning.specs.Inverse.{outsideAt}
 
 pub leb-not : (a b : ℕ) → leb a b ≡ not (ltb b a)
 leb-not a b = go (ltb b a) refl

@@ -3,23 +3,23 @@
 use mathlib.Core.Path.{_≡_, refl, sym, ap, _∙_, subst}
 use mathlib.Core.Bool.{true, false}
 use mathlib.Core.Logic.{inl, inr}
-use mathlib.Core.List.{List, [], _++_, append-nil}
+use mathlib.Core.List.{List, _++_, append-nil}
 use Prim.Native.Nat.{ℕ, _+_, _*_, _-_, _/_, _^_, _≤_, _<_}
 use native.Mathlib.Nat.{mul-comm, mul-le-mul, mul-le-mul-right, mul-assoc}
 use native.Mathlib.Omega.{arith}
-use lib.IntN.{ℤ, pos, _*ℤ_}
+use lib.IntN.{ℤ, pos, _*ℤ_, *ℤ-comm}
 use lib.ListN.{length, drop, length-append, length-drop, drop-of-length-le, List·getD-append}
-use Rattle.algebra.specs.Sum.{sum, sumℕ}
+use Rattle.algebra.specs.Sum.{sum}
 use Rattle.algebra.specs.Clip.{clip}
 use Rattle.algebra.specs.Shift.{nearest}
 use Rattle.algebra.specs.Lists.{at, tabulate, block}
-use Rattle.algebra.proofs.Sum.{sumℕ-cong}
+use Rattle.algebra.proofs.Sum.{sum-cong, sumℕ-cong}
 use Rattle.algebra.proofs.Lists.{block-at, block-length, block-cong, tab-at, tab-length, place-in}
 use Rattle.meaning.specs.declared.Shape.{Shape}
 use Rattle.meaning.specs.Shape.{isSize}
 use Rattle.meaning.specs.Weights.{weight}
 use Rattle.meaning.specs.Plan.{Plan, planOf, shortRange}
-use Rattle.meaning.specs.Inverse.{columnSum, rounded, middle, railed, count, rails, rowSum, residual, inverseBlock}
+use Rattle.meaning.specs.Inverse.{columnSum, rounded, railed, count, rails, residual, inverseBlock}
 use Rattle.meaning.proofs.Cases.{size-cases, size-in}
 use Rattle.meaning.proofs.Sizes.{weightSize}
 use Rattle.product.specs.Product.{spot, Laid, lineSum, shifted, Lines}
@@ -27,10 +27,10 @@ use Rattle.product.proofs.Laid.{laid-less, lines-given, lines-are}
 use Rattle.tables.specs.Stage.{Weights}
 use Rattle.layout.specs.Zip.{Rows}
 use Rattle.layout.proofs.Zipping.{size-even}
-use Rattle.inverse_block.specs.Part.{Given, Room}
+use Rattle.inverse_block.specs.Given.{Given, Room}
 use Rattle.inverse_block.specs.Settled.{railsOf}
-use Rattle.inverse_block.proofs.Blocks.{block-map, block-count}
-use Rattle.inverse_block.proofs.Alive.{column-is, mid, middle-is, rail, row-is, rails-are}
+use Rattle.inverse_block.proofs.Blocks.{block-count}
+use Rattle.layout.proofs.Alive.{column-is, mid, row-is, rails-are}
 
 -- a size is known by the numbers that it lies between
 pub four : (n : ℕ) → isSize n ≡ true → n ≤ 4 → 2 * 2 ≡ n
@@ -53,6 +53,10 @@ few = size-cases (λ n. (h : ℕ) → n ≤ h → n * h ≤ 128 → n ≤ 8) (λ
 by-pairs : (pairs n m : ℕ) → 2 * pairs ≡ n → pairs * (2 * m) ≡ n * m
 by-pairs pairs n m e = omega (arith, ap (λ (n : ℕ). n * m) e, mul-assoc 2 pairs m, mul-assoc pairs 2 m, mul-comm 2 pairs)
 
+-- lines that leave no room behind them
+pub all-written : (n : ℕ) (l o : List ℤ) → length o ≤ n → l ++ drop n o ≡ l
+all-written n l o k = ap (λ (rest : List ℤ). l ++ rest) (drop-of-length-le o k) ∙ append-nil l
+
 module _ {sh : Shape} {rows columns : ℕ} {c r : List ℤ} (g : Given sh rows columns c r) where
   abbrev w : ℕ
   w = sh .width
@@ -63,7 +67,7 @@ module _ {sh : Shape} {rows columns : ℕ} {c r : List ℤ} (g : Given sh rows c
   abbrev p : Plan
   p = planOf sh
 
-  keeps : clip shortRange (pos 0) ≡ pos 0
+  pub keeps : clip shortRange (pos 0) ≡ pos 0
   unfolding shortRange
   keeps = refl
 
@@ -127,7 +131,7 @@ module _ {sh : Shape} {rows columns : ℕ} {c r : List ℤ} (g : Given sh rows c
   pub middles-long : length middles ≡ h * columns
   middles-long = tab-length (length sums) (λ k. clip shortRange (at sums k)) ∙ sums-long
 
-  middle-at : (i y : ℕ) → i < columns → y < h → at middles (i + y * columns) ≡ mid p keeps c columns rows (g .live) (g .kept) i y
+  pub middle-at : (i y : ℕ) → i < columns → y < h → at middles (i + y * columns) ≡ mid p keeps c columns rows (g .live) (g .kept) i y
   middle-at i y k v =
       tab-at (length sums) (λ k. clip shortRange (at sums k)) (i + y * columns) (omega (arith, sums-long, place-in {x = i} {y = y} {w = columns} {h = h} k v))
       ∙ ap (clip shortRange) (block-at columns h (λ x y. rounded (columnSum p c x y)) i y k v)
@@ -191,12 +195,11 @@ module _ {sh : Shape} {rows columns : ℕ} {c r : List ℤ} (g : Given sh rows c
     unfolding inverseBlock residual
     along-is {half} o q l =
         let last = 20 - sh .depth in
-        let full : length o ≤ h * w = omega (arith, mul-comm w h) in
-        ap (λ (rest : List ℤ). block w h (λ x y. shifted half last (lineSum m (columns * y) 2 t (2 * w) pairs x)) ++ rest) (drop-of-length-le o full)
-        ∙ append-nil (block w h (λ x y. shifted half last (lineSum m (columns * y) 2 t (2 * w) pairs x)))
+        all-written (h * w) (block w h (λ x y. shifted half last (lineSum m (columns * y) 2 t (2 * w) pairs x))) o (omega (arith, mul-comm w h))
         ∙ lines-are rows-laid along-laid half last
         ∙ block-cong w h _ _ (λ x y k v. (λ i. shifted (q i) last (sum (e i) (λ i. middleOf i y *ℤ weightAlong i x)))
-        ∙ ap (nearest last) (row-is p keeps c columns rows (g .live) (g .kept) x y))
+        ∙ ap (nearest last) (sum-cong columns _ _ (λ i _. *ℤ-comm (middleOf i y) (weightAlong i x))
+        ∙ row-is p keeps c columns rows (g .live) (g .kept) x y))
 
 -- ---- a list at the front of a room of n numbers
 pub room-full : (n a : ℕ) (l z : List ℤ) → length l ≡ a → length z ≡ n → a ≤ n → n ≡ length (l ++ drop (a - 0) z)

@@ -1,2 +1,3 @@
-pub mod Part
+pub mod Given
 pub mod Settled
+pub mod Square

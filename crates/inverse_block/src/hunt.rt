@@ -8,8 +8,8 @@ ghost use Prim.Native.Nat.{_*_, _≤_};
 ghost use lib.Dec.{ltb};
 ghost use lib.ListN.{length};
 ghost use Rattle.meaning.specs.Plan.{planOf};
-ghost use Rattle.meaning.specs.Inverse.{firstOutside};
-ghost use Rattle.inverse_block.specs.Part.{outsideAt, Part};
+ghost use Rattle.meaning.specs.Inverse.{firstOutside, outsideAt};
+ghost use Rattle.layout.specs.Part.{Part};
 
 fn outside(n: i16, x: usize, y: usize, columns: usize, rows: usize) -> bool
     ensures { λ r. ⌜ r ≡ outsideAt columns rows x y n ⌝ }

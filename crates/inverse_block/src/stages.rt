@@ -3,19 +3,23 @@
 // first stage writes rounded sums where the residuals will stand; each line of residuals is then written into its own stretch.
 // What lines read stands in arrays of the function that names their number of pairs: what is lent might overlap the output, as far
 // as the compiler knows, and it then takes one number at a time (docs/DECISIONS.md). So the two rooms have a function each.
+use crate::eight::eight;
+use crate::eight::is_eight;
+use crate::four::four;
+use crate::four::is_four;
 use crate::live::is_small;
 use crate::settle::settle;
 use layout::zip::zip;
 use meaning::Shape;
 use product::half;
 use product::lines;
-use tables::stage::weights_128;
-use tables::stage::weights_1024;
+use tables::stage::put_128;
+use tables::stage::put_1024;
 ghost use mathlib.Core.Path.{_≡_};
 ghost use Prim.Native.Nat.{_*_, _≤_};
 ghost use Rattle.meaning.specs.Plan.{planOf};
 ghost use Rattle.meaning.specs.Inverse.{rails, inverseBlock};
-ghost use Rattle.inverse_block.specs.Part.{Given, Room};
+ghost use Rattle.inverse_block.specs.Given.{Given, Room};
 
 // Where every list that a stage needs has room in 128 numbers: buffers have to be zeroed, and those of `large` would take as long
 // as a small block does.
@@ -30,22 +34,22 @@ fn small(shape: Shape, rows: usize, columns: usize, c: &[i16], r: &mut [i32]) ->
     let tall = 2 * h;
     let full = 2 * w;
     let mut z = [0i16; 128];
-    let mut m = [0i16; 128];
+    let mut t = [0i16; 128];
     zip(c, w, rows / 2, columns, &mut z);
-    let down = weights_128(shape.vertical, false, h);
+    put_128(shape.vertical, false, h, &mut t);
     if rows <= 4 {
-        lines(2, wide, &down, 2, tall, &z, columns, h, 64, 7, r);
+        lines(2, wide, &t, 2, tall, &z, columns, h, 64, 7, r);
     } else {
-        lines(4, wide, &down, 2, tall, &z, columns, h, 64, 7, r);
+        lines(4, wide, &t, 2, tall, &z, columns, h, 64, 7, r);
     }
-    let rails = settle(&r[0..area], &mut m[0..area]);
+    let rails = settle(&r[0..area], &mut z[0..area]);
     let last = 20 - shape.depth;
     let half = half(last);
-    let along = weights_128(shape.horizontal, false, w);
+    put_128(shape.horizontal, false, w, &mut t);
     if columns <= 4 {
-        lines(2, full, &m, columns, 2, &along, w, h, half, last, r);
+        lines(2, full, &z, columns, 2, &t, w, h, half, last, r);
     } else {
-        lines(4, full, &m, columns, 2, &along, w, h, half, last, r);
+        lines(4, full, &z, columns, 2, &t, w, h, half, last, r);
     }
     rails
 }
@@ -61,42 +65,51 @@ fn large(shape: Shape, rows: usize, columns: usize, c: &[i16], r: &mut [i32]) ->
     let tall = 2 * h;
     let full = 2 * w;
     let mut z = [0i16; 1024];
-    let mut m = [0i16; 1024];
+    let mut t = [0i16; 1024];
     zip(c, w, rows / 2, columns, &mut z);
-    let down = weights_1024(shape.vertical, false, h);
+    put_1024(shape.vertical, false, h, &mut t);
     if rows <= 4 {
-        lines(2, wide, &down, 2, tall, &z, columns, h, 64, 7, r);
+        lines(2, wide, &t, 2, tall, &z, columns, h, 64, 7, r);
     } else if rows <= 8 {
-        lines(4, wide, &down, 2, tall, &z, columns, h, 64, 7, r);
+        lines(4, wide, &t, 2, tall, &z, columns, h, 64, 7, r);
     } else if rows <= 16 {
-        lines(8, wide, &down, 2, tall, &z, columns, h, 64, 7, r);
+        lines(8, wide, &t, 2, tall, &z, columns, h, 64, 7, r);
     } else {
-        lines(16, wide, &down, 2, tall, &z, columns, h, 64, 7, r);
+        lines(16, wide, &t, 2, tall, &z, columns, h, 64, 7, r);
     }
-    let rails = settle(&r[0..area], &mut m[0..area]);
+    let rails = settle(&r[0..area], &mut z[0..area]);
     let last = 20 - shape.depth;
     let half = half(last);
-    let along = weights_1024(shape.horizontal, false, w);
+    put_1024(shape.horizontal, false, w, &mut t);
     if columns <= 4 {
-        lines(2, full, &m, columns, 2, &along, w, h, half, last, r);
+        lines(2, full, &z, columns, 2, &t, w, h, half, last, r);
     } else if columns <= 8 {
-        lines(4, full, &m, columns, 2, &along, w, h, half, last, r);
+        lines(4, full, &z, columns, 2, &t, w, h, half, last, r);
     } else if columns <= 16 {
-        lines(8, full, &m, columns, 2, &along, w, h, half, last, r);
+        lines(8, full, &z, columns, 2, &t, w, h, half, last, r);
     } else {
-        lines(16, full, &m, columns, 2, &along, w, h, half, last, r);
+        lines(16, full, &z, columns, 2, &t, w, h, half, last, r);
     }
     rails
 }
 
-// Hands back the rail count. Neither `small` nor `large` is called from one place alone: the compiler would move it into its caller
-// then, and lose the pairs (docs/DECISIONS.md).
+// Hands back the rail count. Neither `eight`, `small` nor `large` is called from one place alone: the compiler would move it into its
+// caller then, and lose the pairs (docs/DECISIONS.md).
 pub fn stages(shape: Shape, rows: usize, columns: usize, c: &[i16], r: &mut [i32]) -> u32
     requires { ⌜ Given shape rows columns (now c) (now r) ⌝ }
     ensures { λ n. ⌜ (n ≡ rails (planOf shape) (now (c .entry))) × (now (r .exit) ≡ inverseBlock (planOf shape) (now (c .entry))) ⌝ }
 {
     let w = shape.width as usize;
     let h = shape.height as usize;
+    if is_four(shape) {
+        return four(shape, c, r);
+    }
+    if is_eight(shape, c.len()) {
+        if shape.horizontal == 1 {
+            return eight(shape, 1, c, r);
+        }
+        return eight(shape, shape.horizontal, c, r);
+    }
     if is_small(shape) {
         return small(shape, h, w, c, r);
     }

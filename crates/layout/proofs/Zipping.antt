@@ -1,11 +1,11 @@
 -- Two numbers at a time, and rows of pairs that are laid as lines read them. Assumes nothing.
 use mathlib.Core.Path.{_≡_, refl, sym, ap, _∙_, subst}
 use mathlib.Core.Bool.{true}
-use mathlib.Core.List.{List, _++_}
+use mathlib.Core.List.{List}
 use Prim.Native.Nat.{ℕ, _+_, _*_, _/_, _%_, _≤_, _<_}
 use native.Mathlib.Nat.{add-mul}
 use native.Mathlib.Omega.{arith}
-use lib.ListN.{length, set, drop, length-set, length-append, List·getD-append}
+use lib.ListN.{length, set, drop, List·getD-append}
 use lib.IntN.{ℤ, pos}
 use Rattle.algebra.specs.Lists.{at, block}
 use Rattle.algebra.proofs.Lists.{Filled, fill-first, Rows, block-at, block-length, place-in, rows-room}

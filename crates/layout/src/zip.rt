@@ -1,7 +1,7 @@
 // Two rows of a block become one row of pairs, as lines read their weights: a column's numbers in rows 2k and 2k + 1 stand side
 // by side. So a line whose inputs are weights sums down the columns of the block.
 ghost use mathlib.Core.Path.{_≡_};
-ghost use Prim.Native.Nat.{ℕ, _+_, _*_, _/_, _%_, _≤_, _<_};
+ghost use Prim.Native.Nat.{_+_, _*_, _≤_, _<_};
 ghost use lib.ListN.{length};
 ghost use Rattle.algebra.specs.Lists.{at, tabulate};
 ghost use Rattle.product.specs.Product.{Laid};

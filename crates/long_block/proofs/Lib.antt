@@ -1,7 +1,1 @@
-pub mod Edge
-pub mod Summing
-pub mod Ceil
-pub mod Rails
-pub mod Whole
-pub mod LivePart
 pub mod Unique

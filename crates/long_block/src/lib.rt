@@ -1,20 +1,17 @@
 // The second edition's long numbers (document 02, Wish 14): the inverse of a block with coefficients and middle values of 32 bits and
 // sums of 64, whose range and last shift follow the extended-precision switch. One public function, `inverse`, and its contract is
-// `longOutcome` of meaning/specs/Long; read that first. Then rules (R, the range, the last shift), hunt (8 and 27), live (how much of
-// the block is not zero), sums and stages. What each of them asks, `inverse` has seen to.
-mod arith;
+// `longOutcome` of meaning/specs/Long; read that first, then `long_stages`. What each function there asks, `inverse` has seen to.
 mod check;
-mod hunt;
-mod live;
-mod rules;
-mod stages;
-mod sums;
 
-use crate::check::acceptance;
 use crate::check::long_refusal;
-use crate::check::refusal;
+use long_stages::hunt;
+use long_stages::live;
+use long_stages::rules;
+use long_stages::stages;
 use meaning::Answer;
 use meaning::Shape;
+use meaning::acceptance;
+use meaning::refusal;
 ghost use mathlib.Core.Path.{_≡_};
 ghost use Rattle.meaning.specs.Answer.{Outcome};
 ghost use Rattle.meaning.specs.Long.{longOutcome};

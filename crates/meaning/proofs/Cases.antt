@@ -1,6 +1,6 @@
--- What the tests of a size, of a kind and of a depth leave: each of the accepted numbers, one by one.
+-- What tests leave: of two parts, each of them; of a size, a kind and a depth, each of the accepted numbers, one by one.
 use mathlib.Core.Path.{_≡_, refl, sym, subst}
-use mathlib.Core.Bool.{Bool, true, false, cond, _&&_, _||_}
+use mathlib.Core.Bool.{Bool, true, false, cond, _&&_, _||_, false≢true}
 use Prim.Native.Nat.{ℕ, _≤_}
 use native.Mathlib.Omega.{arith}
 use borrow.Author.Tests.{eqb-true, leb-true}
@@ -12,16 +12,17 @@ pub pick : {A : Type 0} (P : A → Type 0) (b : Bool) {x y : A} → P x → P y 
 pick P true p q = p
 pick P false p q = q
 
-or-cases : (a b : Bool) {P : Type 0} → a || b ≡ true → (a ≡ true → P) → (b ≡ true → P) → P
+pub or-cases : (a b : Bool) {P : Type 0} → a || b ≡ true → (a ≡ true → P) → (b ≡ true → P) → P
 or-cases true b h f g = f h
 or-cases false b h f g = g h
 
 pub and-cases : (a b : Bool) → a && b ≡ true → (a ≡ true) × (b ≡ true)
 and-cases true b h = (refl, h)
-and-cases false b h = absurd (never h)
-  where
-    never : false ≡ true → ⊥
-    never h = let z : _≡_ {A = ℕ} 0 1 = cc in omega arith
+and-cases false b h = absurd (false≢true h)
+
+pub and-so : (a b : Bool) → a && b ≡ false → a ≡ true → b ≡ false
+and-so true b h e = h
+and-so false b h e = absurd (false≢true e)
 
 module _ (P : ℕ → Type 0) where
   -- what holds of m holds of a number that passed the test of being m

@@ -1,15 +1,15 @@
 -- Document 02, Wish 8: what is known of the kept numbers of a shape that was taken. Assumes nothing.
-use mathlib.Core.Path.{_≡_, refl}
+use mathlib.Core.Path.{_≡_}
 use mathlib.Core.Bool.{Bool, true, false, cond}
 use Prim.Native.Nat.{ℕ, _≤_, _<_, min}
 use native.Mathlib.Nat.{le-trans}
 use native.Mathlib.Omega.{arith}
-use borrow.Author.Tests.{leb-true, le-leb, eq-eqb, ne-eqb}
+use borrow.Author.Tests.{leb-true}
 use lib.Dec.{eqb, leb}
 use Rattle.meaning.specs.declared.Shape.{Shape}
-use Rattle.meaning.specs.Shape.{most, isKept, keeps, isSize, isKind, shapeOf}
+use Rattle.meaning.specs.Shape.{most, isKept, keeps}
 use Rattle.meaning.specs.Taken.{TakenBy}
-use Rattle.meaning.proofs.Cases.{and-cases, size-cases}
+use Rattle.meaning.proofs.Cases.{and-cases}
 
 -- either bound
 most-cases : (P : ℕ → Type 0) (kind n : ℕ) → P (min n 32) → P (min n 16) → P (most kind n)
@@ -29,11 +29,6 @@ most-32 kind n = most-cases (λ m. m ≤ 32) kind n (omega arith) (omega arith)
 -- all of 16 and fewer, whatever the kind
 pub most-all : (kind n : ℕ) → n ≤ 16 → most kind n ≡ n
 most-all kind n h = most-cases (λ m. m ≡ n) kind n (omega arith) (omega arith)
-
--- at most 16 in a direction of another kind
-pub most-few : (kind n : ℕ) → (kind ≡ 0 → ⊥) → most kind n ≤ 16
-unfolding most
-most-few kind n d = rw (ne-eqb kind 0 d) (omega arith)
 
 -- a kept number: some, no more than there are
 pub record Kept (n k : ℕ) : Type 0 where

@@ -3,11 +3,11 @@
 -- `long-demand3-call`). Assumes nothing.
 use mathlib.Core.Path.{_≡_, refl, sym, ap, _∙_, subst}
 use mathlib.Core.Bool.{Bool, true, false, _||_}
-use mathlib.Core.List.{List, [], _∷_, _++_}
-use Prim.Native.Nat.{ℕ, _+_, _*_, _-_, _^_, _≤_, _<_}
+use mathlib.Core.List.{List, [], _∷_}
+use Prim.Native.Nat.{ℕ, _+_, _*_, _^_, _≤_, _<_}
 use native.Mathlib.Omega.{arith}
 use borrow.Author.Tests.{eq-eqb, ltb-false}
-use lib.Dec.{T, eqb, ltb}
+use lib.Dec.{ltb}
 use lib.IntN.{ℤ, pos, natAbs, _-ℤ_, _*ℤ_}
 use lib.ListN.{length}
 use lib.Pow.{pow-pos}
@@ -16,11 +16,11 @@ use Rattle.algebra.specs.Clip.{Range}
 use Rattle.algebra.specs.Lists.{at}
 use Rattle.algebra.proofs.Clip.{order-cases}
 use Rattle.algebra.proofs.First.{first-before}
-use Rattle.algebra.proofs.Order.{le-parts, lt-parts, abs-parts, parts-abs}
-use Rattle.algebra.proofs.Refusals.{Clear, clear-split}
+use Rattle.algebra.proofs.Order.{le-parts, lt-parts, parts-abs}
+use Rattle.algebra.proofs.Refusals.{clear-split}
 use Rattle.meaning.specs.declared.Shape.{Shape}
 use Rattle.meaning.specs.Shape.{isLongDepth}
-use Rattle.meaning.specs.Plan.{Plan, rangeOf, reach, longPlan}
+use Rattle.meaning.specs.Plan.{Plan, rangeOf, longPlan}
 use Rattle.meaning.specs.Taken.{TakenBlockBy, NoneAbove}
 use Rattle.meaning.specs.Answer.{Outcome, accepted, test}
 use Rattle.meaning.specs.Inverse.{rails, inverseBlock, firstOutside, planTests}

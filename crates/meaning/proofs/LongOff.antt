@@ -1,11 +1,10 @@
 -- Document 02, Wish 14: "with the switch off" the call of long numbers is the inverse of document 01, on numbers of 16 bits: the
 -- plan (`plan-off`) and the whole outcome (`long-off`). Assumes nothing.
-use mathlib.Core.Path.{_≡_, refl, ap, _∙_}
+use mathlib.Core.Path.{_≡_, refl}
 use mathlib.Core.Bool.{false}
 use mathlib.Core.List.{List}
-use Prim.Native.Nat.{ℕ, _+_, _<_}
+use Prim.Native.Nat.{ℕ, _<_}
 use native.Mathlib.Omega.{arith}
-use native.Mathlib.Nat.{zero-add, le-refl}
 use borrow.Author.Tests.{le-ltb}
 use lib.Dec.{ltb}
 use lib.IntN.{ℤ, pos, negsuc}
@@ -17,8 +16,7 @@ use Rattle.algebra.proofs.First.{first-past}
 use Rattle.algebra.proofs.Order.{parts-le}
 use Rattle.meaning.specs.declared.Shape.{Shape}
 use Rattle.meaning.specs.Shape.{isLongDepth}
-use Rattle.meaning.specs.Plan.{Plan, shortRange, rangeOf, planOf, reach, longPlan}
-use Rattle.meaning.specs.Answer.{Outcome}
+use Rattle.meaning.specs.Plan.{shortRange, rangeOf, planOf, reach, longPlan}
 use Rattle.meaning.specs.Inverse.{inverseOutcome}
 use Rattle.meaning.specs.Long.{beyond, firstBeyond, longOutcome}
 use Rattle.meaning.proofs.LongCall.{not-beyond}

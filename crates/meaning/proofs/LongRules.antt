@@ -1,18 +1,17 @@
 -- Document 02, Wish 14: R and the last shift s of every depth (`rules-hold`), and their bounds: R is 15 to 20, s is 8 to 12 where
 -- the depth is taken. Assumes nothing.
-use mathlib.Core.Path.{_≡_, refl}
-use mathlib.Core.Bool.{Bool, true, false, cond, _&&_}
+use mathlib.Core.Path.{_≡_}
+use mathlib.Core.Bool.{Bool, true, false, _&&_}
 use mathlib.Core.List.{List, [], _∷_}
-use Prim.Native.Nat.{ℕ, _+_, _*_, _-_, _^_, _≤_, _<_, max, min}
-use native.Mathlib.Nat.{le-trans}
+use Prim.Native.Nat.{ℕ, _+_, _-_, _^_, _≤_, _<_}
 use native.Mathlib.Omega.{arith}
 use borrow.Author.Tests.{leb-true}
 use lib.Dec.{T, eqb, leb}
-use lib.IntN.{ℤ, pos, negsuc}
-use lib.Pow.{pow-pos, pow-mono, pow-add}
+use lib.IntN.{pos}
+use lib.Pow.{pow-pos}
 use lib.Signed.{leZ-yes}
 use Rattle.algebra.proofs.Order.{parts-le}
-use Rattle.meaning.specs.Shape.{isDepth, isLongDepth, shapeOf}
+use Rattle.meaning.specs.Shape.{isLongDepth, shapeOf}
 use Rattle.meaning.specs.Plan.{rangeOf, reach, longPlan}
 use Rattle.meaning.proofs.Cases.{and-cases, depth-cases}
 use Rattle.meaning.proofs.PlanSizes.{Around}

@@ -8,7 +8,7 @@ use mathlib.Core.Path.{_≡_, refl, sym, ap, _∙_}
 use mathlib.Core.Bool.{Bool}
 use mathlib.Core.List.{List}
 use Prim.Native.Nat.{ℕ, _+_, _*_, _-_, _^_, _≤_, _<_}
-use native.Mathlib.Nat.{le-trans, mul-le-mul, mul-assoc, mul-comm}
+use native.Mathlib.Nat.{le-trans, mul-le-mul}
 use native.Mathlib.Omega.{arith}
 use lib.IntN.{ℤ, pos, natAbs, _+ℤ_}
 use lib.Pow.{pow-mono, pow-add}
@@ -20,7 +20,7 @@ use Rattle.algebra.proofs.Shift.{rounding-in}
 use Rattle.meaning.specs.declared.Shape.{Shape}
 use Rattle.meaning.specs.Shape.{isLongDepth}
 use Rattle.meaning.specs.Line.{inverseSum}
-use Rattle.meaning.specs.Plan.{Plan, rangeOf, reach, longPlan}
+use Rattle.meaning.specs.Plan.{Plan, reach, longPlan}
 use Rattle.meaning.specs.Taken.{TakenBy, Sized, NoneAbove}
 use Rattle.meaning.specs.Inverse.{columnSum, middleAt, rowSum, residual}
 use Rattle.meaning.proofs.Cases.{size-in}

@@ -1,15 +1,11 @@
 -- The weights of each kind, and those of kind 2 by their DST-VII weight. Assumes nothing.
-use mathlib.Core.Path.{_≡_, refl, _∙_}
+use mathlib.Core.Path.{_≡_, refl}
 use mathlib.Core.Bool.{true}
-use Prim.Native.Nat.{ℕ, _-_, _%_, _≤_}
-use native.Mathlib.Omega.{arith}
+use Prim.Native.Nat.{ℕ, _-_, _%_}
 use lib.Dec.{eqb}
-use lib.IntN.{negℤ, natAbs}
-use borrow.Author.Tests.{eq-eqb, ne-eqb}
 use Rattle.meaning.specs.Weights.{weight, S, C, dct2, signed}
 use Rattle.meaning.specs.Shape.{isKind}
 use Rattle.meaning.proofs.Cases.{kind-cases}
-use Rattle.meaning.proofs.Sizes.{S-size}
 
 -- a kind that is taken and is neither of the two others
 pub second : (kind : ℕ) → isKind kind ≡ true → (kind ≡ 1 → ⊥) → (kind ≡ 0 → ⊥) → kind ≡ 2
@@ -31,12 +27,3 @@ module _ (kind : ℕ) where
   pub dct : kind ≡ 2 → (n i j : ℕ) → weight kind n i j ≡ signed (eqb (i % 2) 1) (S n i (n - 1 - j))
   unfolding weight C
   dct e n i j = rw e
-
-  pub dct-odd : kind ≡ 2 → (n i j : ℕ) → i % 2 ≡ 1 → weight kind n i j ≡ negℤ (S n i (n - 1 - j))
-  dct-odd e n i j o = dct e n i j ∙ rw (eq-eqb (i % 2) 1 o)
-
-  pub dct-even : kind ≡ 2 → (n i j : ℕ) → (i % 2 ≡ 1 → ⊥) → weight kind n i j ≡ S n i (n - 1 - j)
-  dct-even e n i j o = dct e n i j ∙ rw (ne-eqb (i % 2) 1 o)
-
-pub abs-S : (n i j : ℕ) → natAbs (S n i j) ≤ 1000000000
-abs-S n i j = omega (arith, S-size n i j)

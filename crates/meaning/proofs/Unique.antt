@@ -5,8 +5,9 @@ use Prim.Native.Nat.{ℕ}
 use Rattle.algebra.specs.Refusals.{numberOf}
 use Rattle.algebra.proofs.Unique.{one}
 use Rattle.meaning.specs.declared.Shape.{Shape}
+use Rattle.meaning.specs.declared.Answer.{Answer}
 use Rattle.meaning.specs.Shape.{isSize, isKind, isDepth, isLongDepth, most, shapeOf, keeping}
-use Rattle.meaning.specs.Answer.{shapeTestsBy, shapeTests}
+use Rattle.meaning.specs.Answer.{shapeTestsBy, shapeTests, lengthTests, lineTests, refused, accepted}
 use Rattle.meaning.specs.Long.{longShapeTests}
 
 -- `Shape::new`
@@ -52,3 +53,18 @@ columns-one sh = one
 
 pub rows-one : (sh : Shape) {r s : ℕ} → r ≡ sh .rows → s ≡ sh .rows → r ≡ s
 rows-one sh = one
+
+-- `length_refusal`
+pub length-refusal-one : (n input output : ℕ) {r s : ℕ} → r ≡ numberOf (lengthTests n input output) → s ≡ numberOf (lengthTests n input output) → r ≡ s
+length-refusal-one n input output = one
+
+-- `line_refusal`
+pub line-refusal-one : (n kind input output : ℕ) {r s : ℕ} → r ≡ numberOf (lineTests n kind input output) → s ≡ numberOf (lineTests n kind input output) → r ≡ s
+line-refusal-one n kind input output = one
+
+-- `refusal`, `acceptance`
+pub refused-one : (number place : ℕ) {r s : Answer} → r ≡ refused number place → s ≡ refused number place → r ≡ s
+refused-one number place = one
+
+pub accepted-one : (rails : ℕ) {r s : Answer} → r ≡ accepted rails → s ≡ accepted rails → r ≡ s
+accepted-one rails = one

@@ -2,7 +2,7 @@
 use mathlib.Core.Bool.{Bool, not}
 use mathlib.Core.List.{List, [], _∷_}
 use Prim.Native.Nat.{ℕ}
-use lib.Dec.{eqb}
+use lib.Dec.{eqb, ltb}
 use lib.IntN.{ℤ}
 use lib.ListN.{length}
 use Rattle.algebra.specs.Lists.{at}
@@ -19,6 +19,10 @@ Outcome = Answer × List ℤ
 -- a test whose refusal names no place: "place 0 unless named"
 abbrev pub test : Bool → ℕ → Refusal
 test applies number = record { applies = applies; number = number; place = 0 }
+
+-- a test of each of `count` numbers, the first that fails it standing at `place`, or none where that is not below the count
+abbrev pub testAt : ℕ → ℕ → ℕ → Refusal
+testAt place count number = record { applies = ltb place count; number = number; place = place }
 
 -- "rail count 0"
 abbrev pub refused : ℕ → ℕ → Answer
@@ -47,8 +51,11 @@ abbrev pub shapeTests : Shape → List Refusal
 shapeTests sh = shapeTestsBy (isSize (sh .width)) (isSize (sh .height)) (isDepth (sh .depth)) sh
 
 -- 6 and 7: lengths other than n
+abbrev pub inputTest : ℕ → ℕ → Refusal
+inputTest n input = test (not (eqb input n)) 6
+
 abbrev pub lengthTests : ℕ → ℕ → ℕ → List Refusal
-lengthTests n input output = test (not (eqb input n)) 6 ∷ test (not (eqb output n)) 7 ∷ []
+lengthTests n input output = inputTest n input ∷ test (not (eqb output n)) 7 ∷ []
 
 -- "Lines can meet 1, 3, 6, 7"
 abbrev pub lineTests : ℕ → ℕ → ℕ → ℕ → List Refusal

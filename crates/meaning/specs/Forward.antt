@@ -11,7 +11,7 @@ use Rattle.algebra.specs.First.{firstAt}
 use Rattle.algebra.specs.Refusals.{Refusal}
 use Rattle.meaning.specs.declared.Shape.{Shape}
 use Rattle.meaning.specs.Line.{forwardSum}
-use Rattle.meaning.specs.Answer.{Outcome, outcome, accepted, shapeTests, lengthTests}
+use Rattle.meaning.specs.Answer.{Outcome, outcome, testAt, accepted, shapeTests, lengthTests}
 
 -- log2 of a size
 abbrev pub log2 : ℕ → ℕ
@@ -48,10 +48,13 @@ tooLarge sh k z = ltb (2 ^ sh .depth - 1) (natAbs z)
 abbrev pub firstTooLarge : Shape → List ℤ → ℕ
 firstTooLarge sh r = firstAt (tooLarge sh) 0 r
 
+-- 9, with its place
+abbrev pub tooLargeTest : Shape → List ℤ → Refusal
+tooLargeTest sh r = testAt (firstTooLarge sh r) (length r) 9
+
 abbrev pub forwardTests : Shape → List ℤ → List ℤ → List Refusal
 forwardTests sh r out =
-    shapeTests sh ++ lengthTests (sh .width * sh .height) (length r) (length out)
-    ++ (record { applies = ltb (firstTooLarge sh r) (length r); number = 9; place = firstTooLarge sh r } ∷ [])
+    shapeTests sh ++ lengthTests (sh .width * sh .height) (length r) (length out) ++ (tooLargeTest sh r ∷ [])
 
 -- "Rail count 0"
 abbrev pub forwardOutcome : Shape → List ℤ → List ℤ → Outcome

@@ -15,7 +15,7 @@ use Rattle.algebra.specs.Refusals.{Refusal}
 use Rattle.meaning.specs.declared.Shape.{Shape}
 use Rattle.meaning.specs.Line.{inverseSum}
 use Rattle.meaning.specs.Plan.{Plan, planOf}
-use Rattle.meaning.specs.Answer.{Outcome, outcome, accepted, shapeTests, lengthTests}
+use Rattle.meaning.specs.Answer.{Outcome, outcome, testAt, accepted, shapeTests, lengthTests}
 
 -- "Each kept column goes through the vertical line over its kept rows, giving h sums e"
 unfoldable pub columnSum : Plan → List ℤ → ℕ → ℕ → ℤ
@@ -56,19 +56,26 @@ residual p c x y = nearest (p .last) (rowSum p c x y)
 unfoldable pub inverseBlock : Plan → List ℤ → List ℤ
 inverseBlock p c = block (p .width) (p .height) (residual p c)
 
--- "a non-zero coefficient outside the kept part"
+-- "a non-zero coefficient outside the kept part", in column x of row y
+abbrev pub outsideAt : ℕ → ℕ → ℕ → ℕ → ℤ → Bool
+outsideAt columns rows x y z = not (eqb (natAbs z) 0) && not (ltb x columns && ltb y rows)
+
+-- the same at place k
 abbrev pub outside : Plan → ℕ → ℤ → Bool
-outside p k z = not (eqb (natAbs z) 0) && not (ltb (k % p .width) (p .columns) && ltb (k / p .width) (p .rows))
+outside p k z = outsideAt (p .columns) (p .rows) (k % p .width) (k / p .width) z
 
 -- "place of the first, row by row"
 abbrev pub firstOutside : Plan → List ℤ → ℕ
 firstOutside p c = firstAt (outside p) 0 c
 
+-- 8, with its place
+abbrev pub outsideTest : Plan → List ℤ → Refusal
+outsideTest p c = testAt (firstOutside p c) (length c) 8
+
 -- 6, 7 and 8, after those of a shape
 abbrev pub planTests : List Refusal → Plan → List ℤ → List ℤ → List Refusal
 planTests tests p c out =
-    tests ++ lengthTests (p .width * p .height) (length c) (length out)
-    ++ (record { applies = ltb (firstOutside p c) (length c); number = 8; place = firstOutside p c } ∷ [])
+    tests ++ lengthTests (p .width * p .height) (length c) (length out) ++ (outsideTest p c ∷ [])
 
 -- the outcome of an inverse by any plan
 abbrev pub planOutcome : List Refusal → Plan → List ℤ → List ℤ → Outcome

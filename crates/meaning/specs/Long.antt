@@ -3,7 +3,6 @@
 use mathlib.Core.Bool.{Bool, _||_}
 use mathlib.Core.List.{List, [], _∷_, _++_}
 use Prim.Native.Nat.{ℕ}
-use lib.Dec.{ltb}
 use lib.IntN.{ℤ}
 use lib.ListN.{length}
 use lib.Signed.{ltZ}
@@ -13,7 +12,7 @@ use Rattle.algebra.specs.Refusals.{Refusal}
 use Rattle.meaning.specs.declared.Shape.{Shape}
 use Rattle.meaning.specs.Shape.{isSize, isLongDepth}
 use Rattle.meaning.specs.Plan.{Plan, longPlan}
-use Rattle.meaning.specs.Answer.{Outcome, shapeTestsBy}
+use Rattle.meaning.specs.Answer.{Outcome, testAt, shapeTestsBy}
 use Rattle.meaning.specs.Inverse.{planTests, planOutcome}
 
 -- "a coefficient outside the range"
@@ -24,6 +23,10 @@ beyond r z = ltZ z (r .low) || ltZ (r .high) z
 abbrev pub firstBeyond : Range → List ℤ → ℕ
 firstBeyond r c = firstAt (λ k z. beyond r z) 0 c
 
+-- 27, with its place
+abbrev pub beyondTest : Plan → List ℤ → Refusal
+beyondTest p c = testAt (firstBeyond (p .range) c) (length c) 27
+
 -- 1 to 5 and 20: "5 accepts 13..16 only with the switch on"
 abbrev pub longShapeTests : Bool → Shape → List Refusal
 longShapeTests extended sh = shapeTestsBy (isSize (sh .width)) (isSize (sh .height)) (isLongDepth extended (sh .depth)) sh
@@ -32,8 +35,7 @@ longShapeTests extended sh = shapeTestsBy (isSize (sh .width)) (isSize (sh .heig
 abbrev pub longTests : Bool → Shape → List ℤ → List ℤ → List Refusal
 longTests extended sh c out =
     let p = longPlan extended sh in
-    planTests (longShapeTests extended sh) p c out
-    ++ (record { applies = ltb (firstBeyond (p .range) c) (length c); number = 27; place = firstBeyond (p .range) c } ∷ [])
+    planTests (longShapeTests extended sh) p c out ++ (beyondTest p c ∷ [])
 
 abbrev pub longOutcome : Bool → Shape → List ℤ → List ℤ → Outcome
 longOutcome extended sh c out = planOutcome (longTests extended sh c out) (longPlan extended sh) c out

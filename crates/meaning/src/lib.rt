@@ -1,12 +1,12 @@
 // What every call means: the structs that calls share, the definitions that their contracts cite (specs/, in the order of
 // the scope: Weights, Line, Shape, Plan, Taken, Answer, Inverse, Long, Forward, Exact), and the theorems that follow from these alone
-// (proofs/). Read specs/ in that order, then of proofs/ Numbers, Sharing, Sizes, PlanSizes, Stages, Parts, NoRails and
-// NearExact; the others serve these or the crates above.
+// (proofs/). Read specs/ in that order, then of proofs/ Numbers, Sharing, H266, Sizes, PlanSizes, Stages, Parts, NoRails, NearExact,
+// of long numbers LongRules, LongSizes, LongCall and LongOff, and Unique; the others serve these or the crates above.
 ghost use mathlib.Core.Path.{_≡_};
 ghost use Prim.Native.Nat.{min};
 ghost use Rattle.algebra.specs.Refusals.{numberOf};
 ghost use Rattle.meaning.specs.Shape.{isSize, isKind, isDepth, isLongDepth, most, isKept, keeps, shapeOf, keeping};
-ghost use Rattle.meaning.specs.Answer.{shapeTestsBy, shapeTests};
+ghost use Rattle.meaning.specs.Answer.{shapeTestsBy, shapeTests, lengthTests, lineTests, refused, accepted};
 ghost use Rattle.meaning.specs.Long.{longShapeTests};
 
 /// What a block is: its sides, a kind for each direction, its bit depth, and how many columns and rows are kept. Any numbers.
@@ -204,4 +204,52 @@ pub fn kept_rows(shape: Shape) -> usize
     ensures { λ r. ⌜ r ≡ shape .rows ⌝ }
 {
     shape.rows as usize
+}
+
+/// 6 and 7, or 0.
+pub fn length_refusal(n: usize, input: usize, output: usize) -> u32
+    ensures { λ r. ⌜ r ≡ numberOf (lengthTests n input output) ⌝ }
+{
+    if input != n {
+        return 6;
+    }
+    if output != n {
+        return 7;
+    }
+    0
+}
+
+/// 1, 3, 6 and 7 of a line, or 0.
+pub fn line_refusal(n: u32, kind: u32, input: usize, output: usize) -> u32
+    ensures { λ r. ⌜ r ≡ numberOf (lineTests n kind input output) ⌝ }
+{
+    if !is_size(n) {
+        return 1;
+    }
+    if !is_kind(kind) {
+        return 3;
+    }
+    length_refusal(n as usize, input, output)
+}
+
+/// The answer of a refused call.
+pub fn refusal(number: u32, place: u32) -> Answer
+    ensures { λ r. ⌜ r ≡ refused number place ⌝ }
+{
+    Answer {
+        number,
+        place,
+        rails: 0,
+    }
+}
+
+/// The answer of an accepted call.
+pub fn acceptance(rails: u32) -> Answer
+    ensures { λ r. ⌜ r ≡ accepted rails ⌝ }
+{
+    Answer {
+        number: 0,
+        place: 0,
+        rails,
+    }
 }

@@ -9,12 +9,9 @@ use borrow.Author.Tests.{ltb-true, leb-true}
 use lib.Dec.{eqb, ltb, leb}
 use lib.ListN.{length, drop, getD}
 use lib.Seq.{drop-cons}
+use Rattle.meaning.proofs.Cases.{and-cases}
 use Rattle.picture.specs.declared.header.Header.{Header}
 use Rattle.picture.specs.Header.{isDigit, ended, step, readFrom, isP5}
-
-pub both : (a b : Bool) → a && b ≡ true → (a ≡ true) × (b ≡ true)
-both true b e = (refl, e)
-both false b e = absurd (false≢true e)
 
 pub and-false : (a : Bool) → a && false ≡ false
 and-false true = refl
@@ -22,7 +19,7 @@ and-false false = refl
 
 pub digit-range : (b : ℕ) → isDigit b ≡ true → (48 ≤ b) × (b ≤ 57)
 digit-range b e =
-    let t = both (leb 48 b) (leb b 57) e in
+    let t = and-cases (leb 48 b) (leb b 57) e in
     (leb-true 48 b (t .0), leb-true b 57 (t .1))
 
 -- a header that has not ended, and whose part has, is not yet at the maximum value

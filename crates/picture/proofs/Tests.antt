@@ -15,7 +15,7 @@ use Rattle.picture.specs.declared.header.Found.{Found}
 use Rattle.picture.specs.Picture.{anyOutside, pictureOf, residuals}
 use Rattle.picture.specs.Header.{headerOf, isPicture}
 use Rattle.picture.specs.Outcomes.{writeOutcome, readOutcome}
-use Rattle.picture.proofs.Reading.{both}
+use Rattle.meaning.proofs.Cases.{and-cases}
 
 -- ---- writing
 abbrev pub refusedW : ℕ → List ℕ → Written × List ℕ
@@ -70,7 +70,7 @@ module _ (file : List ℕ) (out : List ℤ) (f : Found) (e : f ≡ headerOf file
 pub sides : (s : Header) → isPicture s ≡ true → (isSize (s .width) ≡ true) × (isSize (s .height) ≡ true)
 unfolding isPicture
 sides s e =
-    let a = both (eqb (s .part) 3) (not (s .going) && (eqb (s .most) 65535 && (isSize (s .width) && isSize (s .height)))) e in
-    let b = both (not (s .going)) (eqb (s .most) 65535 && (isSize (s .width) && isSize (s .height))) (a .1) in
-    let c = both (eqb (s .most) 65535) (isSize (s .width) && isSize (s .height)) (b .1) in
-    both (isSize (s .width)) (isSize (s .height)) (c .1)
+    let a = and-cases (eqb (s .part) 3) (not (s .going) && (eqb (s .most) 65535 && (isSize (s .width) && isSize (s .height)))) e in
+    let b = and-cases (not (s .going)) (eqb (s .most) 65535 && (isSize (s .width) && isSize (s .height))) (a .1) in
+    let c = and-cases (eqb (s .most) 65535) (isSize (s .width) && isSize (s .height)) (b .1) in
+    and-cases (isSize (s .width)) (isSize (s .height)) (c .1)

@@ -1,5 +1,10 @@
-// Internal: text put into a buffer at a place, for programs whose text is not proved. Each function returns the place after what
-// it put; past the end of the buffer nothing is put.
+// Internal: text for the programs whose text is not proved: what an argument spells, and text put into a buffer at a place and then
+// printed. Each `put` returns the place after what it put; past the end of the buffer nothing is put.
+use block_input::say_unwritten;
+use libc::STDOUT_FILENO;
+ghost use mathlib.Core.Path.{_≡_};
+ghost use Prim.Native.Nat.{_≤_};
+ghost use lib.ListN.{length};
 
 pub fn put(byte: u8, text: &mut [u8], at: usize) -> usize {
     if at < text.len() {
@@ -23,4 +28,58 @@ pub fn put_natural(n: u64, text: &mut [u8], at: usize) -> usize {
     let mut digits: [u8; 20] = [0; 20];
     let count = io::decimal(n, &mut digits);
     put_word(&digits[..count], text, at)
+}
+
+// As many spaces as `count` bytes lack in `width`.
+pub fn put_spaces(width: usize, count: usize, text: &mut [u8], at: usize) -> usize {
+    let mut p = at;
+    let mut i = count;
+    while i < width {
+        p = put(b' ', text, p);
+        i += 1;
+    }
+    p
+}
+
+// As long as any text that is put.
+pub fn text_buffer() -> [u8; 65536]
+    ensures { λ r. ⌜ 65536 ≡ length r ⌝ }
+{
+    [0; 65536]
+}
+
+// The front of a buffer on standard output, or a line on standard error.
+pub fn print(text: &[u8], end: usize) {
+    if end <= text.len() {
+        if io::write_all(STDOUT_FILENO, &text[..end]) {
+            return;
+        }
+    }
+    say_unwritten();
+}
+
+// The number that digits spell, up to 100,000, which is more than a file has fields or a block has places; `none` where a byte is no
+// digit, and for no bytes.
+pub fn number_of(text: &[u8], none: usize) -> usize
+    requires { ⌜ none ≤ 100000 ⌝ }
+    ensures { λ r. ⌜ r ≤ 100000 ⌝ }
+{
+    if text.len() == 0 {
+        return none;
+    }
+    let mut n = 0;
+    let mut i = 0;
+    while i < text.len() {
+        if text[i] < b'0' {
+            return none;
+        }
+        if text[i] > b'9' {
+            return none;
+        }
+        if n < 10000 {
+            n = n * 10 + (text[i] - b'0') as usize;
+        }
+        i += 1;
+    }
+    n
 }

@@ -1,8 +1,10 @@
 // The files, one after the other.
 use block_file::cursor::Cursor;
+use block_input::file_buffer;
 use block_input::read_input;
+use block_input::say;
+use block_input::say_refused;
 use block_numbers::bytes::read_numbers;
-use libc::STDERR_FILENO;
 use libc::STDIN_FILENO;
 use meaning::Shape;
 ghost use mathlib.Core.Path.{_≡_};
@@ -19,13 +21,6 @@ fn residual_buffer() -> [i16; 1024]
     ensures { λ r. ⌜ length r ≡ 1024 ⌝ }
 {
     [0; 1024]
-}
-
-// One byte more than a file may have, so that the reader can tell that there is one.
-fn file_buffer() -> [u8; 65537]
-    ensures { λ r. ⌜ 65537 ≡ length r ⌝ }
-{
-    [0; 65537]
 }
 
 // Reads the numbers of a body, adds the block, and returns its number.
@@ -81,19 +76,16 @@ fn add_file(totals: &mut [u64; 578], file: &[u8]) -> Stop {
     }
 }
 
-fn say_refused(number: u32, offset: usize, path: &[u8]) {
-    io::write_all(STDERR_FILENO, b"R ");
-    io::print_decimal(STDERR_FILENO, number as u64);
-    io::write_all(STDERR_FILENO, b" ");
-    io::print_decimal(STDERR_FILENO, offset as u64);
-    io::write_all(STDERR_FILENO, b" ");
-    io::write_all(STDERR_FILENO, path);
-    io::write_all(STDERR_FILENO, b"\n");
+fn say_stop(number: u32, offset: usize, path: &[u8]) {
+    say_refused(number, offset);
+    say(b" ");
+    say(path);
+    say(b"\n");
 }
 
 fn say_unread(path: &[u8]) {
-    io::write_all(STDERR_FILENO, path);
-    io::write_all(STDERR_FILENO, b" could not be read\n");
+    say(path);
+    say(b" could not be read\n");
 }
 
 // What stands on a descriptor; whether all of it could be read.
@@ -108,7 +100,7 @@ fn take_input(totals: &mut [u64; 578], fd: i32, path: &[u8]) -> bool {
     let stop = add_file(totals, &file[..count]);
     let number = stop.number;
     if number != 0 {
-        say_refused(number, stop.offset, path);
+        say_stop(number, stop.offset, path);
     }
     true
 }

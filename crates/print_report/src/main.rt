@@ -5,31 +5,13 @@
 mod files;
 mod table;
 
-use libc::STDERR_FILENO;
-use libc::STDOUT_FILENO;
-ghost use mathlib.Core.Path.{_≡_};
-ghost use lib.ListN.{length};
+use plain_text::print;
+use plain_text::text_buffer;
 
-fn text_buffer() -> [u8; 65536]
-    ensures { λ r. ⌜ 65536 ≡ length r ⌝ }
-{
-    [0; 65536]
-}
-
-fn write(text: &[u8], end: usize) -> bool {
-    if end <= text.len() {
-        return io::write_all(STDOUT_FILENO, &text[..end]);
-    }
-    false
-}
-
-fn print(totals: [u64; 578]) {
+fn print_totals(totals: [u64; 578]) {
     let mut text = text_buffer();
     let end = table::put_table(totals, &mut text);
-    if write(&text, end) {
-        return;
-    }
-    io::write_all(STDERR_FILENO, b"the answer could not be written\n");
+    print(&text, end);
 }
 
 // Whether a word asks for progress.
@@ -65,6 +47,6 @@ fn main() {
         return;
     }
     if take_all(&mut totals, count - 1) {
-        print(totals);
+        print_totals(totals);
     }
 }

@@ -1,6 +1,7 @@
 // The table: a line for each width, height and pair of kinds of which there was a block, then the refused.
 use plain_text::put;
 use plain_text::put_natural;
+use plain_text::put_spaces;
 use plain_text::put_word;
 ghost use Prim.Native.Nat.{_≤_, _<_};
 
@@ -10,16 +11,6 @@ fn put_number(n: u64, width: usize, text: &mut [u8], at: usize) -> usize {
     let count = io::decimal(n, &mut digits);
     let start = put_spaces(width, count, text, at);
     put_word(&digits[..count], text, start)
-}
-
-fn put_spaces(width: usize, count: usize, text: &mut [u8], at: usize) -> usize {
-    let mut p = at;
-    let mut i = count;
-    while i < width {
-        p = put(b' ', text, p);
-        i += 1;
-    }
-    p
 }
 
 // 0 to 3 are 4, 8, 16 and 32.

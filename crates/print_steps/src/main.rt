@@ -4,31 +4,14 @@
 mod text;
 
 use libc::STDERR_FILENO;
-use libc::STDOUT_FILENO;
+use plain_text::print;
+use plain_text::text_buffer;
 use step_lists::list::list;
-ghost use mathlib.Core.Path.{_≡_};
-ghost use lib.ListN.{length};
-
-fn text_buffer() -> [u8; 65536]
-    ensures { λ r. ⌜ 65536 ≡ length r ⌝ }
-{
-    [0; 65536]
-}
-
-fn write(text: &[u8], end: usize) -> bool {
-    if end <= text.len() {
-        return io::write_all(STDOUT_FILENO, &text[..end]);
-    }
-    false
-}
 
 fn show(cells: u32, steps: &[i32], outs: &[i32]) {
     let mut text = text_buffer();
     let end = text::put_list(cells, steps, outs, &mut text);
-    if write(&text, end) {
-        return;
-    }
-    io::write_all(STDERR_FILENO, b"the answer could not be written\n");
+    print(&text, end);
 }
 
 fn show_4() {
@@ -74,7 +57,7 @@ fn points(word: &[u8]) -> u32 {
     0
 }
 
-fn print(word: &[u8]) {
+fn print_named(word: &[u8]) {
     let n = points(word);
     if n == 4 {
         show_4();
@@ -100,7 +83,7 @@ fn main() {
     while i < count {
         let mut word = io::buffer();
         let n = os::arg(i, &mut word);
-        print(&word[..n]);
+        print_named(&word[..n]);
         i += 1;
     }
 }

@@ -1,16 +1,16 @@
 -- What a caller of `lines` cites: lists in which inputs and weights are laid out, and the lines that they are. Assumes nothing.
-use mathlib.Core.Path.{_≡_, refl, sym, ap, _∙_, subst}
+use mathlib.Core.Path.{_≡_, sym, ap, _∙_, subst}
 use mathlib.Core.List.{List}
-use Prim.Native.Nat.{ℕ, _+_, _*_, _-_, _/_, _%_, _^_, _≤_, _<_}
+use Prim.Native.Nat.{ℕ, _+_, _*_, _^_, _≤_, _<_}
 use native.Mathlib.Omega.{arith}
 use lib.IntN.{ℤ, pos, negsuc, _*ℤ_, +ℤ-idr}
 use lib.Signed.{shrZ}
 use Rattle.algebra.specs.Sum.{sum}
-use Rattle.algebra.specs.Shift.{_>>_, nearest}
-use Rattle.algebra.specs.Lists.{at, block}
+use Rattle.algebra.specs.Shift.{_>>_}
+use Rattle.algebra.specs.Lists.{block}
 use Rattle.algebra.proofs.Sum.{sum-cong}
 use Rattle.algebra.proofs.Lists.{block-cong}
-use Rattle.product.specs.Product.{spot, Laid, lineSum, shifted, Light, Line, Lines}
+use Rattle.product.specs.Product.{spot, Laid, lineSum, shifted, Light, Lines}
 
 -- fewer lines or outputs, fewer inputs, numbers that are the same there
 pub laid-less : {n m pairs few step gap : ℕ} {X Y : ℕ → ℕ → ℤ} {t : List ℤ} → m ≤ n → few ≤ pairs

@@ -4,7 +4,7 @@
 use mathlib.Core.Path.{_≡_, refl, sym, ap, _∙_, subst}
 use mathlib.Core.Bool.{Bool, true, false, cond, not, _&&_}
 use mathlib.Core.List.{List, [], _∷_, _++_}
-use Prim.Native.Nat.{ℕ, _+_, _*_, _-_, _/_, _%_, _^_, _≤_, _<_, min}
+use Prim.Native.Nat.{ℕ, _+_, _*_, _-_, _^_, _≤_, _<_, min}
 use native.Mathlib.Nat.{mul-comm, mul-le-mul}
 use native.Mathlib.Omega.{arith}
 use native.Mathlib.Decide.{ℕ-discrete}
@@ -21,9 +21,9 @@ use Rattle.algebra.proofs.Refusals.{Clear, clear, clear-split, refused-first, p
 use Rattle.meaning.specs.declared.Shape.{Shape}
 use Rattle.meaning.specs.declared.Answer.{Answer}
 use Rattle.meaning.specs.Plan.{planOf}
-use Rattle.meaning.specs.Taken.{Taken, TakenBlock, NoneAbove}
+use Rattle.meaning.specs.Taken.{Taken, NoneAbove}
 use Rattle.meaning.specs.Answer.{Outcome, refused, accepted, test, shapeTests, lengthTests}
-use Rattle.meaning.specs.Inverse.{rails, residual, inverseBlock, outside, firstOutside, inverseOutcome}
+use Rattle.meaning.specs.Inverse.{residual, inverseBlock, outside, firstOutside, inverseOutcome}
 use Rattle.meaning.specs.Forward.{columnValue, coefficient, forwardBlock, firstTooLarge, forwardOutcome}
 use Rattle.meaning.proofs.Cases.{size-in}
 use Rattle.meaning.proofs.Accepted.{shape-taken, inverse-done}

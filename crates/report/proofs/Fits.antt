@@ -3,24 +3,22 @@
 use mathlib.Core.Path.{_≡_}
 use mathlib.Core.Bool.{Bool, true, false}
 use mathlib.Core.List.{List}
-use Prim.Native.Nat.{ℕ, _+_, _*_, _-_, _^_, _≤_, _<_}
-use native.Mathlib.Nat.{mul-le-mul, le-trans}
+use Prim.Native.Nat.{ℕ, _*_, _^_, _≤_}
+use native.Mathlib.Nat.{mul-le-mul}
 use native.Mathlib.Omega.{arith}
-use lib.IntN.{ℤ, natAbs}
+use lib.IntN.{ℤ}
 use lib.Pow.{pow-mono}
-use lib.ListN.{length}
 use Rattle.algebra.specs.Sum.{sumℕ}
 use Rattle.algebra.specs.Lists.{at}
 use Rattle.algebra.proofs.Sum.{sumℕ-mono, sumℕ-const}
 use Rattle.meaning.specs.declared.Shape.{Shape}
 use Rattle.meaning.specs.Plan.{planOf}
-use Rattle.meaning.specs.Taken.{Taken}
 use Rattle.meaning.specs.Inverse.{columnSum, rounded, middleAt, railed, count, rails}
 use Rattle.meaning.specs.Forward.{forwardBlock}
 use Rattle.meaning.proofs.Cases.{depth-cases}
 use Rattle.meaning.proofs.Stages.{taken-sized}
-use Rattle.report.specs.Trip.{area, railCount, returned, apart, greatest, largest, squares}
-use Rattle.report.specs.Given.{Given, taken, sumOver}
+use Rattle.report.specs.Trip.{area, railCount, returned, apart, largest, squares}
+use Rattle.report.specs.Given.{Given, taken}
 use Rattle.report.proofs.Numbers.{greatest-in, squares-in, apart-in}
 use Rattle.report.proofs.Back.{Took, took, area-in, returned-in}
 use Rattle.report.proofs.Cells.{taken-zero}

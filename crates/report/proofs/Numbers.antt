@@ -1,13 +1,9 @@
 -- The words of a block's numbers, a step at a time, and their sizes. Assumes nothing.
-use mathlib.Core.Path.{_≡_, refl, ap, _∙_}
-use mathlib.Core.Bool.{Bool, true, false}
+use mathlib.Core.Path.{_≡_, refl, ap}
 use Prim.Native.Nat.{ℕ, zero, suc, _+_, _*_, _≤_, _<_, max}
 use native.Mathlib.Nat.{mul-le-mul}
 use native.Mathlib.Omega.{arith}
-use borrow.Author.Tests.{ltb-true}
-use lib.Dec.{T}
-use lib.IntN.{ℤ, pos, negsuc, natAbs, negℤ, _-ℤ_}
-use lib.Signed.{nonNeg, ltZ}
+use lib.IntN.{ℤ, natAbs, negℤ, _-ℤ_}
 use Rattle.algebra.specs.Sum.{sumℕ}
 use Rattle.algebra.proofs.Sum.{sumℕ-mono, sumℕ-const}
 use Rattle.algebra.proofs.Order.{abs-add, abs-neg}
@@ -38,12 +34,3 @@ squares-in n f B h = omega (arith, sumℕ-mono n (λ k. f k * f k) (λ k. B * B)
 -- ---- the size of a difference
 pub apart-in : (a b : ℤ) {A B : ℕ} → natAbs a ≤ A → natAbs b ≤ B → natAbs (a -ℤ b) ≤ A + B
 apart-in a b h l = omega (arith, abs-add a (negℤ b), abs-neg b, h, l)
-
--- below 0, its negative is not, and has its size
-pub negative : (z : ℤ) → ltZ z (pos 0) ≡ true → T (nonNeg (pos 0 -ℤ z)) × (natAbs (pos 0 -ℤ z) ≡ natAbs z)
-negative (pos n) h = absurd (omega (arith, ltb-true n 0 h))
-negative (negsuc n) h = (tt, omega arith)
-
-pub other : (z : ℤ) → ltZ z (pos 0) ≡ false → T (nonNeg z)
-other (pos n) h = tt
-other (negsuc n) h = let z : _≡_ {A = ℕ} 0 1 = cc in absurd (omega arith)

@@ -1,6 +1,6 @@
 -- "The order of the blocks changes no total": after at most 65,536 blocks, all 578 numbers are the same in any order. (Of more
 -- blocks, which ones come too late depends on the order.) Assumes nothing.
-use mathlib.Core.Path.{_≡_, refl, sym, ap, _∙_, subst}
+use mathlib.Core.Path.{_≡_, sym, _∙_, subst}
 use mathlib.Core.Bool.{not}
 use mathlib.Core.List.{List, [], _∷_}
 use Prim.Native.Nat.{ℕ, zero, suc, _+_, _*_, _/_, _%_, _<_, _≤_}

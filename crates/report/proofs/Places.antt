@@ -1,21 +1,17 @@
 -- Where the totals of a size and a pair of kinds stand: no two of the 144 share a place (`class-apart`). Assumes nothing.
-use mathlib.Core.Path.{_≡_, refl, sym, ap, _∙_}
-use mathlib.Core.Bool.{Bool, true, false, _&&_}
-use Prim.Native.Nat.{ℕ, zero, suc, _+_, _*_, _-_, _<_, _≤_}
+use mathlib.Core.Path.{_≡_, refl}
+use mathlib.Core.Bool.{true, false, _&&_}
+use Prim.Native.Nat.{ℕ, zero, suc, _+_, _*_, _<_}
 use native.Mathlib.Omega.{arith}
 use borrow.Author.Tests.{eqb-true, eq-eqb, ne-eqb}
 use lib.Dec.{eqb}
 use Rattle.meaning.specs.declared.Shape.{Shape}
 use Rattle.meaning.specs.Shape.{isSize, isKind}
 use Rattle.meaning.specs.Taken.{Taken}
-use Rattle.meaning.proofs.Cases.{size-cases}
+use Rattle.meaning.proofs.Cases.{and-cases, size-cases}
 use Rattle.meaning.proofs.Stages.{log-in}
 use Rattle.report.specs.Totals.{side, class}
 use Rattle.report.specs.Given.{alike}
-
-pub both : (a b : Bool) → a && b ≡ true → (a ≡ true) × (b ≡ true)
-both true b h = (refl, h)
-both false b h = let z : _≡_ {A = ℕ} 0 1 = cc in absurd (omega arith)
 
 -- no kind is above 2
 pub kind-in : (kind : ℕ) → isKind kind ≡ true → kind < 3
@@ -95,9 +91,9 @@ alike-same sh s e =
     let h = eqb (s .height) (sh .height) in
     let a = eqb (s .horizontal) (sh .horizontal) in
     let b = eqb (s .vertical) (sh .vertical) in
-    let one = both w (h && (a && b)) e in
-    let two = both h (a && b) (one .1) in
-    let three = both a b (two .1) in
+    let one = and-cases w (h && (a && b)) e in
+    let two = and-cases h (a && b) (one .1) in
+    let three = and-cases a b (two .1) in
     record {
       width = eqb-true (s .width) (sh .width) (one .0);
       height = eqb-true (s .height) (sh .height) (two .0);

@@ -2,21 +2,22 @@
 -- 65,536 blocks from the empty totals, of each size and pair of kinds (`report`), of the refused (`refused-total`) and of the given
 -- (`given-total`). No sum leaves 64 bits: what stands there is the sum itself. Assumes nothing.
 use mathlib.Core.Path.{_≡_, refl, sym, ap, _∙_, subst}
-use mathlib.Core.Bool.{Bool, true, false, cond, not, _&&_}
+use mathlib.Core.Bool.{Bool, true, false, not, _&&_}
 use mathlib.Core.List.{List, [], _∷_}
-use Prim.Native.Nat.{ℕ, zero, suc, _+_, _*_, _%_, _^_, _<_, _≤_, max}
-use native.Mathlib.Nat.{mod-eq-of-lt, mul-le-mul}
+use Prim.Native.Nat.{ℕ, _+_, _*_, _%_, _^_, _<_, _≤_, max}
+use native.Mathlib.Nat.{mul-le-mul}
 use native.Mathlib.Omega.{arith}
 use native.Mathlib.Decide.{ℕ-discrete}
 use borrow.Author.Tests.{eqb-true, eq-eqb, ne-eqb}
 use lib.Dec.{eqb}
 use lib.ListN.{length, getD-replicate, length-replicate}
 use Rattle.meaning.specs.declared.Shape.{Shape}
+use Rattle.meaning.proofs.Cases.{and-cases, and-so}
 use Rattle.report.specs.Trip.{railCount, largest, squares}
 use Rattle.report.specs.Totals.{empty, total, class, place, refusedPlace, givenPlace}
 use Rattle.report.specs.Given.{Given, afterAll, totalsOf, taken, alike, among, sumOver, maxOver}
-use Rattle.report.proofs.Fits.{rails-in, largest-in, squares-fit, took-given}
-use Rattle.report.proofs.Places.{Class, Same, both, class-of, class-in, class-apart, class-same, alike-same, same-alike}
+use Rattle.report.proofs.Fits.{rails-in, squares-fit, took-given}
+use Rattle.report.proofs.Places.{Class, class-of, class-in, class-apart, class-same, alike-same, same-alike}
 use Rattle.report.proofs.Cells.{Room, Here, here, step, step-given, taken-other, taken-here, refused-other, refused-here, either}
 use Rattle.report.proofs.Sums.{taken-class, Rooms, room, rooms-next, adds, raises, sum-small}
 
@@ -33,23 +34,19 @@ empty-rooms n h = record { long = length-replicate {A = ℕ} 578 0; more = omega
 abbrev pub inClass : ℕ → Given → Bool
 inClass v b = taken b && eqb (class (b .shape)) v
 
-no-both : (a b : Bool) → a && b ≡ false → a ≡ true → b ≡ false
-no-both true b h e = h
-no-both false b h e = let z : _≡_ {A = ℕ} 0 1 = cc in absurd (omega arith)
-
 module _ (v : ℕ) (h : v < 144) where
   -- the number of a block's class
   is-class : (b : Given) → inClass v b ≡ true → class (b .shape) ≡ v
-  is-class b e = eqb-true (class (b .shape)) v (both (taken b) (eqb (class (b .shape)) v) e .1)
+  is-class b e = eqb-true (class (b .shape)) v (and-cases (taken b) (eqb (class (b .shape)) v) e .1)
 
   is-taken : (b : Given) → inClass v b ≡ true → taken b ≡ true
-  is-taken b e = both (taken b) (eqb (class (b .shape)) v) e .0
+  is-taken b e = and-cases (taken b) (eqb (class (b .shape)) v) e .0
 
   other : (j : ℕ) → j < 4 → (t : List ℕ) (b : Given) → Room t → inClass v b ≡ false → total (step t b) (v * 4 + j) ≡ total t (v * 4 + j)
   other j l t b m e =
       either (total (step t b) (v * 4 + j) ≡ total t (v * 4 + j)) (taken b)
       (λ y.
-      let d = no-both (taken b) (eqb (class (b .shape)) v) e y in
+      let d = and-so (taken b) (eqb (class (b .shape)) v) e y in
       taken-other t b m y (v * 4 + j) (λ q. omega (arith, q, h, l))
       (λ k i q.
       let s : class (b .shape) ≡ v = omega (arith, q, i, l) in

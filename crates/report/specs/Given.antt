@@ -1,6 +1,6 @@
 -- Document 02, Wish 10: "Each total equals a sum, or a maximum, over the blocks given, refused blocks being counted apart. The order
 -- of the blocks changes no total." Blocks one after the other from the empty totals, and what is said of any list of them.
-use mathlib.Core.Bool.{Bool, cond, not, _&&_}
+use mathlib.Core.Bool.{Bool, cond, _&&_}
 use mathlib.Core.List.{List, [], _∷_}
 use Prim.Native.Nat.{ℕ, _+_, max}
 use lib.Dec.{eqb}

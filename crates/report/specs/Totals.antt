@@ -1,7 +1,7 @@
 -- Document 02, Wish 10: "per size and kind the number of blocks, the rail counts, the largest difference .., and the sum of squared
 -- differences in 64 bits". The totals are 578 numbers of 64 bits: four for each width, height and pair of kinds, then how many
 -- blocks were refused, then how many were given. Any 578 numbers are totals, so sums are modulo 2^64.
-use mathlib.Core.Bool.{Bool, cond}
+use mathlib.Core.Bool.{cond}
 use mathlib.Core.List.{List, [], _∷_}
 use Prim.Native.Nat.{ℕ, _+_, _*_, _-_, _%_, _^_, max}
 use lib.Dec.{eqb, leb}

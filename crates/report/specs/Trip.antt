@@ -1,9 +1,7 @@
 -- Document 02, Wish 10: "we run .. residual blocks forward and back". One block: the answer to it, and how far what is returned is
 -- from what was given.
-use mathlib.Core.Bool.{not}
 use mathlib.Core.List.{List, [], _∷_, _++_}
 use Prim.Native.Nat.{ℕ, zero, suc, _*_, max}
-use lib.Dec.{eqb, ltb}
 use lib.IntN.{ℤ, natAbs, _-ℤ_}
 use lib.ListN.{length}
 use Rattle.algebra.specs.Sum.{sumℕ}
@@ -12,9 +10,9 @@ use Rattle.algebra.specs.Refusals.{Refusal, firstOf}
 use Rattle.meaning.specs.declared.Shape.{Shape}
 use Rattle.meaning.specs.declared.Answer.{Answer}
 use Rattle.meaning.specs.Plan.{planOf}
-use Rattle.meaning.specs.Answer.{test, refused, accepted, shapeTests}
+use Rattle.meaning.specs.Answer.{refused, accepted, inputTest, shapeTests}
 use Rattle.meaning.specs.Inverse.{rails, inverseBlock}
-use Rattle.meaning.specs.Forward.{firstTooLarge, forwardBlock}
+use Rattle.meaning.specs.Forward.{tooLargeTest, forwardBlock}
 
 abbrev pub area : Shape → ℕ
 area sh = sh .width * sh .height
@@ -22,8 +20,7 @@ area sh = sh .width * sh .height
 -- the forward's refusals, without 7: nothing is written that could have another length
 abbrev pub tripTests : Shape → List ℤ → List Refusal
 tripTests sh r =
-    shapeTests sh
-    ++ (test (not (eqb (length r) (area sh))) 6 ∷ record { applies = ltb (firstTooLarge sh r) (length r); number = 9; place = firstTooLarge sh r } ∷ [])
+    shapeTests sh ++ (inputTest (area sh) (length r) ∷ tooLargeTest sh r ∷ [])
 
 -- "the rail counts": of the way back
 unfoldable pub railCount : Shape → List ℤ → ℕ

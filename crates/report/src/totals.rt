@@ -3,12 +3,12 @@ use crate::trip::larger;
 use crate::trip::trip;
 use meaning::Answer;
 use meaning::Shape;
+use meaning::refusal;
 ghost use mathlib.Core.Path.{_≡_};
 ghost use mathlib.Core.Bool.{true};
 ghost use mathlib.Core.List.{List};
 ghost use Prim.Native.Nat.{ℕ, _+_, _<_, _≤_};
 ghost use Rattle.meaning.specs.Shape.{isKind};
-ghost use Rattle.meaning.specs.Answer.{refused};
 ghost use Rattle.report.specs.Trip.{tripAnswer};
 ghost use Rattle.report.specs.Totals.{empty, side, place, entered, counted, plus, addOutcome};
 
@@ -99,11 +99,7 @@ pub fn add(totals: &mut [u64; 578], shape: Shape, residuals: &[i16]) -> Answer
     ensures { λ r. ⌜ _≡_ {A = Answer × List ℕ} (r, now (totals .exit)) (addOutcome (now (totals .entry)) shape (now (residuals .entry))) ⌝ }
 {
     if totals[577] >= 65536 {
-        return Answer {
-            number: 22,
-            place: 0,
-            rails: 0,
-        };
+        return refusal(22, 0);
     }
     let answer = tally(totals, shape, residuals);
     count(totals, 577, 1);

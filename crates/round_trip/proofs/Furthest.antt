@@ -1,7 +1,7 @@
 -- "Result j differs from 4096*N*x[j] by at most M*D(j)" (`strays`), for any line of whole numbers, once over the size and the
 -- kind; and some line of numbers of size M differs as much (`reached`). Assumes nothing.
-use mathlib.Core.Path.{_≡_, refl, sym, ap, _∙_, subst}
-use mathlib.Core.Bool.{Bool, true, false, cond}
+use mathlib.Core.Path.{_≡_, refl, sym, ap, _∙_}
+use mathlib.Core.Bool.{Bool, cond}
 use mathlib.Core.List.{[], _∷_}
 use Prim.Native.Nat.{ℕ, zero, suc, _+_, _*_, _≤_, _<_}
 use native.Mathlib.Nat.{not-suc-le-zero}
@@ -10,9 +10,8 @@ use borrow.Author.Tests.{eq-eqb, ne-eqb}
 use lib.Dec.{eqb}
 use lib.IntN.{ℤ, pos, negsuc, negℤ, natAbs, _+ℤ_, _-ℤ_, _*ℤ_, +ℤ-idl, +ℤ-idr, zero-*ℤ}
 use Rattle.algebra.specs.Sum.{sum, sumℕ}
-use Rattle.algebra.proofs.Normal.{ν, κ, _⊕_, _⊖_, _⊗_, ⊝, ring}
+use Rattle.algebra.proofs.Normal.{ν, _⊕_, _⊖_, _⊗_, ⊝, ring}
 use Rattle.algebra.proofs.Order.{abs-neg}
-use Rattle.algebra.proofs.Ring.{neg-*ℤ, *ℤ-neg}
 use Rattle.algebra.proofs.Sum.{sum-cong, sum-add, sum-scale, sum-neg, sum-swap, sum-none, abs-dot, sumℕ-scale}
 use Rattle.algebra.proofs.Table.{last}
 use Rattle.meaning.specs.Weights.{weight}

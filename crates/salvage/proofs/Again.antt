@@ -11,7 +11,7 @@ use Rattle.meaning.specs.declared.Shape.{Shape}
 use Rattle.block_file.specs.declared.cursor.Cursor.{Cursor}
 use Rattle.block_file.specs.declared.field.Field.{Field}
 use Rattle.block_file.specs.Cursor.{start, stepOf}
-use Rattle.salvage.specs.Pieces.{reads, onward, pieceAt, pieces, joined, keptOf, written, dropped, readsAll, undamaged}
+use Rattle.salvage.specs.Pieces.{reads, onward, pieces, joined, keptOf, written, dropped, readsAll, undamaged}
 use Rattle.salvage.proofs.Moves.{onward-read, onward-lost}
 use Rattle.salvage.proofs.Cover.{by-pieces}
 use Rattle.salvage.proofs.Lengths.{written-short}

@@ -1,5 +1,5 @@
 -- The new file is no longer than the old one, and its list has at most two numbers to a byte. Assumes nothing.
-use mathlib.Core.Path.{_≡_, refl, ap, subst}
+use mathlib.Core.Path.{_≡_, ap}
 use mathlib.Core.Bool.{Bool, true, false, cond}
 use mathlib.Core.List.{List, [], _∷_}
 use Prim.Native.Nat.{ℕ, _+_, _*_, _-_, _≤_, _<_}
@@ -9,8 +9,7 @@ use lib.ListN.{length, take, drop, length-append, length-take}
 use Rattle.block_file.specs.declared.cursor.Cursor.{Cursor}
 use Rattle.block_file.specs.Cursor.{start}
 use Rattle.salvage.specs.declared.search.Piece.{Piece}
-use Rattle.salvage.specs.Pieces.{onward, reads, pieceAt, pieces, joined, bytesOf, keptOf, written, droppedOf, dropped}
-use Rattle.salvage.proofs.Moves.{moves}
+use Rattle.salvage.specs.Pieces.{onward, reads, pieceAt, pieces, joined, keptOf, written, droppedOf, dropped}
 use Rattle.salvage.proofs.Cover.{by-pieces}
 
 -- what makes at most k numbers of each byte of a piece makes at most k of each byte of the file

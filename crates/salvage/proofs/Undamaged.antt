@@ -1,11 +1,12 @@
 -- "an undamaged file comes back unchanged with an empty list". Assumes nothing.
 use mathlib.Core.Path.{_≡_, refl, sym, ap, _∙_, subst}
-use mathlib.Core.Bool.{Bool, true, false, cond, _&&_, false≢true}
+use mathlib.Core.Bool.{true}
 use mathlib.Core.List.{List, [], _∷_, _++_}
 use Prim.Native.Nat.{ℕ, zero, suc, _+_, _-_, _≤_, _<_}
 use native.Mathlib.Omega.{arith}
 use lib.ListN.{length, take, drop, take-append-drop, drop-of-length-le}
 use lib.Seq.{drop-drop}
+use Rattle.meaning.proofs.Cases.{and-cases}
 use Rattle.block_file.specs.declared.cursor.Cursor.{Cursor}
 use Rattle.block_file.specs.Cursor.{start, stepOf}
 use Rattle.salvage.specs.declared.search.Piece.{Piece}
@@ -23,10 +24,6 @@ whole-file file =
     let e : c .at + b ≡ onward file c .at = omega arith in
     ap (λ (s : List ℕ). take b (drop (c .at) file) ++ s) (h ∙ ap (λ (k : ℕ). drop k file) (sym e) ∙ sym (drop-drop b (c .at) file)) ∙ take-append-drop b (drop (c .at) file))
 
-both : (a b : Bool) → a && b ≡ true → (a ≡ true) × (b ≡ true)
-both true b e = (refl, e)
-both false b e = absurd (false≢true e)
-
 module _ (file : List ℕ) where
   abbrev Kept : Cursor → List Piece → Type 0
   Kept c ps = (k : ℕ) → length file ≤ c .at + k → readsAll k file c ≡ true → (joined (keptOf file) ps ≡ joined (bytesOf file) ps) × (joined droppedOf ps ≡ [])
@@ -40,7 +37,7 @@ module _ (file : List ℕ) where
   unfolding readsAll
   kept-step c ps l m h zero g e = absurd (omega arith)
   kept-step c ps l m h (suc k) g e =
-      let b = both (reads file c) (readsAll k file (stepOf file c .next)) e in
+      let b = and-cases (reads file c) (readsAll k file (stepOf file c .next)) e in
       kept-more (pieceAt file c) ps (b .0)
       (h k (omega arith) (subst (λ (n : Cursor). readsAll k file n ≡ true) (onward-read file c (b .0)) (b .1)))
 

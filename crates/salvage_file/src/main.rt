@@ -2,7 +2,11 @@
 // line each, its offset and its length. Where nothing is written, a line on standard error says why.
 use block_input::file_buffer;
 use block_input::read_input;
-use libc::STDERR_FILENO;
+use block_input::say;
+use block_input::say_numbers;
+use block_input::say_refused;
+use block_input::say_unread;
+use block_input::say_unwritten;
 use libc::STDIN_FILENO;
 use libc::STDOUT_FILENO;
 ghost use mathlib.Core.Path.{_≡_};
@@ -15,26 +19,17 @@ fn list_buffer() -> [u32; 2048]
     [0; 2048]
 }
 
-// Two numbers and the end of the line.
-fn say(a: u32, b: u32) {
-    io::print_decimal(STDERR_FILENO, a as u64);
-    io::write_all(STDERR_FILENO, b" ");
-    io::print_decimal(STDERR_FILENO, b as u64);
-    io::write_all(STDERR_FILENO, b"\n");
+fn say_stretch(offset: u32, length: u32) {
+    say_numbers(offset as u64, length as u64);
+    say(b"\n");
 }
 
 fn say_dropped(list: &[u32]) {
     let mut i = 1;
     while i < list.len() {
-        say(list[i - 1], list[i]);
+        say_stretch(list[i - 1], list[i]);
         i += 2;
     }
-}
-
-// The offset is that of the file's start: nothing is written, whichever field is the first too many.
-fn say_refused(number: u32) {
-    io::write_all(STDERR_FILENO, b"R ");
-    say(number, 0);
 }
 
 fn save(file: &[u8]) {
@@ -45,7 +40,9 @@ fn save(file: &[u8]) {
     let bytes = saved.bytes as usize;
     let numbers = saved.stretches as usize * 2;
     if number != 0 {
-        say_refused(number);
+        // The offset is that of the file's start: nothing is written, whichever field is the first too many.
+        say_refused(number, 0);
+        say(b"\n");
         return;
     }
     if bytes > 65537 {
@@ -55,7 +52,7 @@ fn save(file: &[u8]) {
         return;
     }
     if !io::write_all(STDOUT_FILENO, &out[..bytes]) {
-        io::write_all(STDERR_FILENO, b"the answer could not be written\n");
+        say_unwritten();
         return;
     }
     say_dropped(&list[..numbers]);
@@ -66,7 +63,7 @@ fn main() {
     let read = read_input(STDIN_FILENO, &mut file);
     let count = read.count;
     if read.failed {
-        io::write_all(STDERR_FILENO, b"the input could not be read\n");
+        say_unread();
         return;
     }
     save(&file[..count]);

@@ -6,12 +6,12 @@ use Prim.Native.Nat.{ℕ, zero, suc, _+_, _*_, _≤_, _<_, _^_}
 use native.Mathlib.Omega.{arith}
 use native.Mathlib.Nat.{not-suc-le-zero, le-of-suc-le-suc}
 use native.Mathlib.Numerals.{add-one}
-use lib.Dec.{T, ltb}
+use lib.Dec.{ltb}
 use lib.IntN.{ℤ, pos, negsuc, natAbs, negℤ, _+ℤ_, _-ℤ_, _*ℤ_}
 use lib.ListN.{length, drop, getD, set, length-drop, drop-of-length-le}
 use lib.Seq.{drop-cons}
-use lib.Signed.{ltZ, nonNeg}
-use mir.Syntax.{w16, w32}
+use lib.Signed.{ltZ}
+use mir.Syntax.{w32}
 use mir.Val.{SFits, ofZ, toZ}
 use mir.ValLaws.{toZ-ofZ}
 use borrow.Author.Tests.{le-ltb, lt-ltb, ltb-true, ltb-false, eq-eqb}
@@ -38,10 +38,6 @@ cell-below (negsuc n) e = refl
 pub cell-from : (x : ℤ) → ltZ x (pos 0) ≡ false → natAbs x ≡ cellOf x
 cell-from (pos n) e = refl
 cell-from (negsuc n) e = let f : _≡_ {A = ℕ} 0 1 = cc in absurd (omega arith)
-
-pub not-below : (z : ℤ) → ltZ z (pos 0) ≡ false → T (nonNeg z)
-not-below (pos n) e = tt
-not-below (negsuc n) e = let f : _≡_ {A = ℕ} 0 1 = cc in absurd (omega arith)
 
 pub count-fits : (z : ℤ) → SFits w32 z → natAbs z < 2 ^ 64
 count-fits (pos n) h = omega (arith, h .sfits)
@@ -200,9 +196,3 @@ unread-at n w os i o h e = unread-next n w os i h ∙ ap (λ (k : ℕ). cond (lt
 
 pub readings-are : (v os : List ℤ) → readings v os ≡ tabulate (length os) (λ k. at v (cellOf (at os k)))
 readings-are v os = tabulated (length os) (readings v os) (λ k. at v (cellOf (at os k))) (readings-long v os) (λ k h. readings-at v os k h)
-
-pub wider : {z : ℤ} → SFits w16 z → SFits w32 z
-wider h = record { sfits = omega arith }
-
-pub cast-back : (z : ℤ) → SFits w16 z → toZ w32 (ofZ w32 (toZ w16 (ofZ w16 z))) ≡ z
-cast-back z h = ap (λ (v : ℤ). toZ w32 (ofZ w32 v)) (toZ-ofZ w16 z h) ∙ toZ-ofZ w32 z (wider h)

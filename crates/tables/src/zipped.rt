@@ -2,6 +2,8 @@
 // by side at 2 * j + k * 2n. A `const` array is built anew at each use, so each is handed out by value and lent from there.
 // What kind and direction take is chosen here and nowhere else. Read specs/Term; proofs/zipped has the rule over each table, by one
 // computed test.
+ghost use mathlib.Core.Path.{_≡_};
+ghost use lib.ListN.{length};
 ghost use Rattle.product.specs.Product.{Laid};
 ghost use Rattle.tables.specs.Term.{term};
 
@@ -6948,23 +6950,32 @@ pub fn zipped_16(kind: u32, forward: bool) -> [i16; 256]
     [0; 256]
 }
 
-pub fn zipped_32(kind: u32, forward: bool) -> [i16; 1024]
-    ensures { λ r. ⌜ Laid 32 16 2 64 (λ i j. term forward kind 32 j i) r ⌝ }
+// A number that is no kind weighs nothing. As a constant it is copied; as an array it would be made on the stack first.
+const NONE_32: [i16; 1024] = [0; 1024];
+
+// Written into a lent room: a table of 1,024 that is handed out by value would stand on the stack twice.
+pub fn put_32(kind: u32, forward: bool, u: &mut [i16; 1024])
+    ensures { λ _. ⌜ (length (now (u .exit)) ≡ 1024) × Laid 32 16 2 64 (λ i j. term forward kind 32 j i) (now (u .exit)) ⌝ }
 {
     if kind == 1 {
         if forward {
-            return FORWARD_32;
+            *u = FORWARD_32;
+            return;
         }
-        return INVERSE_32;
+        *u = INVERSE_32;
+        return;
     }
     if kind == 2 {
-        return COSINE_32;
+        *u = COSINE_32;
+        return;
     }
     if kind == 0 {
         if forward {
-            return FORWARD_0_32;
+            *u = FORWARD_0_32;
+            return;
         }
-        return INVERSE_0_32;
+        *u = INVERSE_0_32;
+        return;
     }
-    [0; 1024]
+    *u = NONE_32;
 }

@@ -1,31 +1,26 @@
 -- What the lines ask for, from what a call has passed. Assumes nothing.
 use mathlib.Core.Path.{_≡_, refl, subst}
-use mathlib.Core.Bool.{Bool, true, false, _&&_}
+use mathlib.Core.Bool.{true, _&&_}
 use mathlib.Core.List.{List}
-use Prim.Native.Nat.{ℕ, _<_}
-use native.Mathlib.Omega.{arith}
+use Prim.Native.Nat.{ℕ}
 use borrow.Author.Tests.{ltb-true}
 use lib.Dec.{ltb}
 use lib.IntN.{ℤ}
 use lib.ListN.{length}
 use Rattle.meaning.specs.Shape.{isSize, isKind}
 use Rattle.meaning.specs.Taken.{TakenLine}
-use Rattle.meaning.proofs.Cases.{size-cases, kind-cases}
+use Rattle.meaning.proofs.Cases.{and-cases, size-cases, kind-cases}
 use Rattle.engine.specs.Lines.{Place}
 use Rattle.folding.specs.Lines as Folded
 use Rattle.folding.specs.Lines.{isShared, isSine}
 use Rattle.transform.specs.Line.{isPlace}
 
-both : (a b : Bool) → a && b ≡ true → (a ≡ true) × (b ≡ true)
-both true b e = (refl, e)
-both false b e = absurd (let z : _≡_ {A = ℕ} 0 1 = cc in omega arith)
-
 -- a place of a matrix
 pub place : (kind n i j : ℕ) → isPlace kind n i j ≡ true → Place n i j
 place kind n i j e =
-    let k = both (isKind kind) (isSize n && (ltb i n && ltb j n)) e in
-    let s = both (isSize n) (ltb i n && ltb j n) (k .1) in
-    let r = both (ltb i n) (ltb j n) (s .1) in
+    let k = and-cases (isKind kind) (isSize n && (ltb i n && ltb j n)) e in
+    let s = and-cases (isSize n) (ltb i n && ltb j n) (k .1) in
+    let r = and-cases (ltb i n) (ltb j n) (s .1) in
     record { size = s .0; row = ltb-true i n (r .0); column = ltb-true j n (r .1) }
 
 -- the lines by halves, of kind 0

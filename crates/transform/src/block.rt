@@ -1,9 +1,9 @@
 // Blocks, in both directions.
-use crate::check::acceptance;
 use crate::check::block_refusal;
-use crate::check::refusal;
 use meaning::Answer;
 use meaning::Shape;
+use meaning::acceptance;
+use meaning::refusal;
 ghost use mathlib.Core.Path.{_≡_};
 ghost use Rattle.meaning.specs.Answer.{Outcome};
 ghost use Rattle.meaning.specs.Forward.{forwardOutcome};

@@ -1,13 +1,13 @@
 // Lines: the weights one by one, and lines of 4, 8, 16 and 32 points. `forward` and `inverse` go the fast path,
 // `forward_product` and `inverse_product` the full product; the two of a direction have one contract.
-use crate::check::acceptance;
-use crate::check::line_refusal;
-use crate::check::refusal;
 use engine::entry;
 use engine::full;
 use meaning::Answer;
+use meaning::acceptance;
 use meaning::is_kind;
 use meaning::is_size;
+use meaning::line_refusal;
+use meaning::refusal;
 ghost use mathlib.Core.Path.{_≡_};
 ghost use mathlib.Core.Bool.{true, false};
 ghost use lib.ListN.{length};

@@ -1,25 +1,21 @@
 -- The line over the stored weights of its size: what feeding asks for, and that its sums are the line's. Assumes nothing.
 use mathlib.Core.Path.{_≡_, sym, ap, _∙_, subst}
-use mathlib.Core.Bool.{Bool, true, false}
+use mathlib.Core.Bool.{Bool}
 use mathlib.Core.List.{List}
 use Prim.Native.Nat.{ℕ, _*_, _≤_, _<_}
 use native.Mathlib.Omega.{arith}
 use lib.ListN.{length}
-use lib.IntN.{ℤ, natAbs, _*ℤ_}
+use lib.IntN.{ℤ, _*ℤ_}
 use Rattle.algebra.specs.Sum.{sum}
 use Rattle.algebra.specs.Lists.{at, tabulate}
 use Rattle.algebra.proofs.Sum.{sum-cong}
 use Rattle.algebra.proofs.Lists.{tab-cong}
-use Rattle.meaning.proofs.Sizes.{weightSize}
 use Rattle.product.specs.Product.{Laid}
 use Rattle.tables.specs.Term.{term}
+use Rattle.tables.proofs.Terms.{laid-size}
 use Rattle.wrapping.specs.Order.{Order}
 use Rattle.wrapping.specs.Feed.{productAt, Feed}
 use Rattle.wrapping.specs.Outcome.{sums}
-
-small : (forward : Bool) (kind n j i : ℕ) → natAbs (term forward kind n j i) ≤ 90
-small true kind n j i = weightSize kind n j i
-small false kind n j i = weightSize kind n i j
 
 -- m is the literal size of a branch, n the caller's number of that size
 module _ {n m : ℕ} (q : n ≡ m) (pairs : ℕ) (two : 2 * pairs ≡ m) (few : m ≤ 32) (kind : ℕ) (forward : Bool) {t : List ℤ}
@@ -30,7 +26,7 @@ module _ {n m : ℕ} (q : n ≡ m) (pairs : ℕ) (two : 2 * pairs ≡ m) (few : 
       record {
         few = omega arith;
         held = λ i j h g. z .held i j (omega arith) (omega arith);
-        light = λ i j h g. subst (λ (v : ℤ). natAbs v ≤ 90) (sym (z .right i j (omega arith) (omega arith))) (small forward kind m j i);
+        light = λ i j h g. laid-size forward kind z i j (omega arith) (omega arith);
         each = subst (λ (k : ℕ). Order k order) (sym l) o;
       }
 

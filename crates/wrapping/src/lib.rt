@@ -8,8 +8,9 @@ mod word;
 use crate::places::is_order;
 use crate::running::line;
 use meaning::Answer;
-use meaning::is_kind;
-use meaning::is_size;
+use meaning::acceptance;
+use meaning::line_refusal;
+use meaning::refusal;
 ghost use mathlib.Core.Path.{_≡_};
 ghost use Rattle.algebra.specs.Lists.{at};
 ghost use Rattle.algebra.specs.Refusals.{numberOf};
@@ -17,20 +18,12 @@ ghost use Rattle.meaning.specs.Answer.{Outcome};
 ghost use Rattle.wrapping.specs.Outcome.{sums, wrappedTests, wrappedOutcome, forwardWrapped, inverseWrapped};
 
 // 1, 3, 6, 7 and 21, or 0.
-fn refusal(n: u32, kind: u32, input: usize, output: usize, order: &[u32]) -> u32
+fn wrapped_refusal(n: u32, kind: u32, input: usize, output: usize, order: &[u32]) -> u32
     ensures { λ r. ⌜ r ≡ numberOf (wrappedTests n kind input output (now (order .entry))) ⌝ }
 {
-    if !is_size(n) {
-        return 1;
-    }
-    if !is_kind(kind) {
-        return 3;
-    }
-    if input != n as usize {
-        return 6;
-    }
-    if output != n as usize {
-        return 7;
+    let number = line_refusal(n, kind, input, output);
+    if number != 0 {
+        return number;
     }
     if !is_order(order, n as usize) {
         return 21;
@@ -50,20 +43,12 @@ fn total(
 ) -> Answer
     ensures { λ r. ⌜ _≡_ {A = Outcome} (r, now (y .exit)) (wrappedOutcome n kind (now (order .entry)) (now (x .entry)) (now (y .entry)) (sums forward kind n (at (now (x .entry))))) ⌝ }
 {
-    let number = refusal(n, kind, x.len(), y.len(), order);
+    let number = wrapped_refusal(n, kind, x.len(), y.len(), order);
     if number != 0 {
-        return Answer {
-            number,
-            place: 0,
-            rails: 0,
-        };
+        return refusal(number, 0);
     }
     line(n as usize, kind, forward, start, order, x, y);
-    Answer {
-        number: 0,
-        place: 0,
-        rails: 0,
-    }
+    acceptance(0)
 }
 
 /// The forward line, its products fed in the order given to an adder that holds `start` and wraps.

@@ -2,10 +2,10 @@
 // other. One table is taken for a line and lent from there.
 use crate::word::product;
 use crate::word::signed;
+use tables::zipped::put_32;
 use tables::zipped::zipped_4;
 use tables::zipped::zipped_8;
 use tables::zipped::zipped_16;
-use tables::zipped::zipped_32;
 ghost use mathlib.Core.Path.{_≡_};
 ghost use Prim.Native.Nat.{_+_, _*_, _<_, _≤_};
 ghost use lib.IntN.{natAbs};
@@ -76,7 +76,8 @@ pub fn line(n: usize, kind: u32, forward: bool, start: u32, order: &[u32], x: &[
         let t = zipped_16(kind, forward);
         line_of(&t, 32, start, order, x, y);
     } else {
-        let t = zipped_32(kind, forward);
+        let mut t = [0i16; 1024];
+        put_32(kind, forward, &mut t);
         line_of(&t, 64, start, order, x, y);
     }
 }

@@ -106,16 +106,21 @@ fn clipped(m: i64) -> i64 {
     m.clamp(RAILS[0], RAILS[1])
 }
 
-/// The h middle values of each kept column before the clip: "Each kept column goes through the vertical
-/// line over its kept rows, giving h sums e."
-pub fn unclipped(shape: &Shape, coefficients: &[i64]) -> Vec<Vec<i64>> {
+/// "Each kept column goes through the vertical line over its kept rows, giving h sums e."
+pub fn column_sums(shape: &Shape, coefficients: &[i64]) -> Vec<Vec<i64>> {
     let column = |x: i64| {
         let kept = (0..shape.rows).map(|y| coefficients[(x + y * shape.width) as usize]);
         let kept: Vec<i64> = kept.collect();
-        let sums = inverse_sums(shape.vertical, shape.height as usize, &kept);
-        sums.into_iter().map(rounded).collect()
+        inverse_sums(shape.vertical, shape.height as usize, &kept)
     };
     (0..shape.columns).map(column).collect()
+}
+
+/// The h middle values of each kept column before the clip.
+pub fn unclipped(shape: &Shape, coefficients: &[i64]) -> Vec<Vec<i64>> {
+    let column = |sums: Vec<i64>| sums.into_iter().map(rounded).collect();
+    let columns = column_sums(shape, coefficients).into_iter();
+    columns.map(column).collect()
 }
 
 /// "how many middle values of kept columns, over all h rows": document 02, Wish 2, "only where the clip altered it".

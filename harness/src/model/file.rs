@@ -114,6 +114,48 @@ impl Cursor {
     }
 }
 
+/// A block that is named by its count among the data fields, the first being 1.
+#[derive(Clone, Debug, PartialEq, Eq)]
+pub enum Picked {
+    /// The reader stopped before it, with this number at this offset.
+    Refused(i64, usize),
+    /// The file has fewer.
+    Missing,
+    Block {
+        tag: u8,
+        at: usize,
+        shape: Shape,
+        numbers: Vec<i64>,
+    },
+}
+
+/// "A support engineer names a block": field by field, up to the one that is meant.
+pub fn picked(file: &[u8], n: usize) -> Picked {
+    let (mut cursor, mut met) = (Cursor::new(), 0);
+    loop {
+        let step = cursor.step(file);
+        if step.number != 0 {
+            return Picked::Refused(step.number, cursor.at);
+        }
+        if step.body.is_empty() {
+            return Picked::Missing;
+        }
+        let tag = file[cursor.at];
+        if [TAG_COEFFICIENTS, TAG_RESIDUALS].contains(&tag) {
+            met += 1;
+            if met == n {
+                return Picked::Block {
+                    tag,
+                    at: cursor.at,
+                    shape: cursor.shape.expect("data follows a shape"),
+                    numbers: numbers_of(step.body),
+                };
+            }
+        }
+        cursor = step.next;
+    }
+}
+
 impl Default for Cursor {
     fn default() -> Cursor {
         Cursor::new()

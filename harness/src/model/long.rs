@@ -20,6 +20,13 @@ pub fn ends(extended: bool, depth: i64) -> [i64; 2] {
     [-end, end - 1]
 }
 
+/// 27: "a coefficient outside the range"; place of the first.
+pub fn first_beyond(shape: &Shape, extended: bool, coefficients: &[i64]) -> Option<usize> {
+    let [low, high] = ends(extended, shape.depth);
+    let beyond = |z: &i64| !(low..=high).contains(z);
+    coefficients.iter().position(beyond)
+}
+
 /// The inverse of a block of long coefficients.
 pub fn inverse_long(
     shape: &Shape,
@@ -55,11 +62,7 @@ fn refusal(shape: &Shape, extended: bool, c: &[i64], output: usize) -> Option<An
         ])
     };
     let outside = || first_outside(shape, c).map(|place| Answer::refused(8, place as i64));
-    let beyond = || {
-        let [low, high] = ends(extended, shape.depth);
-        let place = c.iter().position(|z| !(low..=high).contains(z))?;
-        Some(Answer::refused(27, place as i64))
-    };
+    let beyond = || first_beyond(shape, extended, c).map(|place| Answer::refused(27, place as i64));
     shape
         .refusal_to(if extended { 16 } else { 12 })
         .or_else(lengths)

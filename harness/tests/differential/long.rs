@@ -4,13 +4,14 @@
 use crate::calls::{area, SIZES};
 use hoengtila_harness::call::{most_kept, Call, What};
 use hoengtila_harness::library::Shape;
-use hoengtila_harness::long_call::{LongCall, LongComparison};
+use hoengtila_harness::long_call::LongCall;
 use hoengtila_harness::model::long::ends;
 use hoengtila_harness::patterns::{
     block, clear_outside, is_kept, keeping_any, LAYOUTS, SIXTEEN_BITS,
 };
 use hoengtila_harness::random::Random;
-use hoengtila_harness::wrong::{Wrong, NO_KIND, NO_SIZE};
+use hoengtila_harness::tally::Tally;
+use hoengtila_harness::wrong::{asked, Wrong};
 
 /// The switch as a caller may write it, and its deepest depth.
 const SWITCHES: [(u32, u32); 4] = [(0, 12), (1, 16), (2, 16), (u32::MAX, 16)];
@@ -48,7 +49,8 @@ fn shapes(random: &mut Random, deepest: u32) -> Vec<Shape> {
 
 #[test]
 fn long_blocks() {
-    let mut c = LongComparison::open("blocks of long numbers");
+    let mut c = Tally::open("blocks of long numbers");
+    let mut rails = 0;
     for (extended, deepest) in SWITCHES {
         for (k, shape) in shapes(&mut c.random, deepest).iter().enumerate() {
             let layout = LAYOUTS[k % LAYOUTS.len()];
@@ -56,19 +58,19 @@ fn long_blocks() {
                 let mut input = block(&mut c.random, layout, shape, ends);
                 clear_outside(shape, &mut input);
                 let call = long_call(&mut c.random, *shape, extended, &input, area(shape));
-                c.outcome(&call);
+                rails += c.outcome(&call).answer.rails;
             }
         }
     }
-    assert!(c.rails > 1000);
+    assert!(rails > 1000);
     c.close(&[0]);
 }
 
 /// One column whose first two coefficients bring middle values to an end of the range, next to it and past it.
 #[test]
 fn long_blocks_about_the_ends() {
-    let mut c = LongComparison::open("blocks of long numbers about the ends of the range");
-    let mut unaltered = 0;
+    let mut c = Tally::open("blocks of long numbers about the ends of the range");
+    let (mut rails, mut unaltered) = (0, 0);
     for round in 0..6000 {
         let (extended, deepest) = SWITCHES[round % 2];
         let depth = 8 + c.random.below((deepest - 7) as usize) as u32;
@@ -81,16 +83,18 @@ fn long_blocks_about_the_ends() {
         let near = (high - high * 74 / 128) * 128 / c.random.choose(&[29, 55, 74, 84]);
         input[x + 8] = c.random.choose(&[-1, 1]) * (near + c.random.between(-4, 4)).clamp(0, high);
         let call = long_call(&mut c.random, shape, extended, &input, 16);
-        unaltered += usize::from(c.outcome(&call).answer.rails == 0);
+        let altered = c.outcome(&call).answer.rails;
+        rails += altered;
+        unaltered += usize::from(altered == 0);
     }
-    assert!(c.rails > 100 && unaltered > 100);
+    assert!(rails > 100 && unaltered > 100);
     c.close(&[0]);
 }
 
 /// "With the switch off", numbers of 16 bits give what the other inverse gives.
 #[test]
 fn long_blocks_with_the_switch_off() {
-    let mut c = LongComparison::open("blocks of long numbers, beside the other inverse");
+    let mut c = Tally::open("blocks of long numbers, beside the other inverse");
     for (k, shape) in shapes(&mut c.random, 12).iter().enumerate() {
         let layout = LAYOUTS[k % LAYOUTS.len()];
         let mut input = block(&mut c.random, layout, shape, SIXTEEN_BITS);
@@ -98,13 +102,13 @@ fn long_blocks_with_the_switch_off() {
             clear_outside(shape, &mut input);
         }
         let call = long_call(&mut c.random, *shape, 0, &input, area(shape));
-        let other = c.other(&Call {
+        let other = Call {
             what: What::Inverse(*shape),
             order: vec![],
             input: input.iter().map(|z| *z as i16).collect(),
             held: call.held.clone(),
-        });
-        assert_eq!(c.outcome(&call), other);
+        };
+        assert_eq!(vec![c.outcome(&call)], c.others(&[other]));
     }
     c.close(&[0, 8]);
 }
@@ -112,7 +116,7 @@ fn long_blocks_with_the_switch_off() {
 /// Every set of the tests that a block of long numbers can meet.
 #[test]
 fn refused_long_blocks() {
-    let mut c = LongComparison::open("blocks of long numbers, refused for every set of reasons");
+    let mut c = Tally::open("blocks of long numbers, refused for every set of reasons");
     for (bits, switch) in (0..1024).flat_map(|bits| SWITCHES.map(|switch| (bits, switch))) {
         let wrong = Wrong::among(&[1, 2, 3, 4, 5, 20, 6, 7, 8, 9], bits);
         let call = call_with(&mut c.random, switch, &wrong);
@@ -123,67 +127,24 @@ fn refused_long_blocks() {
 
 /// The last test, 9 of the other table, is 27 here.
 fn call_with(random: &mut Random, (extended, deepest): (u32, u32), wrong: &Wrong) -> LongCall {
-    let sizes = SIZES.map(i64::from);
-    let deepest = i64::from(deepest);
-    let depths: Vec<i64> = (8..=deepest).collect();
-    let numbers = [
-        wrong.pick(random, 1, &sizes, &NO_SIZE),
-        wrong.pick(random, 2, &sizes, &NO_SIZE),
-        wrong.pick(random, 3, &[0, 1, 2], &NO_KIND),
-        wrong.pick(random, 4, &[0, 1, 2], &NO_KIND),
-        wrong.pick(
-            random,
-            5,
-            &depths,
-            &[0, 7, deepest + 1, 17, 255, 4_294_967_295],
-        ),
-    ];
-    let most = most_kept(numbers.map(|n| n as u32));
-    let kept = wrong.kept(random, [most.columns.into(), most.rows.into()]);
-    let shape = most.keeping(kept[0] as u32, kept[1] as u32);
-    let right = match u64::from(shape.width) * u64::from(shape.height) {
-        area @ 1..=2048 => area as i64,
-        _ => 16,
-    };
-    let input = wrong.length(random, 6, right);
+    let sides = wrong.sides(random);
+    let shape = wrong.shape(random, sides, deepest);
+    let right = asked(&shape);
     let output = wrong.length(random, 7, right);
-    let mut numbers = random.numbers(input, -255, 255);
+    let mut numbers = wrong.coefficients(random, &shape, &[1, -1, i32::MIN.into()]);
     if shape.width > 0 {
-        clear_outside(&shape, &mut numbers);
-        let outside = |place: &usize| !is_kept(&shape, *place);
-        spoil(
-            random,
-            &mut numbers,
-            wrong.applies[8],
-            outside,
-            &[1, -1, i64::from(i32::MIN)],
-        );
         let [low, high] = ends_of(&shape, extended);
         let beyond = [low - 1, high + 1, i32::MIN.into(), i32::MAX.into()];
         let inside = |place: &usize| is_kept(&shape, *place);
-        spoil(random, &mut numbers, wrong.applies[9], inside, &beyond);
+        wrong.spoil(random, 9, &mut numbers, inside, &beyond);
     }
     long_call(random, shape, extended, &numbers, output)
-}
-
-/// Some of these numbers at such places, where there are any.
-fn spoil(
-    random: &mut Random,
-    numbers: &mut [i64],
-    applies: bool,
-    fit: impl Fn(&usize) -> bool,
-    bad: &[i64],
-) {
-    let places: Vec<usize> = (0..numbers.len()).filter(fit).collect();
-    for _ in 0..if applies { places.len().min(3) } else { 0 } {
-        numbers[random.choose(&places)] = random.choose(bad);
-    }
 }
 
 /// Each place once with the least number that is beyond the range, at either end.
 #[test]
 fn one_number_beyond_the_range_at_each_place() {
-    let mut c = LongComparison::open("blocks of long numbers, one of them beyond the range");
+    let mut c = Tally::open("blocks of long numbers, one of them beyond the range");
     for (extended, deepest) in &SWITCHES[..2] {
         for shape in shapes(&mut c.random, *deepest).iter().step_by(7) {
             let [low, high] = ends_of(shape, *extended);

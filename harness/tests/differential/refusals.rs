@@ -2,12 +2,11 @@
 
 use crate::calls::Direction::{self, Forward, Inverse};
 use crate::calls::{area, block_call, line_call, shapes_in_turn, DIRECTIONS, KINDS, SIZES};
-use hoengtila_harness::call::{most_kept, Call, PATHS};
+use hoengtila_harness::call::{Call, PATHS};
 use hoengtila_harness::compare::Comparison;
-use hoengtila_harness::library::Shape;
 use hoengtila_harness::patterns::{block, clear_outside, is_kept, LAYOUTS};
 use hoengtila_harness::random::Random;
-use hoengtila_harness::wrong::{Wrong, NO_DEPTH, NO_KIND, NO_SIZE, ORDER};
+use hoengtila_harness::wrong::{asked, Wrong, NO_KIND, NO_SIZE, ORDER};
 
 /// Every set of the tests that a line can meet.
 #[test]
@@ -47,41 +46,25 @@ fn refused_blocks() {
 }
 
 fn call_with(random: &mut Random, direction: Direction, wrong: &Wrong) -> Call {
-    let sizes = SIZES.map(i64::from);
-    let numbers = [
-        wrong.pick(random, 1, &sizes, &NO_SIZE),
-        wrong.pick(random, 2, &sizes, &NO_SIZE),
-        wrong.pick(random, 3, &[0, 1, 2], &NO_KIND),
-        wrong.pick(random, 4, &[0, 1, 2], &NO_KIND),
-        wrong.pick(random, 5, &[8, 9, 10, 11, 12], &NO_DEPTH),
-    ];
-    let most = most_kept(numbers.map(|n| n as u32));
-    let kept = wrong.kept(random, [most.columns.into(), most.rows.into()]);
-    let shape = most.keeping(kept[0] as u32, kept[1] as u32);
-    // a length that the sides ask for, where the peer has room for twice as many numbers
-    let right = match u64::from(shape.width) * u64::from(shape.height) {
-        area @ 1..=2048 => area as i64,
-        _ => 16,
-    };
+    let sides = wrong.sides(random);
+    let shape = wrong.shape(random, sides, 12);
+    let right = asked(&shape);
     let input = wrong.length(random, 6, right);
     let output = wrong.length(random, 7, right);
     let mut numbers = random.numbers(input, -255, 255);
     if direction == Inverse && shape.width > 0 {
         clear_outside(&shape, &mut numbers);
     }
-    if wrong.applies[direction.hunt()] && shape.width > 0 {
-        spoil(random, direction, &shape, &mut numbers);
-    }
+    let bad = |place: &usize| direction == Forward || shape.width > 0 && !is_kept(&shape, *place);
+    let hunt = direction.hunt();
+    wrong.spoil(
+        random,
+        hunt,
+        &mut numbers,
+        bad,
+        &[-32768, 32767, -4096, 4096],
+    );
     block_call(random, direction, shape, &numbers, output)
-}
-
-/// Some numbers that the hunt stops at, where the shape has places for them.
-fn spoil(random: &mut Random, direction: Direction, shape: &Shape, numbers: &mut [i64]) {
-    let bad = |place: &usize| direction == Forward || !is_kept(shape, *place);
-    let places: Vec<usize> = (0..numbers.len()).filter(bad).collect();
-    for _ in 0..places.len().min(3) {
-        numbers[random.choose(&places)] = random.choose(&[-32768, 32767, -4096, 4096]);
-    }
 }
 
 /// Each place once as the only bad one, with the smallest numbers that are bad.

@@ -5,51 +5,28 @@ use hoengtila_harness::call::{most_kept, shape_numbers, Call, What};
 use hoengtila_harness::library::{Answer, Shape};
 use hoengtila_harness::model;
 use hoengtila_harness::patterns::{clear_outside, keeping_any};
-use hoengtila_harness::random::{seed, Random, SEED_VARIABLE};
+use hoengtila_harness::random::Random;
 use hoengtila_harness::row_call::{RowCall, RowOutcome};
-use hoengtila_harness::subject::Subject;
+use hoengtila_harness::tally::Tally;
 use hoengtila_harness::wrong::{NO_DEPTH, NO_KIND, NO_SIZE};
 use std::collections::BTreeMap;
-use std::time::Instant;
 
-/// What one test compares, with the count of it.
+/// What one test compares, and how often a block was handed back each number.
 struct Rows {
-    random: Random,
-    subject: Subject,
-    title: &'static str,
-    calls: usize,
-    numbers: usize,
-    /// how often each number was handed back, of the whole call and of a block
-    met: BTreeMap<u32, usize>,
+    tally: Tally,
     met_of_blocks: BTreeMap<u32, usize>,
-    started: Instant,
 }
 
 impl Rows {
     fn open(title: &'static str) -> Rows {
         Rows {
-            random: Random::new(seed()),
-            subject: Subject::open().expect("no library is linked and no peer is named"),
-            title,
-            calls: 0,
-            numbers: 0,
-            met: BTreeMap::new(),
+            tally: Tally::open(title),
             met_of_blocks: BTreeMap::new(),
-            started: Instant::now(),
         }
     }
 
     fn compare(&mut self, call: &RowCall) -> RowOutcome {
-        let (wanted, found) = (call.by_model(), self.subject.run_row(call));
-        assert!(
-            wanted == found,
-            "{}: {call:?}: {found:?} and not {wanted:?}\n{SEED_VARIABLE}={}",
-            self.title,
-            seed()
-        );
-        self.calls += 1;
-        self.numbers += found.output.len();
-        *self.met.entry(found.number).or_default() += 1;
+        let found = self.tally.outcome(call);
         if found.number == 0 {
             for answer in &found.answers[..call.shapes.len()] {
                 *self.met_of_blocks.entry(answer.number).or_default() += 1;
@@ -72,7 +49,7 @@ impl Rows {
             }
         };
         let calls: Vec<Call> = call.shapes.iter().map(&mut single).collect();
-        let outcomes = self.subject.run(&calls);
+        let outcomes = self.tally.others(&calls);
         let answers: Vec<Answer> = outcomes.iter().map(|o| o.answer).collect();
         assert_eq!(answers, found.answers[..calls.len()]);
         let outputs: Vec<i32> = outcomes.into_iter().flat_map(|o| o.output).collect();
@@ -81,16 +58,7 @@ impl Rows {
 
     /// Says how much there was, and that each of these numbers was met.
     fn close(self, numbers: &[u32], of_blocks: &[u32]) {
-        eprintln!(
-            "compared: {}: {} numbers in {} calls, {:.1} s ({}, {SEED_VARIABLE}={})",
-            self.title,
-            self.numbers,
-            self.calls,
-            self.started.elapsed().as_secs_f64(),
-            self.subject.name(),
-            seed()
-        );
-        assert_eq!(self.met.into_keys().collect::<Vec<_>>(), numbers);
+        self.tally.close(numbers);
         assert_eq!(
             self.met_of_blocks.into_keys().collect::<Vec<_>>(),
             of_blocks
@@ -185,8 +153,10 @@ fn row(random: &mut Random, shapes: Vec<Shape>) -> RowCall {
 fn good_rows() {
     let mut c = Rows::open("rows of blocks that are accepted");
     for (count, most) in (0..=64).flat_map(|count| [(count, 8), (count, 32)]) {
-        let shapes = (0..count).map(|_| good(&mut c.random, most)).collect();
-        let call = row(&mut c.random, shapes);
+        let shapes = (0..count)
+            .map(|_| good(&mut c.tally.random, most))
+            .collect();
+        let call = row(&mut c.tally.random, shapes);
         let found = c.compare(&call);
         c.compare_with_single_calls(&call, &found);
     }
@@ -194,7 +164,7 @@ fn good_rows() {
         .into_iter()
         .find(|s| s.width == 32 && s.height == 32);
     let call = row(
-        &mut c.random,
+        &mut c.tally.random,
         vec![largest.expect("32 by 32 is a shape"); 64],
     );
     c.compare(&call);
@@ -207,9 +177,9 @@ fn good_rows() {
 fn refused_blocks_among_good_ones() {
     let mut c = Rows::open("rows with blocks that are refused");
     for _ in 0..400 {
-        let count = c.random.between(1, 64) as usize;
-        let often = c.random.choose(&[1, 2, 8]);
-        let random = &mut c.random;
+        let count = c.tally.random.between(1, 64) as usize;
+        let often = c.tally.random.choose(&[1, 2, 8]);
+        let random = &mut c.tally.random;
         let mut some = || {
             let most = random.choose(&SIZES);
             let shape = good(random, most);
@@ -219,11 +189,11 @@ fn refused_blocks_among_good_ones() {
             }
         };
         let shapes: Vec<Shape> = (0..count).map(|_| some()).collect();
-        let mut call = row(&mut c.random, shapes);
+        let mut call = row(&mut c.tally.random, shapes);
         // 8: numbers anywhere, some of them outside a kept part
-        for _ in 0..c.random.below(4).min(call.input.len()) {
-            let place = c.random.below(call.input.len());
-            call.input[place] = c.random.choose(&[1, -1, 32767, -32768]);
+        for _ in 0..c.tally.random.below(4).min(call.input.len()) {
+            let place = c.tally.random.below(call.input.len());
+            call.input[place] = c.tally.random.choose(&[1, -1, 32767, -32768]);
         }
         let found = c.compare(&call);
         c.compare_with_single_calls(&call, &found);
@@ -236,7 +206,7 @@ fn refused_blocks_among_good_ones() {
 fn wrong_sums() {
     let mut c = Rows::open("rows with buffers of other lengths");
     for _ in 0..4000 {
-        let random = &mut c.random;
+        let random = &mut c.tally.random;
         let count = random.choose(&[0, 1, 2, 3, 7]);
         let mut any = || {
             let shape = good(random, 8);
@@ -282,11 +252,11 @@ fn too_many_blocks() {
     let mut c = Rows::open("rows of 64 blocks and more");
     for count in [63, 64, 65, 66, 100, 126] {
         for (input, output) in [(0, 0), (1, 0), (0, 1), (1, 1)] {
-            let shapes: Vec<Shape> = (0..count).map(|_| good(&mut c.random, 4)).collect();
+            let shapes: Vec<Shape> = (0..count).map(|_| good(&mut c.tally.random, 4)).collect();
             let right = sum(&shapes);
-            let numbers = c.random.numbers(right + input, -300, 300);
+            let numbers = c.tally.random.numbers(right + input, -300, 300);
             let numbers = numbers.iter().map(|z| *z as i16).collect();
-            let call = row_of(&mut c.random, shapes, numbers, right + output);
+            let call = row_of(&mut c.tally.random, shapes, numbers, right + output);
             c.compare(&call);
         }
     }

@@ -3,8 +3,9 @@
 use hoengtila_harness::model;
 use hoengtila_harness::model::steps::StepList;
 use hoengtila_harness::random::Random;
-use hoengtila_harness::step_call::{StepCall, StepComparison};
+use hoengtila_harness::step_call::StepCall;
 use hoengtila_harness::steps::{make, LISTED};
+use hoengtila_harness::tally::Tally;
 
 const SHORT: [i64; 2] = [-32768, 32767];
 
@@ -50,14 +51,14 @@ fn run_of(list: &StepList, x: Vec<i16>, held: Vec<i32>) -> StepCall {
 /// steps than document 02 allows.
 #[test]
 fn stored_lists_run() {
-    let mut c = StepComparison::open("lists of steps, runs of the three that are stored");
+    let mut c = Tally::open("lists of steps, runs of the three that are stored");
     for ((n, ..), most) in LISTED.iter().zip([8, 127, 620]) {
         let list = make(*n);
         assert!(list.multiplying() <= most && list.steps.len() <= 2048 && list.cells <= 2048);
         for x in inputs(&mut c.random, *n) {
             let before = held(&mut c.random, *n);
-            let run = c.outcome(run_of(&list, x.clone(), before.clone()));
-            let line = c.outcome(StepCall::Forward {
+            let run = c.outcome(&run_of(&list, x.clone(), before.clone()));
+            let line = c.outcome(&StepCall::Forward {
                 n: *n as u32,
                 x,
                 held: before,
@@ -72,7 +73,7 @@ fn stored_lists_run() {
 /// The lists as they are handed out, into buffers of every near length; and lines of lengths that they refuse.
 #[test]
 fn stored_lists_handed_out() {
-    let mut c = StepComparison::open("lists of steps, handed out and refused");
+    let mut c = Tally::open("lists of steps, handed out and refused");
     let points = (0..=40).chain([64, 1 << 16, u32::MAX]);
     for n in points {
         let (steps, outs) = match LISTED.iter().find(|l| l.0 == n as usize) {
@@ -82,13 +83,13 @@ fn stored_lists_handed_out() {
         let near = [(0, 0), (1, 0), (0, 1), (1, 1), (2, 1), (1, 2)];
         for (steps, outs) in near.map(|(a, b)| (steps + a - 1, outs + b - 1)) {
             let (steps, outs) = (held(&mut c.random, steps), held(&mut c.random, outs));
-            c.outcome(StepCall::List { n, steps, outs });
+            c.outcome(&StepCall::List { n, steps, outs });
         }
         for (input, output) in [(0, 0), (1, 1), (2, 1), (1, 2), (0, 1)] {
             let long = |more: usize| (n.min(100) as usize + more).saturating_sub(1);
             let x = shorts(&mut c.random, long(input));
             let held = held(&mut c.random, long(output));
-            c.outcome(StepCall::Forward { n, x, held });
+            c.outcome(&StepCall::Forward { n, x, held });
         }
     }
     c.close(&[0, 1, 6, 7]);
@@ -166,10 +167,10 @@ fn constant(random: &mut Random) -> i32 {
 
 #[test]
 fn any_list() {
-    let mut c = StepComparison::open("lists of steps, any that reads what it wrote");
+    let mut c = Tally::open("lists of steps, any that reads what it wrote");
     for _ in 0..6000 {
         let call = Numbers::of(&mut c.random).call(&mut c.random);
-        c.outcome(call);
+        c.outcome(&call);
     }
     c.close(&[0, 29]);
 }
@@ -177,7 +178,7 @@ fn any_list() {
 /// Lists with some numbers changed: cells that are none or not written, operations that are none, other lengths.
 #[test]
 fn spoiled_lists() {
-    let mut c = StepComparison::open("lists of steps, spoiled");
+    let mut c = Tally::open("lists of steps, spoiled");
     for _ in 0..12000 {
         let random = &mut c.random;
         let mut list = Numbers::of(random);
@@ -223,7 +224,7 @@ fn spoiled_lists() {
                 held.push(1);
             }
         }
-        c.outcome(call);
+        c.outcome(&call);
     }
     c.close(&[0, 6, 7, 17, 28, 29]);
 }
@@ -231,7 +232,7 @@ fn spoiled_lists() {
 /// 18 before everything else: one step or cell too many, a part of a step, and every other reason beside it.
 #[test]
 fn too_long() {
-    let mut c = StepComparison::open("lists of steps, at 2,048 steps and cells");
+    let mut c = Tally::open("lists of steps, at 2,048 steps and cells");
     for numbers in [8188, 8191, 8192, 8193, 8195, 8196, 8199, 8200] {
         for cells in [4, 2047, 2048, 2049, 4096, u32::MAX] {
             for (inputs, x, outs, y) in [(4, 4, 4, 4), (4, 3, 4, 4), (4, 4, 4, 5), (5, 5, 4, 4)] {
@@ -250,7 +251,7 @@ fn too_long() {
                     x,
                     held,
                 };
-                c.outcome(call);
+                c.outcome(&call);
             }
         }
     }

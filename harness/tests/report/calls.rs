@@ -22,7 +22,11 @@ fn by_model(totals: &Totals, block: &Block) -> Outcome {
     let [w, h, k, l, d, columns, rows] = block.shape.map(i64::from);
     let residuals: Vec<i64> = block.residuals.iter().map(|&z| z.into()).collect();
     let mut then = *totals;
-    let answer = add(&mut then, &Shape::new(w, h, k, l, d).keeping(columns, rows), &residuals);
+    let answer = add(
+        &mut then,
+        &Shape::new(w, h, k, l, d).keeping(columns, rows),
+        &residuals,
+    );
     let answer = [answer.number, answer.place, answer.rails].map(|n| n as u32);
     (answer.to_vec(), then)
 }

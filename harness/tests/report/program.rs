@@ -21,7 +21,13 @@ fn group(random: &mut Random) -> Vec<u8> {
     let size = |random: &mut Random| random.choose(&[4, 4, 4, 8, 8, 16, 32]);
     let (w, h): (u8, u8) = (size(random), size(random));
     let depth = random.choose(&[8, 10, 12]);
-    let mut bytes = shape(w, h, random.choose(&[0, 1, 2]), random.choose(&[0, 1, 2]), depth);
+    let mut bytes = shape(
+        w,
+        h,
+        random.choose(&[0, 1, 2]),
+        random.choose(&[0, 1, 2]),
+        depth,
+    );
     let count = usize::from(w) * usize::from(h);
     for _ in 0..random.between(1, 4) {
         let high = random.choose(&[3, 255, 1023, 4095]).min((1 << depth) - 1);

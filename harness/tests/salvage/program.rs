@@ -2,30 +2,11 @@
 
 use crate::files::{damage, strays, whole};
 use hoengtila_harness::model::salvage::saved_of;
+use hoengtila_harness::program::run_on;
 use hoengtila_harness::random::seeded;
-use std::io::Write;
-use std::process::{Command, Stdio};
 
 /// The environment variable that gives the program's command line.
 const VARIABLE: &str = "HOENGTILA_SALVAGE_PROGRAM";
-
-fn found(command_line: &str, file: &[u8]) -> (Vec<u8>, String) {
-    let mut words = command_line.split_whitespace();
-    let mut child = Command::new(words.next().expect("a command line"))
-        .args(words)
-        .stdin(Stdio::piped())
-        .stdout(Stdio::piped())
-        .stderr(Stdio::piped())
-        .spawn()
-        .expect("the program starts");
-    let mut to = child.stdin.take().expect("a pipe");
-    // the program reads all that it takes before it writes
-    let _ = to.write_all(file);
-    drop(to);
-    let output = child.wait_with_output().expect("the program ends");
-    let said = String::from_utf8_lossy(&output.stderr).into_owned();
-    (output.stdout, said)
-}
 
 #[test]
 fn the_program_writes_and_says_what_the_model_does() {
@@ -44,12 +25,15 @@ fn the_program_writes_and_says_what_the_model_does() {
         files.push(file);
     }
     for file in &files {
-        let outcome = found(&command_line, file);
+        let outcome = run_on(&command_line, file, &[]);
         assert_eq!(outcome, saved_of(file), "{file:02x?}");
         lines += outcome.1.lines().count();
     }
     for (file, said) in [(vec![9; 65_537], "R 14 0\n"), (strays(1025), "R 26 0\n")] {
-        assert_eq!(found(&command_line, &file), (vec![], said.to_string()));
+        assert_eq!(
+            run_on(&command_line, &file, &[]),
+            (vec![], said.to_string())
+        );
     }
     println!(
         "salvage: the program writes {} files and says {lines} lines as the model does",

@@ -1,6 +1,6 @@
 -- `entry` meets its contract: each size has its table. Assumes nothing.
 use borrow.Author.Needs.{needs}
-use mathlib.Core.Path.{_≡_, refl, _∙_}
+use mathlib.Core.Path.{_≡_, refl, _∙_, sym}
 use mir.Syntax.{w32}
 use mir.ValLaws.{toZ-ofZ}
 use Rattle.meaning.proofs.Cases.{thirty-two}
@@ -48,17 +48,17 @@ stored-requires-3 c κs = (entry-is (c .before .before .if3 .taken) 8 refl (c .b
 returns-3 : tie.Need-returns-3
 returns-3 c = toZ-ofZ w32 (c .stored3 .result) (search needs) ∙ c .stored3 .ensures ∙ (entry-is (c .before .before .before .if3 .taken) 8 refl (c .before .before .before .before .before .before .args .kind) (c .before .before .zipped-16 .ensures) (c .before .before .before .before .before .before .args .i) (c .before .before .before .before .before .before .args .j) (c .before .before .before .before .before .before .pre)) .1
 
-zipped-32-requires : tie.Need-zipped-32-requires
-zipped-32-requires c κs = search needs
+put-32-requires : tie.Need-put-32-requires
+put-32-requires c κs = search needs
 
 slice-aggregate-stored-4 : tie.Need-slice-aggregate-stored-4
-slice-aggregate-stored-4 c = search needs
+slice-aggregate-stored-4 c = sym (c .before .put-32 .ensures .0)
 
 stored-requires-4 : tie.Need-stored-requires-4
-stored-requires-4 c κs = (entry-is (last (c .before .before .before .before .before) (c .before .before .before .before .if1 .left) (c .before .before .before .if2 .left) (c .before .before .if3 .left)) 16 refl (c .before .before .before .before .before .args .kind) (c .before .zipped-32 .ensures) (c .before .before .before .before .before .args .i) (c .before .before .before .before .before .args .j) (c .before .before .before .before .before .pre)) .0
+stored-requires-4 c κs = (entry-is (last (c .before .before .before .before .before .before) (c .before .before .before .before .before .if1 .left) (c .before .before .before .before .if2 .left) (c .before .before .before .if3 .left)) 16 refl (c .before .before .before .before .before .before .args .kind) (c .before .put-32 .ensures .1) (c .before .before .before .before .before .before .args .i) (c .before .before .before .before .before .before .args .j) (c .before .before .before .before .before .before .pre)) .0
 
 returns-4 : tie.Need-returns-4
-returns-4 c = toZ-ofZ w32 (c .stored4 .result) (search needs) ∙ c .stored4 .ensures ∙ (entry-is (last (c .before .before .before .before .before .before) (c .before .before .before .before .before .if1 .left) (c .before .before .before .before .if2 .left) (c .before .before .before .if3 .left)) 16 refl (c .before .before .before .before .before .before .args .kind) (c .before .before .zipped-32 .ensures) (c .before .before .before .before .before .before .args .i) (c .before .before .before .before .before .before .args .j) (c .before .before .before .before .before .before .pre)) .1
+returns-4 c = toZ-ofZ w32 (c .stored4 .result) (search needs) ∙ c .stored4 .ensures ∙ (entry-is (last (c .before .before .before .before .before .before .before) (c .before .before .before .before .before .before .if1 .left) (c .before .before .before .before .before .if2 .left) (c .before .before .before .before .if3 .left)) 16 refl (c .before .before .before .before .before .before .before .args .kind) (c .before .before .put-32 .ensures .1) (c .before .before .before .before .before .before .before .args .i) (c .before .before .before .before .before .before .before .args .j) (c .before .before .before .before .before .before .before .pre)) .1
 
 pub entry-spec : {M : Type 1} → statement M
 entry-spec =
@@ -76,7 +76,7 @@ entry-spec =
     slice-aggregate-stored-3
     stored-requires-3
     returns-3
-    zipped-32-requires
+    put-32-requires
     slice-aggregate-stored-4
     stored-requires-4
     returns-4)

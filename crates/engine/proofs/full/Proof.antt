@@ -1,7 +1,7 @@
 -- `full` meets its contract: each size has its table. Assumes nothing.
 use native.Mathlib.Omega.{arith}
 use borrow.Author.Needs.{needs}
-use mathlib.Core.Path.{_≡_, refl}
+use mathlib.Core.Path.{_≡_, refl, sym}
 use Rattle.meaning.proofs.Cases.{thirty-two}
 use Rattle.engine.proofs.WholeLine.{whole-given, whole-line}
 use Rattle.engine.proofs.full.Statement.{statement}
@@ -44,16 +44,16 @@ line-requires-3 c κs =
     let S = c .before .before .before .before .before .before in
     (whole-given (c .before .before .before .if3 .taken) 8 refl (omega arith) (S .args .kind) (S .args .forward) (c .before .before .zipped-16 .ensures) (S .args .x .now) (S .args .y .now) (S .pre), record { small = omega arith; short = omega arith })
 
-zipped-32-requires : tie.Need-zipped-32-requires
-zipped-32-requires c κs = search needs
+put-32-requires : tie.Need-put-32-requires
+put-32-requires c κs = search needs
 
 slice-aggregate-line-4 : tie.Need-slice-aggregate-line-4
-slice-aggregate-line-4 c = search needs
+slice-aggregate-line-4 c = sym (c .before .put-32 .ensures .0)
 
 line-requires-4 : tie.Need-line-requires-4
 line-requires-4 c κs =
-    let S = c .before .before .before .before .before .before in
-    (whole-given (last S (c .before .before .before .before .before .if1 .left) (c .before .before .before .before .if2 .left) (c .before .before .before .if3 .left)) 16 refl (omega arith) (S .args .kind) (S .args .forward) (c .before .before .zipped-32 .ensures) (S .args .x .now) (S .args .y .now) (S .pre), record { small = omega arith; short = omega arith })
+    let S = c .before .before .before .before .before .before .before in
+    (whole-given (last S (c .before .before .before .before .before .before .if1 .left) (c .before .before .before .before .before .if2 .left) (c .before .before .before .before .if3 .left)) 16 refl (omega arith) (S .args .kind) (S .args .forward) (c .before .before .put-32 .ensures .1) (S .args .x .now) (S .args .y .now) (S .pre), record { small = omega arith; short = omega arith })
 
 same-length : tie.Need-same-length
 same-length c = search needs
@@ -84,8 +84,8 @@ same-length-4 c = search needs
 
 returns-4 : tie.Need-returns-4
 returns-4 c =
-    let S = c .before .before .before .before .before .before .before .before in
-    whole-line (last S (c .before .before .before .before .before .before .before .if1 .left) (c .before .before .before .before .before .before .if2 .left) (c .before .before .before .before .before .if3 .left)) 16 refl (omega arith) (S .args .kind) (S .args .forward) (c .before .before .before .before .zipped-32 .ensures) (S .args .x .now) (S .args .y .now) (S .pre) _ (c .before .line4 .ensures)
+    let S = c .before .before .before .before .before .before .before .before .before in
+    whole-line (last S (c .before .before .before .before .before .before .before .before .if1 .left) (c .before .before .before .before .before .before .before .if2 .left) (c .before .before .before .before .before .before .if3 .left)) 16 refl (omega arith) (S .args .kind) (S .args .forward) (c .before .before .before .before .put-32 .ensures .1) (S .args .x .now) (S .args .y .now) (S .pre) _ (c .before .line4 .ensures)
 
 pub full-spec : {M : Type 1} → statement M
 full-spec =
@@ -100,7 +100,7 @@ full-spec =
     zipped-16-requires
     slice-aggregate-line-3
     line-requires-3
-    zipped-32-requires
+    put-32-requires
     slice-aggregate-line-4
     line-requires-4
     same-length

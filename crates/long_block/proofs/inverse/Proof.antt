@@ -23,7 +23,7 @@ use Rattle.meaning.proofs.KeptPart.{columns-kept, rows-kept}
 use Rattle.meaning.proofs.Accepted.{block-taken-by}
 use Rattle.meaning.proofs.LongRules.{reach-in}
 use Rattle.layout.proofs.Inside.{kept-part}
-use Rattle.long_block.proofs.LivePart.{live-part}
+use Rattle.long_stages.proofs.LivePart.{live-part}
 use Rattle.long_block.proofs.inverse.Statement.{statement}
 use Rattle.long_block.proofs.inverse.Tie as tie
 

@@ -1,7 +1,6 @@
 -- `is_kept` meets its contract. Assumes nothing.
 use borrow.Author.Needs.{needs}
 use borrow.Author.Tests.{le-leb, lt-leb}
-use Rattle.meaning.specs.Shape.{isKept}
 use Rattle.meaning.proofs.is_kept.Statement.{statement}
 use Rattle.meaning.proofs.is_kept.Tie as tie
 

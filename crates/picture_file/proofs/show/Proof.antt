@@ -20,14 +20,20 @@ cast-bytes c = search needs
 say-refused-requires : tie.Need-say-refused-requires
 say-refused-requires c κs = search needs
 
+slice-aggregate-say : tie.Need-slice-aggregate-say
+slice-aggregate-say c = search needs
+
+say-requires : tie.Need-say-requires
+say-requires c κs = search needs
+
 returns : tie.Need-returns
 returns c = search needs
 
-slice-aggregate-write-all : tie.Need-slice-aggregate-write-all
-slice-aggregate-write-all c = search needs
+slice-aggregate-say-2 : tie.Need-slice-aggregate-say-2
+slice-aggregate-say-2 c = search needs
 
-write-all-requires : tie.Need-write-all-requires
-write-all-requires c κs = search needs
+say-requires-2 : tie.Need-say-requires-2
+say-requires-2 c κs = search needs
 
 returns-2 : tie.Need-returns-2
 returns-2 c = search needs
@@ -38,14 +44,20 @@ returns-3 c = search needs
 array-share-prefix-picture : tie.Need-array-share-prefix-picture
 array-share-prefix-picture c = search needs
 
-slice-aggregate-write-all-2 : tie.Need-slice-aggregate-write-all-2
-slice-aggregate-write-all-2 c = sym (length-take-le _ _ (search needs))
+slice-aggregate-write-all : tie.Need-slice-aggregate-write-all
+slice-aggregate-write-all c = sym (length-take-le _ _ (search needs))
 
-write-all-requires-2 : tie.Need-write-all-requires-2
-write-all-requires-2 c κs = search needs
+write-all-requires : tie.Need-write-all-requires
+write-all-requires c κs = search needs
+
+say-unwritten-requires : tie.Need-say-unwritten-requires
+say-unwritten-requires c κs = search needs
 
 returns-4 : tie.Need-returns-4
 returns-4 c = search needs
+
+returns-5 : tie.Need-returns-5
+returns-5 c = search needs
 
 pub show-spec : {M : Type 1} → statement M
 show-spec =
@@ -56,12 +68,16 @@ show-spec =
     shown-requires
     cast-bytes
     say-refused-requires
+    slice-aggregate-say
+    say-requires
     returns
-    slice-aggregate-write-all
-    write-all-requires
+    slice-aggregate-say-2
+    say-requires-2
     returns-2
     returns-3
     array-share-prefix-picture
-    slice-aggregate-write-all-2
-    write-all-requires-2
-    returns-4)
+    slice-aggregate-write-all
+    write-all-requires
+    say-unwritten-requires
+    returns-4
+    returns-5)

@@ -1,7 +1,6 @@
 -- `take_all` ends. Assumes nothing.
 use Prim.Native.Nat.{_-_}
 use borrow.Author.Needs.{needs}
-use native.Mathlib.Omega.{arith}
 use Rattle.print_report.proofs.take_all.Statement.{statement}
 use Rattle.print_report.proofs.take_all.Tie as tie
 

@@ -28,11 +28,11 @@ arg-requires c κs = search needs
 array-share-prefix-word : tie.Need-array-share-prefix-word Inv-loop μ-loop
 array-share-prefix-word c = search needs
 
-slice-aggregate-print : tie.Need-slice-aggregate-print Inv-loop μ-loop
-slice-aggregate-print c = search needs
+slice-aggregate-print-named : tie.Need-slice-aggregate-print-named Inv-loop μ-loop
+slice-aggregate-print-named c = search needs
 
-print-requires : tie.Need-print-requires Inv-loop μ-loop
-print-requires c κs = search needs
+print-named-requires : tie.Need-print-named-requires Inv-loop μ-loop
+print-named-requires c κs = search needs
 
 add-i : tie.Need-add-i Inv-loop μ-loop
 add-i c = search needs
@@ -58,8 +58,8 @@ main-spec =
     slice-aggregate-arg
     arg-requires
     array-share-prefix-word
-    slice-aggregate-print
-    print-requires
+    slice-aggregate-print-named
+    print-named-requires
     add-i
     loop-less
     loop-again

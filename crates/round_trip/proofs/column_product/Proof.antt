@@ -2,8 +2,7 @@
 use borrow.Author.Needs.{needs}
 use native.Mathlib.Omega.{arith}
 use mathlib.Core.Path.{_≡_, refl, sym, ap, _∙_, subst}
-use mathlib.Core.Bool.{true}
-use Prim.Native.Nat.{ℕ, _+_, _*_, _-_, _<_, _≤_}
+use Prim.Native.Nat.{_+_, _*_, _-_, _≤_}
 use lib.IntN.{ℤ, natAbs, _+ℤ_, _*ℤ_}
 use mir.Syntax.{w32}
 use mir.Val.{toZ, ofZ}
@@ -11,7 +10,6 @@ use mir.ValLaws.{toZ-ofZ}
 use Rattle.algebra.specs.Sum.{sum}
 use Rattle.meaning.specs.Weights.{weight}
 use Rattle.meaning.proofs.Sizes.{weightSize}
-use Rattle.transform.specs.Line.{isPlace}
 use Rattle.round_trip.specs.RoundTrip.{G}
 use Rattle.round_trip.proofs.Bounds.{Place, place, products, products-in, products-next, reads, weight-there}
 use Rattle.round_trip.proofs.column_product.Statement.{statement}

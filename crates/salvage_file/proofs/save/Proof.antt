@@ -32,6 +32,12 @@ mul-numbers c = search needs
 say-refused-requires : tie.Need-say-refused-requires
 say-refused-requires c κs = search needs
 
+slice-aggregate-say : tie.Need-slice-aggregate-say
+slice-aggregate-say c = search needs
+
+say-requires : tie.Need-say-requires
+say-requires c κs = search needs
+
 returns : tie.Need-returns
 returns c = search needs
 
@@ -50,11 +56,8 @@ slice-aggregate-write-all c = sym (length-take-le _ _ (search needs))
 write-all-requires : tie.Need-write-all-requires
 write-all-requires c κs = search needs
 
-slice-aggregate-write-all-2 : tie.Need-slice-aggregate-write-all-2
-slice-aggregate-write-all-2 c = search needs
-
-write-all-requires-2 : tie.Need-write-all-requires-2
-write-all-requires-2 c κs = search needs
+say-unwritten-requires : tie.Need-say-unwritten-requires
+say-unwritten-requires c κs = search needs
 
 returns-4 : tie.Need-returns-4
 returns-4 c = search needs
@@ -84,14 +87,15 @@ save-spec =
     cast-numbers
     mul-numbers
     say-refused-requires
+    slice-aggregate-say
+    say-requires
     returns
     returns-2
     returns-3
     array-share-prefix-out
     slice-aggregate-write-all
     write-all-requires
-    slice-aggregate-write-all-2
-    write-all-requires-2
+    say-unwritten-requires
     returns-4
     array-share-prefix-list
     slice-aggregate-say-dropped

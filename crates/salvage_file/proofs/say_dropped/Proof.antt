@@ -14,23 +14,23 @@ abbrev μ-loop : tie.MeasureT-loop
 loop-holds : tie.Need-loop-holds Inv-loop μ-loop
 loop-holds c = search needs
 
-sub-say : tie.Need-sub-say Inv-loop μ-loop
-sub-say c = search needs
+sub-say-stretch : tie.Need-sub-say-stretch Inv-loop μ-loop
+sub-say-stretch c = search needs
 
-mul-say : tie.Need-mul-say Inv-loop μ-loop
-mul-say c = search needs
+mul-say-stretch : tie.Need-mul-say-stretch Inv-loop μ-loop
+mul-say-stretch c = search needs
 
-shared-slice-read-say : tie.Need-shared-slice-read-say Inv-loop μ-loop
-shared-slice-read-say c = search needs
+shared-slice-read-say-stretch : tie.Need-shared-slice-read-say-stretch Inv-loop μ-loop
+shared-slice-read-say-stretch c = search needs
 
-mul-say-2 : tie.Need-mul-say-2 Inv-loop μ-loop
-mul-say-2 c = search needs
+mul-say-stretch-2 : tie.Need-mul-say-stretch-2 Inv-loop μ-loop
+mul-say-stretch-2 c = search needs
 
-shared-slice-read-say-2 : tie.Need-shared-slice-read-say-2 Inv-loop μ-loop
-shared-slice-read-say-2 c = search needs
+shared-slice-read-say-stretch-2 : tie.Need-shared-slice-read-say-stretch-2 Inv-loop μ-loop
+shared-slice-read-say-stretch-2 c = search needs
 
-say-requires : tie.Need-say-requires Inv-loop μ-loop
-say-requires c κs = search needs
+say-stretch-requires : tie.Need-say-stretch-requires Inv-loop μ-loop
+say-stretch-requires c κs = search needs
 
 add-i : tie.Need-add-i Inv-loop μ-loop
 add-i c = search needs
@@ -51,12 +51,12 @@ say-dropped-spec =
     Inv-loop
     μ-loop
     loop-holds
-    sub-say
-    mul-say
-    shared-slice-read-say
-    mul-say-2
-    shared-slice-read-say-2
-    say-requires
+    sub-say-stretch
+    mul-say-stretch
+    shared-slice-read-say-stretch
+    mul-say-stretch-2
+    shared-slice-read-say-stretch-2
+    say-stretch-requires
     add-i
     loop-less
     loop-again

@@ -1,5 +1,4 @@
 use borrow.Author.Needs.{needs}
-use native.Mathlib.Omega.{arith}
 use Prim.Native.Nat.{_-_}
 use Rattle.strays.proofs.places.Statement.{statement}
 use Rattle.strays.proofs.places.Tie as tie

@@ -1,17 +1,15 @@
 -- `print::modular` is safe: the negative of a number of 32 bits fits 64. Assumes nothing.
 use borrow.Author.Needs.{needs}
 use native.Mathlib.Omega.{arith}
-use borrow.Author.Tests.{ltb-true}
 use mathlib.Core.Path.{_≡_, refl, sym, ap, _∙_, subst}
-use mathlib.Core.Bool.{true, false}
-use Prim.Native.Nat.{ℕ}
 use lib.Dec.{T}
-use lib.IntN.{ℤ, pos, negsuc, natAbs, _-ℤ_}
+use lib.IntN.{ℤ, pos, natAbs, _-ℤ_}
 use lib.Signed.{nonNeg, ltZ}
 use mir.Syntax.{w32, w64}
 use mir.Val.{SFits, Fits}
 use Rattle.algebra.proofs.Order.{in-fits}
 use Rattle.algebra.proofs.Machine.{MV, arg, lit, cast, cast-fits, sub, sub-fits, val}
+use Rattle.algebra.proofs.Signs.{below-turned, not-below}
 use Rattle.block_cases.proofs.print.modular.Statement.{statement}
 use Rattle.block_cases.proofs.print.modular.Tie as tie
 
@@ -20,15 +18,6 @@ wide c = cast w64 (arg (c .fits .v)) tt
 
 abbrev turned : tie.Start → MV w64
 turned c = sub (lit w64 0) (wide c) tt
-
--- below 0, its negative is not, and has its size
-negative : (z : ℤ) → ltZ z (pos 0) ≡ true → T (nonNeg (pos 0 -ℤ z)) × (natAbs (pos 0 -ℤ z) ≡ natAbs z)
-negative (pos n) h = absurd (omega (arith, ltb-true n 0 h))
-negative (negsuc n) h = (tt, omega arith)
-
-other : (z : ℤ) → ltZ z (pos 0) ≡ false → T (nonNeg z)
-other (pos n) h = tt
-other (negsuc n) h = let z : _≡_ {A = ℕ} 0 1 = cc in absurd (omega arith)
 
 word : (z y : ℤ) → SFits w32 z → natAbs y ≡ natAbs z → Fits w64 (natAbs y)
 word z y f e = record { fits = omega (arith, in-fits f .within) }
@@ -42,7 +31,7 @@ sub-wrapping-sub-u64 c = sub-fits (lit w64 0) (wide (c .before)) tt
 cast-wrapping-sub-u64 : tie.Need-cast-wrapping-sub-u64
 cast-wrapping-sub-u64 c =
     let s = c .before in
-    let n = negative (s .args .v) (ap (λ (z : ℤ). ltZ z (pos 0)) (sym (val (wide s))) ∙ c .if1 .taken) in
+    let n = below-turned (s .args .v) (ap (λ (z : ℤ). ltZ z (pos 0)) (sym (val (wide s))) ∙ c .if1 .taken) in
     subst (λ (y : ℤ). T (nonNeg y) × Fits w64 (natAbs y)) (sym (val (turned s))) (n .0, word (s .args .v) (pos 0 -ℤ s .args .v) (s .fits .v) (n .1))
 
 wrapping-sub-u64-requires : tie.Need-wrapping-sub-u64-requires
@@ -51,7 +40,7 @@ wrapping-sub-u64-requires c κs = search needs
 cast-result : tie.Need-cast-result
 cast-result c =
     let s = c .before in
-    let n = other (s .args .v) (ap (λ (z : ℤ). ltZ z (pos 0)) (sym (val (wide s))) ∙ c .if1 .left) in
+    let n = not-below (s .args .v) (ap (λ (z : ℤ). ltZ z (pos 0)) (sym (val (wide s))) ∙ c .if1 .left) in
     subst (λ (y : ℤ). T (nonNeg y) × Fits w64 (natAbs y)) (sym (val (wide s))) (n, word (s .args .v) (s .args .v) (s .fits .v) refl)
 
 returns : tie.Need-returns

@@ -6,7 +6,7 @@ use denote.Ref.{now}
 use Rattle.block_file.specs.declared.cursor.Cursor.{Cursor}
 use Rattle.block_file.specs.declared.cursor.Step.{Step}
 use Rattle.block_file.specs.Cursor.{stepOf}
-use Rattle.block_pick.specs.Pick.{passes, left, reach, picked}
+use Rattle.block_pick.specs.Pick.{passes, left, walk, picked}
 use Rattle.block_pick.proofs.Fuel.{moves, one-field}
 use borrow.Author.Needs.{needs}
 use native.Mathlib.Omega.{arith}
@@ -14,7 +14,7 @@ use Rattle.block_pick.proofs.pick.pick.Statement.{statement}
 use Rattle.block_pick.proofs.pick.pick.Tie as tie
 
 abbrev Inv-loop : tie.InvT-loop
-Inv-loop file n left-over₀ cursor₀ step₀ left-over cursor step = (step ≡ stepOf file cursor) × (reach (length file) file left-over cursor ≡ picked file n)
+Inv-loop file n left-over₀ cursor₀ step₀ left-over cursor step = (step ≡ stepOf file cursor) × (walk (length file) file left-over cursor ≡ picked file n)
 
 abbrev μ-loop : tie.MeasureT-loop
 μ-loop file n left-over₀ cursor₀ step₀ left-over cursor step = length file - cursor .at
@@ -29,7 +29,7 @@ loop-holds : tie.Need-loop-holds Inv-loop μ-loop
 unfolding picked
 loop-holds c =
     let file = now (c .before .before .before .args .file) in
-    (c .step .ensures, ap (λ (k : Cursor). reach (length file) file (c .before .before .before .args .n) k) (c .before .new .ensures))
+    (c .step .ensures, ap (λ (k : Cursor). walk (length file) file (c .before .before .before .args .n) k) (c .before .new .ensures))
 
 passes-requires : tie.Need-passes-requires Inv-loop μ-loop
 passes-requires c κs = search needs
@@ -53,7 +53,7 @@ loop-again c =
     let file = now (c .before .before .before .before .before .before .before .before .before .args .file) in
     let p = ap (λ (k : Step). passes (k .tag) (l .left-over)) (sym (l .inv .0)) ∙ sym (c .before .before .before .before .passes .ensures) ∙ c .before .before .before .if1 .taken in
     let on = rw (p) at (one-field file (l .left-over) (l .cursor)) in
-    let same : reach (length file) file (c .before .before .left .result) (l .step .next) ≡ reach (length file) file (left (stepOf file (l .cursor) .tag) (l .left-over)) (stepOf file (l .cursor) .next) = (λ i. reach (length file) file ((c .before .before .left .ensures ∙ ap (λ (k : Step). left (k .tag) (l .left-over)) (l .inv .0)) i) (l .inv .0 i .next)) in
+    let same : walk (length file) file (c .before .before .left .result) (l .step .next) ≡ walk (length file) file (left (stepOf file (l .cursor) .tag) (l .left-over)) (stepOf file (l .cursor) .next) = (λ i. walk (length file) file ((c .before .before .left .ensures ∙ ap (λ (k : Step). left (k .tag) (l .left-over)) (l .inv .0)) i) (l .inv .0 i .next)) in
     (c .step2 .ensures, same ∙ sym on ∙ l .inv .1)
 
 returns : tie.Need-returns Inv-loop μ-loop

@@ -11,7 +11,8 @@ use Rattle.block_numbers.specs.Numbers.{numbers}
 use Rattle.block_run.specs.Does.{Fits}
 use Rattle.block_picture.specs.declared.shown.View.{View}
 use Rattle.block_picture.specs.Shown.{drawnAt, inverseShown}
-use Rattle.block_picture.proofs.Drawing.{data-fits, is-inverse, is-forward, is-neither}
+use Rattle.block_run.proofs.Steps.{data-fits}
+use Rattle.block_picture.proofs.Drawing.{is-inverse, is-forward, is-neither}
 use borrow.Author.Needs.{needs}
 use Rattle.block_picture.proofs.shown.shown.Statement.{statement}
 use Rattle.block_picture.proofs.shown.shown.Tie as tie

@@ -8,7 +8,7 @@ use native.Mathlib.Omega.{arith}
 use lib.ListN.{length, getD}
 use Rattle.meaning.specs.declared.Shape.{Shape}
 use Rattle.block_row.specs.Numbers.{shapesOf}
-use Rattle.block_row.specs.Row.{area}
+use Rattle.block_row.specs.Row.{span}
 use Rattle.block_row.proofs.Listed.{shapes-length, shapes-at}
 use Rattle.block_row.proofs.Passed.{Passed, passed}
 use Rattle.block_row.proofs.Made.{Made, made-none, made-room, made-next-of, made-all}
@@ -36,19 +36,19 @@ few : (s : tie.Start Inv-loop μ-loop) → s .args .count ≤ 64
 few s = omega (arith, taken s .few, T-long s)
 
 -- the shape that was read is the list's
-k-in : (c : tie.After-area-of Inv-loop μ-loop) → c .before .before .before .loop .k < length (T (c .before .before .before .before))
+k-in : (c : tie.After-span-of Inv-loop μ-loop) → c .before .before .before .loop .k < length (T (c .before .before .before .before))
 k-in c = omega (arith, T-long (c .before .before .before .before), c .before .before .loop-test .taken)
 
-is-shape : (c : tie.After-area-of Inv-loop μ-loop) → getD (T (c .before .before .before .before)) (c .before .before .before .loop .k) (c .before .shape-at .result) ≡ c .before .shape-at .result
+is-shape : (c : tie.After-span-of Inv-loop μ-loop) → getD (T (c .before .before .before .before)) (c .before .before .before .loop .k) (c .before .shape-at .result) ≡ c .before .shape-at .result
 is-shape c =
     let s = c .before .before .before .before in
     shapes-at (s .args .count) (s .args .shapes .now) (c .before .before .before .loop .k) (c .before .shape-at .result) (c .before .before .loop-test .taken)
     ∙ sym (c .before .shape-at .ensures)
 
-room : (c : tie.After-area-of Inv-loop μ-loop) → c .before .before .before .loop .start + c .area-of .result ≤ length (c .before .before .before .before .args .coefficients .now)
+room : (c : tie.After-span-of Inv-loop μ-loop) → c .before .before .before .loop .start + c .span-of .result ≤ length (c .before .before .before .before .args .coefficients .now)
 room c =
     let L = c .before .before .before .loop in
-    omega (arith, c .area-of .ensures, ap area (is-shape c), made-room (L .inv .1) (c .before .shape-at .result) (k-in c))
+    omega (arith, c .span-of .ensures, ap span (is-shape c), made-room (L .inv .1) (c .before .shape-at .result) (k-in c))
 
 loop-holds : tie.Need-loop-holds Inv-loop μ-loop
 loop-holds c =
@@ -58,8 +58,8 @@ loop-holds c =
 shape-at-requires : tie.Need-shape-at-requires Inv-loop μ-loop
 shape-at-requires c κs = omega (arith, few (c .before .before), c .loop-test .taken)
 
-area-of-requires : tie.Need-area-of-requires Inv-loop μ-loop
-area-of-requires c κs = search needs
+span-of-requires : tie.Need-span-of-requires Inv-loop μ-loop
+span-of-requires c κs = search needs
 
 add-end : tie.Need-add-end Inv-loop μ-loop
 add-end c = omega (arith, room c)
@@ -105,7 +105,7 @@ loop-again c =
     let L = c .before .before .before .before .before .before .before .before .before .loop in
     let a = c .before .before .before .before .before .before in (
       search needs,
-      rw (c .put .ensures) (made-next-of (L .inv .1) (a .before .shape-at .result) (c .before .before .before .inverse .result) _ _ (a .before .shape-at .result) (is-shape a) (k-in a) (ap (λ (n : ℕ). L .start + n) (a .area-of .ensures)) (c .before .before .before .inverse .ensures)),
+      rw (c .put .ensures) (made-next-of (L .inv .1) (a .before .shape-at .result) (c .before .before .before .inverse .result) _ _ (a .before .shape-at .result) (is-shape a) (k-in a) (ap (λ (n : ℕ). L .start + n) (a .span-of .ensures)) (c .before .before .before .inverse .ensures)),
     )
 
 same-length : tie.Need-same-length Inv-loop μ-loop
@@ -126,7 +126,7 @@ each-spec =
     μ-loop
     loop-holds
     shape-at-requires
-    area-of-requires
+    span-of-requires
     add-end
     mul-inverse
     sub-inverse

@@ -1,10 +1,10 @@
 -- `row::row` meets its contract: the refusals of the whole call, then the blocks. Assumes nothing.
 use borrow.Author.Needs.{needs}
-use mathlib.Core.Path.{_≡_, sym, ap, _∙_}
+use mathlib.Core.Path.{sym, ap, _∙_}
 use mathlib.Core.List.{List, []}
 use Prim.Native.Nat.{ℕ}
 use lib.ListN.{length}
-use Rattle.algebra.specs.Refusals.{Refusal, numberOf}
+use Rattle.algebra.specs.Refusals.{Refusal}
 use Rattle.algebra.proofs.Refusals.{refused-first, passed-first}
 use Rattle.meaning.specs.declared.Shape.{Shape}
 use Rattle.block_row.specs.Numbers.{shapesOf}

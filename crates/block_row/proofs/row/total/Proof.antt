@@ -1,20 +1,20 @@
 -- `row::total` meets its contract. Assumes nothing.
 use borrow.Author.Needs.{needs}
 use mathlib.Core.Path.{_≡_, ap}
-use Prim.Native.Nat.{ℕ, suc, _+_, _-_, _*_, _≤_}
+use Prim.Native.Nat.{suc, _+_, _-_, _*_, _≤_}
 use native.Mathlib.Nat.{zero-add}
 use native.Mathlib.Numerals.{add-one}
 use native.Mathlib.Omega.{arith}
 use lib.ListN.{length, drop}
 use Rattle.block_row.specs.Numbers.{shapesOf}
-use Rattle.block_row.specs.Row.{area, areas}
-use Rattle.block_row.proofs.Areas.{area-small, areas-more, areas-end}
+use Rattle.block_row.specs.Row.{span, spans}
+use Rattle.block_row.proofs.Spans.{span-small, spans-more, spans-end}
 use Rattle.block_row.proofs.Listed.{shapes-length, shapes-at}
 use Rattle.block_row.proofs.row.total.Statement.{statement}
 use Rattle.block_row.proofs.row.total.Tie as tie
 
 abbrev Inv-loop : tie.InvT-loop
-Inv-loop shapes count sum₀ i₀ sum i = (i ≤ count) × ((sum ≤ i * 1024) × (sum + areas (drop i (shapesOf count shapes)) ≡ areas (shapesOf count shapes)))
+Inv-loop shapes count sum₀ i₀ sum i = (i ≤ count) × ((sum ≤ i * 1024) × (sum + spans (drop i (shapesOf count shapes)) ≡ spans (shapesOf count shapes)))
 
 abbrev μ-loop : tie.MeasureT-loop
 μ-loop shapes count sum₀ i₀ sum i = count - i
@@ -25,11 +25,11 @@ loop-holds c = (search needs, (search needs, zero-add _))
 shape-at-requires : tie.Need-shape-at-requires Inv-loop μ-loop
 shape-at-requires c κs = search needs
 
-area-of-requires : tie.Need-area-of-requires Inv-loop μ-loop
-area-of-requires c κs = search needs
+span-of-requires : tie.Need-span-of-requires Inv-loop μ-loop
+span-of-requires c κs = search needs
 
 add-sum : tie.Need-add-sum Inv-loop μ-loop
-add-sum c = omega (arith, c .area-of .ensures, area-small (c .before .shape-at .result))
+add-sum c = omega (arith, c .span-of .ensures, span-small (c .before .shape-at .result))
 
 add-i : tie.Need-add-i Inv-loop μ-loop
 add-i c = search needs
@@ -44,12 +44,12 @@ loop-again c =
     let l = s .args .shapes .now in
     let T = shapesOf (s .args .count) l in
     let sh = c .before .shape-at .result in
-    let e = ap area (shapes-at (s .args .count) l (L .i) sh (c .before .before .loop-test .taken)) in
-    let m = areas-more T (L .i) sh (omega (arith, shapes-length (s .args .count) l, c .before .before .loop-test .taken)) in
-    let a = area-small sh in
-    let q : areas (drop (L .i + 1) T) ≡ areas (drop (suc (L .i)) T) = rw (add-one (L .i)) in
-    let r = c .area-of .ensures in
-    let z = ap area (c .before .shape-at .ensures) in
+    let e = ap span (shapes-at (s .args .count) l (L .i) sh (c .before .before .loop-test .taken)) in
+    let m = spans-more T (L .i) sh (omega (arith, shapes-length (s .args .count) l, c .before .before .loop-test .taken)) in
+    let a = span-small sh in
+    let q : spans (drop (L .i + 1) T) ≡ spans (drop (suc (L .i)) T) = rw (add-one (L .i)) in
+    let r = c .span-of .ensures in
+    let z = ap span (c .before .shape-at .ensures) in
     (search needs, (omega arith, omega arith))
 
 returns : tie.Need-returns Inv-loop μ-loop
@@ -58,7 +58,7 @@ returns c =
     let L = c .before .loop in
     let T = shapesOf (s .args .count) (s .args .shapes .now) in
     let long : length T ≤ L .i = omega (arith, shapes-length (s .args .count) (s .args .shapes .now), c .loop-test .left) in
-    omega (arith, areas-end T (L .i) long)
+    omega (arith, spans-end T (L .i) long)
 
 pub total-spec : {M : Type 1} → statement M
 total-spec =
@@ -68,7 +68,7 @@ total-spec =
     μ-loop
     loop-holds
     shape-at-requires
-    area-of-requires
+    span-of-requires
     add-sum
     add-i
     loop-less

@@ -6,11 +6,13 @@ use borrow.Author.Needs.{needs}
 use lib.IntN.{pos}
 use lib.ListN.{length, take, getD}
 use denote.Ref.{now}
+use mir.Syntax.{w16}
+use mir.ValLaws.{toZ-ofZ}
+use Rattle.algebra.proofs.Signs.{wider, widened}
 use Rattle.block_text.specs.Text.{spaced}
 use Rattle.block_text.specs.Wrote.{Wrote}
 use Rattle.block_text.proofs.Spaced.{wrote-more, wrote-all}
 use Rattle.block_text.proofs.Writing.{nothing}
-use Rattle.block_text.proofs.Signs.{wider, widened}
 use Rattle.block_text.proofs.text.put_coefficients.Statement.{statement}
 use Rattle.block_text.proofs.text.put_coefficients.Tie as tie
 
@@ -31,7 +33,9 @@ shared-slice-copy-out-z : tie.Need-shared-slice-copy-out-z Inv-loop μ-loop
 shared-slice-copy-out-z c = search needs
 
 cast-put-integer : tie.Need-cast-put-integer Inv-loop μ-loop
-cast-put-integer c = wider (getD (now (c .before .before .before .before .args .zs)) (c .before .before .loop .i) (pos 0)) (record { sfits = c .z .given })
+cast-put-integer c =
+    let z = getD (now (c .before .before .before .before .args .zs)) (c .before .before .loop .i) (pos 0) in
+    rw (toZ-ofZ w16 z (record { sfits = c .z .given })) (wider (record { sfits = c .z .given }))
 
 put-integer-requires : tie.Need-put-integer-requires Inv-loop μ-loop
 put-integer-requires c κs = search needs

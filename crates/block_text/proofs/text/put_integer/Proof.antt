@@ -1,10 +1,12 @@
 -- `put_integer` meets its contract. Assumes nothing.
+use mathlib.Core.Path.{ap}
 use mathlib.Core.List.{[], _∷_}
 use native.Mathlib.Omega.{arith}
 use borrow.Author.Needs.{needs}
 use lib.IntN.{natAbs}
+use Rattle.algebra.proofs.Signs.{Negative, Plain, negative, plain}
+use Rattle.block_text.specs.Text.{sign}
 use Rattle.block_text.proofs.Digits.{same-digits}
-use Rattle.block_text.proofs.Signs.{Negative, Plain, negative, plain}
 use Rattle.block_text.proofs.Writing.{andThen, retext, within}
 use Rattle.block_text.proofs.Spaced.{spaced-signed}
 use Rattle.block_text.proofs.text.put_integer.Statement.{statement}
@@ -45,7 +47,7 @@ returns : tie.Need-returns
 returns c =
     let z = c .before .before .before .before .before .before .before .before .before .before .before .before .before .before .args .z in
     let n = below (c .before .before .before .before .before .before .before .before) in
-    retext (spaced-signed z (45 ∷ []) (n .minus))
+    retext (spaced-signed z (45 ∷ []) (ap sign (n .shape)))
     (andThen (c .before .before .before .before .before .before .before .before .before .before .before .put .ensures) (andThen (c .before .before .before .before .before .before .put2 .ensures) (retext (same-digits _ (natAbs z) (rw (n .flipped) (omega arith)) (omega arith)) (c .before .before .put-digits .ensures))))
 
 cast-put-digits-2 : tie.Need-cast-put-digits-2
@@ -65,7 +67,7 @@ returns-2 : tie.Need-returns-2
 returns-2 c =
     let z = c .before .before .before .before .before .before .before .before .before .before .args .z in
     let p = others (c .before .before .before .before) in
-    within (retext (spaced-signed z [] (p .none))
+    within (retext (spaced-signed z [] (ap sign (p .shape)))
     (andThen (c .before .before .before .before .before .before .before .put .ensures) (retext (same-digits _ (natAbs z) (rw (p .is)) (omega arith)) (c .before .before .put-digits2 .ensures)))) (omega arith)
 
 pub put-integer-spec : {M : Type 1} → statement M

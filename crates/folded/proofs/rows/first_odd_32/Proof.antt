@@ -1,7 +1,7 @@
 -- `rows::first_odd_32` meets its contract. Assumes nothing.
 use native.Mathlib.Omega.{arith}
 use mathlib.Core.Path.{_∙_}
-use mathlib.Core.Bool.{not, _&&_}
+use mathlib.Core.Bool.{_&&_}
 use lib.Dec.{eqb}
 use Rattle.folding.specs.Folds.{classOf, odd}
 use Rattle.folding.proofs.Writing.{put-one, and-then, by-test}

@@ -1,6 +1,6 @@
 -- `inputs::folded_input` meets its contract. Assumes nothing.
 use native.Mathlib.Omega.{arith}
-use mathlib.Core.Path.{_≡_, sym, ap, _∙_, subst}
+use mathlib.Core.Path.{sym, ap, _∙_, subst}
 use Prim.Native.Nat.{ℕ, _<_}
 use Rattle.folding.specs.Folds.{width, into, folded}
 use Rattle.folding.specs.Lines.{reading}

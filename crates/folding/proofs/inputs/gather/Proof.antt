@@ -3,7 +3,6 @@ use borrow.Author.Needs.{needs}
 use native.Mathlib.Omega.{arith}
 use mathlib.Core.Path.{_≡_, sym, _∙_, subst}
 use Prim.Native.Nat.{ℕ, _-_, _≤_}
-use lib.IntN.{ℤ}
 use Rattle.folding.specs.Lines.{reading}
 use Rattle.folding.specs.Steps.{Gathered}
 use Rattle.folding.proofs.Reading.{reads, is-small}

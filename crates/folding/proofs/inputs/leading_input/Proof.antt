@@ -1,14 +1,11 @@
 -- `inputs::leading_input` meets its contract. Assumes nothing.
-use borrow.Author.Needs.{needs}
 use native.Mathlib.Omega.{arith}
 use mathlib.Core.Path.{_≡_, sym, ap, _∙_}
 use mathlib.Core.Bool.{Bool}
 use Prim.Native.Nat.{ℕ, _+_, _*_, _-_, _/_, _%_, _<_, _≤_}
 use native.Mathlib.Nat.{mod-lt, div-le-self}
 use lib.Dec.{ltb}
-use lib.IntN.{ℤ, natAbs, _+ℤ_, +ℤ-idr}
-use mir.Syntax.{w32}
-use mir.Val.{toZ, ofZ}
+use lib.IntN.{ℤ, _+ℤ_, +ℤ-idr}
 use Rattle.meaning.specs.Weights.{signed}
 use Rattle.folding.specs.Folds.{half, folded}
 use Rattle.folding.specs.Lines.{reading}

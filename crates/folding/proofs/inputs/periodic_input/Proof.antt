@@ -1,15 +1,13 @@
 -- `inputs::periodic_input` meets its contract: the stretches before k are added. Assumes nothing.
-use borrow.Author.Needs.{needs}
 use native.Mathlib.Omega.{arith}
 use mathlib.Core.Path.{_≡_, refl, sym, ap, _∙_, subst}
-use Prim.Native.Nat.{ℕ, _+_, _*_, _-_, _/_, _%_, _<_, _≤_}
-use lib.Dec.{eqb}
+use Prim.Native.Nat.{ℕ, _+_, _*_, _-_, _/_, _≤_}
 use lib.IntN.{ℤ, natAbs, _+ℤ_}
 use mir.Syntax.{w32}
 use mir.Val.{toZ, ofZ}
 use Rattle.algebra.proofs.Order.{abs-add}
 use Rattle.meaning.specs.Weights.{signed}
-use Rattle.folding.specs.Folds.{half, odd, folded, stretches, periodicInto}
+use Rattle.folding.specs.Folds.{half, odd, folded, stretches}
 use Rattle.folding.specs.Lines.{reading}
 use Rattle.folding.proofs.Reading.{Reads, reads, reads-sign, reads-sum, safe, is-small, stretch-next, stretch-last, read-back}
 use Rattle.folding.proofs.inputs.periodic_input.Statement.{statement}

@@ -3,7 +3,7 @@ use native.Mathlib.Omega.{arith}
 use mathlib.Core.Path.{_≡_, refl, sym, ap, _∙_}
 use mathlib.Core.Bool.{true}
 use Prim.Native.Nat.{ℕ, _+_, _*_, _-_, _<_, _≤_}
-use lib.IntN.{ℤ, pos, negℤ, natAbs, _+ℤ_, +ℤ-idr, +ℤ-assoc, negℤ-+ℤ}
+use lib.IntN.{ℤ, pos, negℤ, _+ℤ_, +ℤ-idr, +ℤ-assoc, negℤ-+ℤ}
 use Rattle.algebra.specs.Lists.{at}
 use Rattle.folding.specs.Folds.{half, folded}
 use Rattle.folding.proofs.Reading.{Reads, reads, reads-sign, reads-sum, safe, is-small, leading-own, leading-two, leading-four}

@@ -1,12 +1,10 @@
 -- `spread::periodic` meets its contract. Assumes nothing.
-use borrow.Author.Needs.{needs}
 use native.Mathlib.Omega.{arith}
 use mathlib.Core.Path.{_≡_, refl, sym, ap, _∙_}
 use mathlib.Core.Bool.{Bool, not}
 use Prim.Native.Nat.{ℕ, _+_, _*_, _-_, _%_, _<_, _≤_}
 use native.Mathlib.Nat.{mod-lt}
 use lib.Dec.{ltb}
-use lib.IntN.{ℤ, natAbs}
 use Rattle.algebra.specs.Lists.{at}
 use Rattle.meaning.specs.Weights.{signed}
 use Rattle.folding.specs.Folds.{half, folded}

@@ -1,13 +1,11 @@
 -- `spread::spread` meets its contract: the places before k are written. Assumes nothing.
-use borrow.Author.Needs.{needs}
 use native.Mathlib.Omega.{arith}
-use mathlib.Core.Path.{_≡_, refl, sym, ap, _∙_, subst}
+use mathlib.Core.Path.{_≡_, sym, _∙_, subst}
 use Prim.Native.Nat.{ℕ, _-_, _≤_, _<_}
 use lib.ListN.{length}
-use lib.IntN.{ℤ, _+ℤ_}
+use lib.IntN.{_+ℤ_}
 use Rattle.algebra.specs.Lists.{at}
 use Rattle.folding.specs.Folds.{folded, leading, periodic}
-use Rattle.folding.specs.Lines.{turned}
 use Rattle.folding.specs.Steps.{Front, joined}
 use Rattle.folding.proofs.Reading.{Reads, reads, reads-sum, safe, turned-in}
 use Rattle.folding.proofs.Gathering.{front-next, joined-at}

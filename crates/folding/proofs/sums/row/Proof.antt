@@ -3,10 +3,8 @@ use borrow.Author.Needs.{needs}
 use native.Mathlib.Omega.{arith}
 use mathlib.Core.Path.{_≡_, sym, ap, _∙_, subst}
 use mathlib.Core.Bool.{_&&_}
-use Prim.Native.Nat.{ℕ, _+_, _*_, _-_, _%_, _<_, _≤_}
-use native.Mathlib.Nat.{zero-add}
+use Prim.Native.Nat.{_+_, _*_, _-_, _%_, _≤_}
 use lib.Dec.{eqb}
-use lib.ListN.{length}
 use lib.IntN.{ℤ, natAbs, _+ℤ_, _*ℤ_}
 use mir.Syntax.{w16, w32}
 use mir.Val.{toZ, ofZ}
@@ -15,7 +13,6 @@ use Rattle.algebra.specs.Lists.{at}
 use Rattle.algebra.proofs.Lists.{Filled, fill-none, fill-first}
 use Rattle.meaning.specs.Weights.{S, signed}
 use Rattle.meaning.proofs.Sizes.{S-size, abs-signed}
-use Rattle.folding.specs.Folds.{odd}
 use Rattle.folding.specs.Lines.{used}
 use Rattle.folding.proofs.Reading.{read-back, read-small}
 use Rattle.folding.proofs.Adding.{row-done}

@@ -2,7 +2,6 @@
 use borrow.Author.Needs.{needs}
 use native.Mathlib.Omega.{arith}
 use mathlib.Core.Path.{_≡_, sym, ap, _∙_, subst}
-use mathlib.Core.List.{List}
 use Prim.Native.Nat.{ℕ, _+_, _*_, _-_, _≤_, _<_}
 use lib.ListN.{length}
 use lib.IntN.{ℤ, _*ℤ_}
@@ -14,11 +13,10 @@ use Rattle.algebra.specs.Lists.{at}
 use Rattle.algebra.proofs.Sum.{sum-cong}
 use Rattle.algebra.proofs.Lists.{Filled, fill-none, fill-first, filled, tab-length}
 use Rattle.meaning.specs.Line.{forwardSum}
-use Rattle.meaning.proofs.Sizes.{weightSize}
 use Rattle.product.specs.Product.{spot}
 use Rattle.halves.specs.Halves.{odd, sums, differences}
 use Rattle.halves.proofs.ByHalves.{forward-even, forward-odd}
-use Rattle.halves.proofs.Tables.{tab-holds, row-of, row-sum}
+use Rattle.halves.proofs.Tables.{odd-size, tab-holds, row-of, row-sum}
 use Rattle.halves.proofs.ForwardStep.{recount}
 use Rattle.halves.proofs.forward.weave.Statement.{statement}
 use Rattle.halves.proofs.forward.weave.Tie as tie
@@ -98,7 +96,7 @@ row-requires : tie.Need-row-requires Inv-loop μ-loop
 row-requires c κs =
     let I = c .before in
     let p = I .before .before .pre in
-    (row-of (λ i j. weightSize 0 (h I + h I) (2 * i + 1) j) (p .0 .0) (i I) (here I), p .1 .0)
+    (row-of (odd-size (h I + h I)) (p .0 .0) (i I) (here I), p .1 .0)
 
 mul-t17 : tie.Need-mul-t17 Inv-loop μ-loop
 mul-t17 c = omega (arith, few (c .before .before), here (c .before .before))

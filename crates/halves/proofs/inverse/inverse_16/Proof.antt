@@ -2,14 +2,13 @@
 use native.Mathlib.Omega.{arith}
 use borrow.Author.Needs.{needs}
 use mathlib.Core.Path.{_≡_, refl}
-use Prim.Native.Nat.{ℕ, _+_, _*_, _≤_, _<_}
-use lib.IntN.{natAbs, _*ℤ_}
+use Prim.Native.Nat.{ℕ, _+_, _*_, _<_}
+use lib.IntN.{_*ℤ_}
 use Rattle.algebra.specs.Sum.{sum}
 use Rattle.algebra.specs.Lists.{at}
-use Rattle.meaning.proofs.Sizes.{weightSize}
 use Rattle.halves.specs.Halves.{odd}
 use Rattle.halves.proofs.Halved.{halves-16}
-use Rattle.halves.proofs.Tables.{tab-long, pairs-given, pairs-hold}
+use Rattle.halves.proofs.Tables.{odd-size, tab-long, pairs-given, pairs-hold}
 use Rattle.halves.proofs.InverseStep.{evens-in, odds-there, step-given, step}
 use Rattle.halves.proofs.inverse.inverse_16.Statement.{statement}
 use Rattle.halves.proofs.inverse.inverse_16.Tie as tie
@@ -44,18 +43,11 @@ slice-aggregate-line-2 c = search needs
 slice-aggregate-line-3 : tie.Need-slice-aggregate-line-3
 slice-aggregate-line-3 c = search needs
 
--- the odd half, as it is asked for and as it comes
-module _ (c : tie.After-deal) where
-  abbrev S : tie.Start
-  S = c .before .before .before .before .before
-
-  light : (i j : ℕ) → natAbs (odd 16 i j) ≤ 90
-  light i j = weightSize 0 16 (2 * i + 1) j
-
+-- the odd half, as it is asked for
 line-requires : tie.Need-line-requires
 line-requires c κs =
     let D = c .before .before .before .before .before in (
-      pairs-given (c .before .before .before .odd-16 .ensures) (light D) 4 refl _ _ (D .deal .ensures) _ (omega arith),
+      pairs-given (c .before .before .before .odd-16 .ensures) (odd-size 16) 4 refl _ _ (D .deal .ensures) _ (omega arith),
       record { small = omega arith; short = omega arith },
     )
 
@@ -69,7 +61,7 @@ slice-aggregate-butterfly-2 c = search needs
 odds : (c : tie.After-line) → let S = c .before .before .before .before .before .before .before .before .before .before .before in (j : ℕ) → j < 8 → at (c .line .last .1 .1 .1 .1 .1 .1 .1 .1 .0) j ≡ sum 8 (λ i. odd 16 i j *ℤ at (S .args .x .now) (S .args .apart + i * (2 * S .args .apart)))
 odds c =
     let D = c .before .before .before .before .before .before in
-    pairs-hold (c .before .before .before .before .odd-16 .ensures) (light D) 4 refl _ _ (D .deal .ensures) 8 (omega arith) _ (c .line .ensures)
+    pairs-hold (c .before .before .before .before .odd-16 .ensures) (odd-size 16) 4 refl _ _ (D .deal .ensures) 8 (omega arith) _ (c .line .ensures)
 
 butterfly-requires : tie.Need-butterfly-requires
 butterfly-requires c κs =

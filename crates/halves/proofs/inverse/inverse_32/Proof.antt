@@ -2,14 +2,13 @@
 use borrow.Author.Needs.{needs}
 use native.Mathlib.Omega.{arith}
 use mathlib.Core.Path.{_≡_, refl}
-use Prim.Native.Nat.{ℕ, _+_, _*_, _≤_, _<_}
-use lib.IntN.{natAbs, _*ℤ_}
+use Prim.Native.Nat.{ℕ, _+_, _*_, _<_}
+use lib.IntN.{_*ℤ_}
 use Rattle.algebra.specs.Sum.{sum}
 use Rattle.algebra.specs.Lists.{at}
-use Rattle.meaning.proofs.Sizes.{weightSize}
 use Rattle.halves.specs.Halves.{odd}
 use Rattle.halves.proofs.Halved.{halves-32}
-use Rattle.halves.proofs.Tables.{tab-long, pairs-given, pairs-hold}
+use Rattle.halves.proofs.Tables.{odd-size, tab-long, pairs-given, pairs-hold}
 use Rattle.halves.proofs.InverseStep.{evens-in, odds-there, step-given, step}
 use Rattle.halves.proofs.inverse.inverse_32.Statement.{statement}
 use Rattle.halves.proofs.inverse.inverse_32.Tie as tie
@@ -46,13 +45,10 @@ module _ (c : tie.After-deal) where
   abbrev S : tie.Start
   S = c .before .before .before .before .before
 
-  light : (i j : ℕ) → natAbs (odd 32 i j) ≤ 90
-  light i j = weightSize 0 32 (2 * i + 1) j
-
 line-requires : tie.Need-line-requires
 line-requires c κs =
     let D = c .before .before .before .before .before in (
-      pairs-given (c .before .before .before .odd-32 .ensures) (light D) 8 refl _ _ (D .deal .ensures) _ (omega (arith, S D .pre .1 .1)),
+      pairs-given (c .before .before .before .odd-32 .ensures) (odd-size 32) 8 refl _ _ (D .deal .ensures) _ (omega (arith, S D .pre .1 .1)),
       record { small = omega arith; short = omega arith },
     )
 
@@ -63,7 +59,7 @@ slice-aggregate-butterfly c = search needs
 odds : (c : tie.After-line) → let S = c .before .before .before .before .before .before .before .before .before .before .before in (j : ℕ) → j < 16 → at (c .line .last .1 .1 .1 .1 .1 .1 .1 .1 .0) j ≡ sum 16 (λ i. odd 32 i j *ℤ at (S .args .x .now) (S .args .apart + i * (2 * S .args .apart)))
 odds c j l =
     let D = c .before .before .before .before .before .before in
-    pairs-hold (c .before .before .before .before .odd-32 .ensures) (light D) 8 refl _ _ (D .deal .ensures) _ (omega (arith, S D .pre .1 .1)) _ (c .line .ensures) j (omega (arith, S D .pre .1 .1))
+    pairs-hold (c .before .before .before .before .odd-32 .ensures) (odd-size 32) 8 refl _ _ (D .deal .ensures) _ (omega (arith, S D .pre .1 .1)) _ (c .line .ensures) j (omega (arith, S D .pre .1 .1))
 
 butterfly-requires : tie.Need-butterfly-requires
 butterfly-requires c κs =

@@ -2,7 +2,6 @@
 use native.Mathlib.Omega.{arith}
 use borrow.Author.Needs.{needs}
 use mathlib.Core.Path.{refl, _∙_}
-use Prim.Native.Nat.{_+_, _*_}
 use Rattle.meaning.proofs.Sizes.{weightSize}
 use Rattle.halves.proofs.Tables.{tab-long, pairs-given, pairs-hold, laid-half}
 use Rattle.halves.proofs.InverseStep.{four-there, four}

@@ -17,8 +17,7 @@ use Rattle.algebra.specs.First.{firstAt}
 use Rattle.algebra.proofs.Lists.{place-in, row-in, row-of, column-of}
 use Rattle.algebra.proofs.First.{first-on, first-here, first-none}
 use Rattle.meaning.specs.Plan.{planOf}
-use Rattle.meaning.specs.Inverse.{outside}
-use Rattle.inverse_block.specs.Part.{outsideAt}
+use Rattle.meaning.specs.Inverse.{outside, outsideAt}
 use Rattle.inverse_block.proofs.Tests.{skip, kept-not}
 use Rattle.inverse_block.proofs.hunt.searched.Statement.{statement}
 use Rattle.inverse_block.proofs.hunt.searched.Tie as tie

@@ -6,7 +6,7 @@ use mathlib.Core.Logic.{⊎-elim}
 use mathlib.Core.List.{List, _++_}
 use Prim.Native.Nat.{ℕ, _*_, _-_, _≤_}
 use native.Mathlib.Nat.{mul-le-mul-left, mul-comm}
-use lib.ListN.{length, take, drop, replicate, length-append, length-drop}
+use lib.ListN.{length, take, drop, length-append, length-drop}
 use lib.IntN.{ℤ, pos}
 use mir.Syntax.{w32}
 use mir.Val.{toZ, ofZ}
@@ -18,7 +18,7 @@ use Rattle.meaning.specs.Plan.{planOf, shortRange}
 use Rattle.meaning.specs.Inverse.{rails, inverseBlock}
 use Rattle.meaning.proofs.Cases.{depth-cases, size-in}
 use Rattle.product.specs.Product.{lineSum, shifted, Rounding, Lines}
-use Rattle.inverse_block.specs.Part.{Given, Room}
+use Rattle.inverse_block.specs.Given.{Given, Room}
 use Rattle.inverse_block.specs.Settled.{railsOf}
 use Rattle.inverse_block.proofs.Work.{four, eight, sixteen, thirty-two, all-rooms, zip-given, down-given, down-is, sums, sums-long, middles, middles-long, settled-rails, block-long, between, along-given, along-is, room-full}
 use Rattle.inverse_block.proofs.stages.large.Statement.{statement}
@@ -64,21 +64,31 @@ slice-aggregate-zip c = refl
 zip-requires : tie.Need-zip-requires
 zip-requires c κs = let s = c .before .before .before in zip-given (given s) (fits s) refl
 
-weights-1024-requires : tie.Need-weights-1024-requires
-weights-1024-requires c κs = given (c .before .before .before .before .before) .block .taken .height
+put-1024-requires : tie.Need-put-1024-requires
+put-1024-requires c κs = (given (c .before .before .before .before .before .before) .block .taken .height, refl)
+
+-- both lists are as long as they were
+abbrev zipped : tie.After-put-1024 → List ℤ
+zipped c = c .before .before .before .zip .last .1 .1 .1 .1 .0
+
+zipped-long : (c : tie.After-put-1024) → length (zipped c) ≡ 1024
+zipped-long c = let e : 1024 ≡ length (zipped c) = search needs in sym e
+
+laid-long : (c : tie.After-put-1024) → length (c .put-1024 .last .1 .1 .1 .0) ≡ 1024
+laid-long c = c .put-1024 .ensures .0
 
 -- the lines down the columns
-abbrev start : tie.After-weights-1024 → tie.Start
-start c = c .before .before .before .before .before .before
+abbrev start : tie.After-put-1024 → tie.Start
+start c = c .before .before .before .before .before .before .before
 
-down-asks : (c : tie.After-weights-1024) (pairs : ℕ) → 2 * pairs ≡ start c .args .rows → Lines (start c .args .shape .height) (start c .args .columns) pairs (c .weights-1024 .result) 2 (2 * start c .args .shape .height) (c .before .before .zip .last .1 .1 .1 .1 .0) (2 * start c .args .columns)
-down-asks c = down-given (given (start c)) (fits (start c)) (c .weights-1024 .ensures) (c .before .before .zip .ensures)
+down-asks : (c : tie.After-put-1024) (pairs : ℕ) → 2 * pairs ≡ start c .args .rows → Lines (start c .args .shape .height) (start c .args .columns) pairs (c .put-1024 .last .1 .1 .1 .0) 2 (2 * start c .args .shape .height) (c .before .before .before .zip .last .1 .1 .1 .1 .0) (2 * start c .args .columns)
+down-asks c = down-given (given (start c)) (fits (start c)) (c .put-1024 .ensures .1) (c .before .before .before .zip .ensures)
 
-down-gives : (c : tie.After-weights-1024) (pairs : ℕ) → 2 * pairs ≡ start c .args .rows → block (start c .args .columns) (start c .args .shape .height) (λ x y. shifted (pos 64) 7 (lineSum (c .weights-1024 .result) (2 * y) (2 * start c .args .shape .height) (c .before .before .zip .last .1 .1 .1 .1 .0) (2 * start c .args .columns) pairs x)) ≡ sums (given (start c))
-down-gives c = down-is (given (start c)) (fits (start c)) (c .weights-1024 .ensures) (c .before .before .zip .ensures)
+down-gives : (c : tie.After-put-1024) (pairs : ℕ) → 2 * pairs ≡ start c .args .rows → block (start c .args .columns) (start c .args .shape .height) (λ x y. shifted (pos 64) 7 (lineSum (c .put-1024 .last .1 .1 .1 .0) (2 * y) (2 * start c .args .shape .height) (c .before .before .before .zip .last .1 .1 .1 .1 .0) (2 * start c .args .columns) pairs x)) ≡ sums (given (start c))
+down-gives c = down-is (given (start c)) (fits (start c)) (c .put-1024 .ensures .1) (c .before .before .before .zip .ensures)
 
 slice-aggregate-lines : tie.Need-slice-aggregate-lines
-slice-aggregate-lines c = search needs
+slice-aggregate-lines c = sym (laid-long (c .before .before))
 
 slice-aggregate-lines-2 : tie.Need-slice-aggregate-lines-2
 slice-aggregate-lines-2 c = search needs
@@ -88,7 +98,7 @@ lines-requires c κs =
     let W = c .before .before .before .before in (down-asks W 2 (four (start W .args .rows) (given (start W) .size-rows) (c .before .before .before .if1 .taken)), (record { small = omega arith; short = omega arith }, room (start W)))
 
 slice-aggregate-lines-3 : tie.Need-slice-aggregate-lines-3
-slice-aggregate-lines-3 c = search needs
+slice-aggregate-lines-3 c = sym (laid-long (c .before .before .before))
 
 slice-aggregate-lines-4 : tie.Need-slice-aggregate-lines-4
 slice-aggregate-lines-4 c = search needs
@@ -98,7 +108,7 @@ lines-requires-2 c κs =
     let W = c .before .before .before .before .before in (down-asks W 4 (eight (start W .args .rows) (given (start W) .size-rows) (omega (arith, c .before .before .before .before .if1 .left)) (c .before .before .before .if2 .taken)), (record { small = omega arith; short = omega arith }, room (start W)))
 
 slice-aggregate-lines-5 : tie.Need-slice-aggregate-lines-5
-slice-aggregate-lines-5 c = search needs
+slice-aggregate-lines-5 c = sym (laid-long (c .before .before .before .before))
 
 slice-aggregate-lines-6 : tie.Need-slice-aggregate-lines-6
 slice-aggregate-lines-6 c = search needs
@@ -108,7 +118,7 @@ lines-requires-3 c κs =
     let W = c .before .before .before .before .before .before in (down-asks W 8 (sixteen (start W .args .rows) (given (start W) .size-rows) (omega (arith, c .before .before .before .before .if2 .left)) (c .before .before .before .if3 .taken)), (record { small = omega arith; short = omega arith }, room (start W)))
 
 slice-aggregate-lines-7 : tie.Need-slice-aggregate-lines-7
-slice-aggregate-lines-7 c = search needs
+slice-aggregate-lines-7 c = sym (laid-long (c .before .before .before .before))
 
 slice-aggregate-lines-8 : tie.Need-slice-aggregate-lines-8
 slice-aggregate-lines-8 c = search needs
@@ -153,17 +163,17 @@ part-settle-end c = omega (arith, first-long (c .before), room (began (c .before
 sub-settle-2 : tie.Need-sub-settle-2
 sub-settle-2 c = omega arith
 
-part-m-start : tie.Need-part-m-start
-part-m-start c = omega arith
+part-z-start : tie.Need-part-z-start
+part-z-start c = omega arith
 
-part-m-end : tie.Need-part-m-end
-part-m-end c = omega (arith, fits (began (c .before .before)) .between)
+part-z-end : tie.Need-part-z-end
+part-z-end c = omega (arith, fits (began (c .before .before)) .between, zipped-long (c .before .before .before))
 
 settle-requires : tie.Need-settle-requires
 settle-requires c κs =
     let J = c .before .before .before in
     let e : length (take (area (began J) - 0) (J .if1 .r)) ≡ area (began J) = part-long (area (began J)) (J .if1 .r) (omega (arith, first-long J, room (began J))) in
-    (e ∙ sym (part-long (area (began J)) (replicate 1024 (pos 0)) (fits (began J) .between)), omega (arith, fits (began J) .between))
+    (e ∙ sym (part-long (area (began J)) (zipped (J .before)) (omega (arith, fits (began J) .between, zipped-long (J .before)))), omega (arith, fits (began J) .between))
 
 -- the part of r that is settled, and what comes of it
 part : (c : tie.Joined1) → take (area (began c) - 0) (c .if1 .r) ≡ sums (given (began c))
@@ -184,48 +194,48 @@ sub-last c = omega (arith, depth (began (joined (c .before .before))))
 half-requires : tie.Need-half-requires
 half-requires c κs = let d = depth (began (joined (c .before .before))) in (omega arith, omega arith)
 
-weights-1024-requires-2 : tie.Need-weights-1024-requires-2
-weights-1024-requires-2 c κs = given (began (joined (c .before .before .before))) .block .taken .width
+put-1024-requires-2 : tie.Need-put-1024-requires-2
+put-1024-requires-2 c κs = (given (began (joined (c .before .before .before .before))) .block .taken .width, laid-long (joined (c .before .before .before .before) .before))
 
 -- the lines along the rows
-abbrev middle : tie.After-weights-10242 → tie.After-settle
-middle c = c .before .before .before .before
+abbrev middle : tie.After-put-10242 → tie.After-settle
+middle c = c .before .before .before .before .before
 
-abbrev origin : tie.After-weights-10242 → tie.Start
+abbrev origin : tie.After-put-10242 → tie.Start
 origin c = began (joined (middle c))
 
-abbrev held : tie.After-weights-10242 → List ℤ
-held c = middle c .settle .last .1 .0 ++ drop (area (origin c) - 0) (replicate 1024 (pos 0))
+abbrev held : tie.After-put-10242 → List ℤ
+held c = middle c .settle .last .1 .0 ++ drop (area (origin c) - 0) (zipped (joined (middle c) .before))
 
-half-is : (c : tie.After-weights-10242) → toZ w32 (ofZ w32 (c .before .half .result)) ≡ c .before .half .result
-half-is c = toZ-ofZ w32 (c .before .half .result) (search needs)
+half-is : (c : tie.After-put-10242) → toZ w32 (ofZ w32 (c .before .before .half .result)) ≡ c .before .before .half .result
+half-is c = toZ-ofZ w32 (c .before .before .half .result) (search needs)
 
-held-full : (c : tie.After-weights-10242) → 1024 ≡ length (held c)
-held-full c = room-full 1024 (area (origin c)) (middle c .settle .last .1 .0) (replicate 1024 (pos 0)) (ap length (settled (middle c)) ∙ middles-long (given (origin c))) refl (fits (origin c) .between)
+held-full : (c : tie.After-put-10242) → 1024 ≡ length (held c)
+held-full c = room-full 1024 (area (origin c)) (middle c .settle .last .1 .0) (zipped (joined (middle c) .before)) (ap length (settled (middle c)) ∙ middles-long (given (origin c))) (zipped-long (joined (middle c) .before)) (fits (origin c) .between)
 
-along-asks : (c : tie.After-weights-10242) (pairs : ℕ) → 2 * pairs ≡ origin c .args .columns
-    → Lines (origin c .args .shape .height) (origin c .args .shape .width) pairs (held c) (origin c .args .columns) 2 (c .weights-10242 .result) (2 * origin c .args .shape .width)
-    × (Rounding (toZ w32 (ofZ w32 (c .before .half .result))) (20 - origin c .args .shape .depth) × (origin c .args .shape .height * origin c .args .shape .width ≤ length (joined (middle c) .if1 .r)))
+along-asks : (c : tie.After-put-10242) (pairs : ℕ) → 2 * pairs ≡ origin c .args .columns
+    → Lines (origin c .args .shape .height) (origin c .args .shape .width) pairs (held c) (origin c .args .columns) 2 (c .put-10242 .last .1 .1 .1 .0) (2 * origin c .args .shape .width)
+    × (Rounding (toZ w32 (ofZ w32 (c .before .before .half .result))) (20 - origin c .args .shape .depth) × (origin c .args .shape .height * origin c .args .shape .width ≤ length (joined (middle c) .if1 .r)))
 along-asks c pairs e = (
-  along-given (given (origin c)) (fits (origin c)) (c .weights-10242 .ensures) (between (given (origin c)) _ _ (settled (middle c))) pairs e,
+  along-given (given (origin c)) (fits (origin c)) (c .put-10242 .ensures .1) (between (given (origin c)) _ _ (settled (middle c))) pairs e,
   (
-    subst (λ (z : ℤ). Rounding z (20 - origin c .args .shape .depth)) (sym (half-is c)) (c .before .half .ensures .1),
+    subst (λ (z : ℤ). Rounding z (20 - origin c .args .shape .depth)) (sym (half-is c)) (c .before .before .half .ensures .1),
     omega (arith, first-room (joined (middle c)), mul-comm (origin c .args .shape .width) (origin c .args .shape .height)),
   ),
 )
 
-along-gives : (c : tie.After-weights-10242) (pairs : ℕ) → 2 * pairs ≡ origin c .args .columns
-    → block (origin c .args .shape .width) (origin c .args .shape .height) (λ x y. shifted (toZ w32 (ofZ w32 (c .before .half .result))) (20 - origin c .args .shape .depth) (lineSum (held c) (origin c .args .columns * y) 2 (c .weights-10242 .result) (2 * origin c .args .shape .width) pairs x)) ++ drop (origin c .args .shape .height * origin c .args .shape .width) (joined (middle c) .if1 .r)
+along-gives : (c : tie.After-put-10242) (pairs : ℕ) → 2 * pairs ≡ origin c .args .columns
+    → block (origin c .args .shape .width) (origin c .args .shape .height) (λ x y. shifted (toZ w32 (ofZ w32 (c .before .before .half .result))) (20 - origin c .args .shape .depth) (lineSum (held c) (origin c .args .columns * y) 2 (c .put-10242 .last .1 .1 .1 .0) (2 * origin c .args .shape .width) pairs x)) ++ drop (origin c .args .shape .height * origin c .args .shape .width) (joined (middle c) .if1 .r)
     ≡ inverseBlock (planOf (origin c .args .shape)) (origin c .args .c .now)
 along-gives c pairs e =
-    along-is (given (origin c)) (fits (origin c)) (c .weights-10242 .ensures) (between (given (origin c)) _ _ (settled (middle c))) pairs e
-    (joined (middle c) .if1 .r) (half-is c ∙ c .before .half .ensures .0) (first-room (joined (middle c)))
+    along-is (given (origin c)) (fits (origin c)) (c .put-10242 .ensures .1) (between (given (origin c)) _ _ (settled (middle c))) pairs e
+    (joined (middle c) .if1 .r) (half-is c ∙ c .before .before .half .ensures .0) (first-room (joined (middle c)))
 
 slice-aggregate-lines-9 : tie.Need-slice-aggregate-lines-9
 slice-aggregate-lines-9 c = held-full (c .before .before)
 
 slice-aggregate-lines-10 : tie.Need-slice-aggregate-lines-10
-slice-aggregate-lines-10 c = search needs
+slice-aggregate-lines-10 c = sym (c .before .before .before .put-10242 .ensures .0)
 
 lines-requires-5 : tie.Need-lines-requires-5
 lines-requires-5 c κs = along-asks (c .before .before .before .before) 2 (four (origin (c .before .before .before .before) .args .columns) (given (origin (c .before .before .before .before)) .size-columns) (c .before .before .before .if4 .taken))
@@ -234,7 +244,7 @@ slice-aggregate-lines-11 : tie.Need-slice-aggregate-lines-11
 slice-aggregate-lines-11 c = held-full (c .before .before .before)
 
 slice-aggregate-lines-12 : tie.Need-slice-aggregate-lines-12
-slice-aggregate-lines-12 c = search needs
+slice-aggregate-lines-12 c = sym (c .before .before .before .before .put-10242 .ensures .0)
 
 lines-requires-6 : tie.Need-lines-requires-6
 lines-requires-6 c κs = along-asks (c .before .before .before .before .before) 4 (eight (origin (c .before .before .before .before .before) .args .columns) (given (origin (c .before .before .before .before .before)) .size-columns) (omega (arith, c .before .before .before .before .if4 .left)) (c .before .before .before .if5 .taken))
@@ -243,7 +253,7 @@ slice-aggregate-lines-13 : tie.Need-slice-aggregate-lines-13
 slice-aggregate-lines-13 c = held-full (c .before .before .before .before)
 
 slice-aggregate-lines-14 : tie.Need-slice-aggregate-lines-14
-slice-aggregate-lines-14 c = search needs
+slice-aggregate-lines-14 c = sym (c .before .before .before .before .before .put-10242 .ensures .0)
 
 lines-requires-7 : tie.Need-lines-requires-7
 lines-requires-7 c κs = along-asks (c .before .before .before .before .before .before) 8 (sixteen (origin (c .before .before .before .before .before .before) .args .columns) (given (origin (c .before .before .before .before .before .before)) .size-columns) (omega (arith, c .before .before .before .before .if5 .left)) (c .before .before .before .if6 .taken))
@@ -252,7 +262,7 @@ slice-aggregate-lines-15 : tie.Need-slice-aggregate-lines-15
 slice-aggregate-lines-15 c = held-full (c .before .before .before .before)
 
 slice-aggregate-lines-16 : tie.Need-slice-aggregate-lines-16
-slice-aggregate-lines-16 c = search needs
+slice-aggregate-lines-16 c = sym (c .before .before .before .before .before .put-10242 .ensures .0)
 
 lines-requires-8 : tie.Need-lines-requires-8
 lines-requires-8 c κs = along-asks (c .before .before .before .before .before .before) 16 (thirty-two (origin (c .before .before .before .before .before .before) .args .columns) (given (origin (c .before .before .before .before .before .before)) .size-columns) (omega (arith, c .before .before .before .if6 .left)))
@@ -305,7 +315,7 @@ large-spec =
     mul-full
     slice-aggregate-zip
     zip-requires
-    weights-1024-requires
+    put-1024-requires
     slice-aggregate-lines
     slice-aggregate-lines-2
     lines-requires
@@ -322,12 +332,12 @@ large-spec =
     part-settle-start
     part-settle-end
     sub-settle-2
-    part-m-start
-    part-m-end
+    part-z-start
+    part-z-end
     settle-requires
     sub-last
     half-requires
-    weights-1024-requires-2
+    put-1024-requires-2
     slice-aggregate-lines-9
     slice-aggregate-lines-10
     lines-requires-5

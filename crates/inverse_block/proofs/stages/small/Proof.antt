@@ -6,7 +6,7 @@ use mathlib.Core.Logic.{⊎-elim}
 use mathlib.Core.List.{List, _++_}
 use Prim.Native.Nat.{ℕ, _*_, _-_, _≤_}
 use native.Mathlib.Nat.{mul-le-mul-left, mul-comm}
-use lib.ListN.{length, take, drop, replicate, length-append, length-drop}
+use lib.ListN.{length, take, drop, length-append, length-drop}
 use lib.IntN.{ℤ, pos}
 use mir.Syntax.{w32}
 use mir.Val.{toZ, ofZ}
@@ -18,7 +18,7 @@ use Rattle.meaning.specs.Plan.{planOf, shortRange}
 use Rattle.meaning.specs.Inverse.{rails, inverseBlock}
 use Rattle.meaning.proofs.Cases.{depth-cases, size-in}
 use Rattle.product.specs.Product.{lineSum, shifted, Rounding, Lines}
-use Rattle.inverse_block.specs.Part.{Given, Room}
+use Rattle.inverse_block.specs.Given.{Given, Room}
 use Rattle.inverse_block.specs.Settled.{railsOf}
 use Rattle.inverse_block.proofs.Work.{four, eight, few, zip-given, down-given, down-is, sums, sums-long, middles, middles-long, settled-rails, block-long, between, along-given, along-is, room-full}
 use Rattle.inverse_block.proofs.stages.small.Statement.{statement}
@@ -70,18 +70,28 @@ slice-aggregate-zip c = refl
 zip-requires : tie.Need-zip-requires
 zip-requires c κs = let s = c .before .before .before in zip-given (given s) (fits s) refl
 
-weights-128-requires : tie.Need-weights-128-requires
-weights-128-requires c κs = given (c .before .before .before .before .before) .block .taken .height
+put-128-requires : tie.Need-put-128-requires
+put-128-requires c κs = (given (c .before .before .before .before .before .before) .block .taken .height, refl)
+
+-- both lists are as long as they were
+abbrev zipped : tie.After-put-128 → List ℤ
+zipped c = c .before .before .before .zip .last .1 .1 .1 .1 .0
+
+zipped-long : (c : tie.After-put-128) → length (zipped c) ≡ 128
+zipped-long c = let e : 128 ≡ length (zipped c) = search needs in sym e
+
+laid-long : (c : tie.After-put-128) → length (c .put-128 .last .1 .1 .1 .0) ≡ 128
+laid-long c = c .put-128 .ensures .0
 
 -- the lines down the columns
-abbrev start : tie.After-weights-128 → tie.Start
-start c = c .before .before .before .before .before .before
+abbrev start : tie.After-put-128 → tie.Start
+start c = c .before .before .before .before .before .before .before
 
-down-asks : (c : tie.After-weights-128) (pairs : ℕ) → 2 * pairs ≡ start c .args .rows → Lines (start c .args .shape .height) (start c .args .columns) pairs (c .weights-128 .result) 2 (2 * start c .args .shape .height) (c .before .before .zip .last .1 .1 .1 .1 .0) (2 * start c .args .columns)
-down-asks c = down-given (given (start c)) (fits (start c)) (c .weights-128 .ensures) (c .before .before .zip .ensures)
+down-asks : (c : tie.After-put-128) (pairs : ℕ) → 2 * pairs ≡ start c .args .rows → Lines (start c .args .shape .height) (start c .args .columns) pairs (c .put-128 .last .1 .1 .1 .0) 2 (2 * start c .args .shape .height) (c .before .before .before .zip .last .1 .1 .1 .1 .0) (2 * start c .args .columns)
+down-asks c = down-given (given (start c)) (fits (start c)) (c .put-128 .ensures .1) (c .before .before .before .zip .ensures)
 
-down-gives : (c : tie.After-weights-128) (pairs : ℕ) → 2 * pairs ≡ start c .args .rows → block (start c .args .columns) (start c .args .shape .height) (λ x y. shifted (pos 64) 7 (lineSum (c .weights-128 .result) (2 * y) (2 * start c .args .shape .height) (c .before .before .zip .last .1 .1 .1 .1 .0) (2 * start c .args .columns) pairs x)) ≡ sums (given (start c))
-down-gives c = down-is (given (start c)) (fits (start c)) (c .weights-128 .ensures) (c .before .before .zip .ensures)
+down-gives : (c : tie.After-put-128) (pairs : ℕ) → 2 * pairs ≡ start c .args .rows → block (start c .args .columns) (start c .args .shape .height) (λ x y. shifted (pos 64) 7 (lineSum (c .put-128 .last .1 .1 .1 .0) (2 * y) (2 * start c .args .shape .height) (c .before .before .before .zip .last .1 .1 .1 .1 .0) (2 * start c .args .columns) pairs x)) ≡ sums (given (start c))
+down-gives c = down-is (given (start c)) (fits (start c)) (c .put-128 .ensures .1) (c .before .before .before .zip .ensures)
 
 slice-aggregate-lines : tie.Need-slice-aggregate-lines
 slice-aggregate-lines c = search needs
@@ -135,17 +145,17 @@ part-settle-end c = omega (arith, first-long (c .before), room (began (c .before
 sub-settle-2 : tie.Need-sub-settle-2
 sub-settle-2 c = omega arith
 
-part-m-start : tie.Need-part-m-start
-part-m-start c = omega arith
+part-z-start : tie.Need-part-z-start
+part-z-start c = omega arith
 
-part-m-end : tie.Need-part-m-end
-part-m-end c = omega (arith, fits (began (c .before .before)) .between)
+part-z-end : tie.Need-part-z-end
+part-z-end c = omega (arith, fits (began (c .before .before)) .between, zipped-long (c .before .before .before))
 
 settle-requires : tie.Need-settle-requires
 settle-requires c κs =
     let J = c .before .before .before in
     let e : length (take (area (began J) - 0) (J .if1 .r)) ≡ area (began J) = part-long (area (began J)) (J .if1 .r) (omega (arith, first-long J, room (began J))) in
-    (e ∙ sym (part-long (area (began J)) (replicate 128 (pos 0)) (fits (began J) .between)), omega (arith, fits (began J) .between))
+    (e ∙ sym (part-long (area (began J)) (zipped (J .before)) (omega (arith, fits (began J) .between, zipped-long (J .before)))), omega (arith, fits (began J) .between))
 
 -- the part of r that is settled, and what comes of it
 part : (c : tie.Joined1) → take (area (began c) - 0) (c .if1 .r) ≡ sums (given (began c))
@@ -166,42 +176,42 @@ sub-last c = omega (arith, depth (began (joined (c .before .before))))
 half-requires : tie.Need-half-requires
 half-requires c κs = let d = depth (began (joined (c .before .before))) in (omega arith, omega arith)
 
-weights-128-requires-2 : tie.Need-weights-128-requires-2
-weights-128-requires-2 c κs = given (began (joined (c .before .before .before))) .block .taken .width
+put-128-requires-2 : tie.Need-put-128-requires-2
+put-128-requires-2 c κs = (given (began (joined (c .before .before .before .before))) .block .taken .width, laid-long (joined (c .before .before .before .before) .before))
 
 -- the lines along the rows
-abbrev middle : tie.After-weights-1282 → tie.After-settle
-middle c = c .before .before .before .before
+abbrev middle : tie.After-put-1282 → tie.After-settle
+middle c = c .before .before .before .before .before
 
-abbrev origin : tie.After-weights-1282 → tie.Start
+abbrev origin : tie.After-put-1282 → tie.Start
 origin c = began (joined (middle c))
 
-abbrev held : tie.After-weights-1282 → List ℤ
-held c = middle c .settle .last .1 .0 ++ drop (area (origin c) - 0) (replicate 128 (pos 0))
+abbrev held : tie.After-put-1282 → List ℤ
+held c = middle c .settle .last .1 .0 ++ drop (area (origin c) - 0) (zipped (joined (middle c) .before))
 
-half-is : (c : tie.After-weights-1282) → toZ w32 (ofZ w32 (c .before .half .result)) ≡ c .before .half .result
-half-is c = toZ-ofZ w32 (c .before .half .result) (search needs)
+half-is : (c : tie.After-put-1282) → toZ w32 (ofZ w32 (c .before .before .half .result)) ≡ c .before .before .half .result
+half-is c = toZ-ofZ w32 (c .before .before .half .result) (search needs)
 
-held-full : (c : tie.After-weights-1282) → 128 ≡ length (held c)
-held-full c = room-full 128 (area (origin c)) (middle c .settle .last .1 .0) (replicate 128 (pos 0)) (ap length (settled (middle c)) ∙ middles-long (given (origin c))) refl (fits (origin c) .between)
+held-full : (c : tie.After-put-1282) → 128 ≡ length (held c)
+held-full c = room-full 128 (area (origin c)) (middle c .settle .last .1 .0) (zipped (joined (middle c) .before)) (ap length (settled (middle c)) ∙ middles-long (given (origin c))) (zipped-long (joined (middle c) .before)) (fits (origin c) .between)
 
-along-asks : (c : tie.After-weights-1282) (pairs : ℕ) → 2 * pairs ≡ origin c .args .columns
-    → Lines (origin c .args .shape .height) (origin c .args .shape .width) pairs (held c) (origin c .args .columns) 2 (c .weights-1282 .result) (2 * origin c .args .shape .width)
-    × (Rounding (toZ w32 (ofZ w32 (c .before .half .result))) (20 - origin c .args .shape .depth) × (origin c .args .shape .height * origin c .args .shape .width ≤ length (joined (middle c) .if1 .r)))
+along-asks : (c : tie.After-put-1282) (pairs : ℕ) → 2 * pairs ≡ origin c .args .columns
+    → Lines (origin c .args .shape .height) (origin c .args .shape .width) pairs (held c) (origin c .args .columns) 2 (c .put-1282 .last .1 .1 .1 .0) (2 * origin c .args .shape .width)
+    × (Rounding (toZ w32 (ofZ w32 (c .before .before .half .result))) (20 - origin c .args .shape .depth) × (origin c .args .shape .height * origin c .args .shape .width ≤ length (joined (middle c) .if1 .r)))
 along-asks c pairs e = (
-  along-given (given (origin c)) (fits (origin c)) (c .weights-1282 .ensures) (between (given (origin c)) _ _ (settled (middle c))) pairs e,
+  along-given (given (origin c)) (fits (origin c)) (c .put-1282 .ensures .1) (between (given (origin c)) _ _ (settled (middle c))) pairs e,
   (
-    subst (λ (z : ℤ). Rounding z (20 - origin c .args .shape .depth)) (sym (half-is c)) (c .before .half .ensures .1),
+    subst (λ (z : ℤ). Rounding z (20 - origin c .args .shape .depth)) (sym (half-is c)) (c .before .before .half .ensures .1),
     omega (arith, first-room (joined (middle c)), mul-comm (origin c .args .shape .width) (origin c .args .shape .height)),
   ),
 )
 
-along-gives : (c : tie.After-weights-1282) (pairs : ℕ) → 2 * pairs ≡ origin c .args .columns
-    → block (origin c .args .shape .width) (origin c .args .shape .height) (λ x y. shifted (toZ w32 (ofZ w32 (c .before .half .result))) (20 - origin c .args .shape .depth) (lineSum (held c) (origin c .args .columns * y) 2 (c .weights-1282 .result) (2 * origin c .args .shape .width) pairs x)) ++ drop (origin c .args .shape .height * origin c .args .shape .width) (joined (middle c) .if1 .r)
+along-gives : (c : tie.After-put-1282) (pairs : ℕ) → 2 * pairs ≡ origin c .args .columns
+    → block (origin c .args .shape .width) (origin c .args .shape .height) (λ x y. shifted (toZ w32 (ofZ w32 (c .before .before .half .result))) (20 - origin c .args .shape .depth) (lineSum (held c) (origin c .args .columns * y) 2 (c .put-1282 .last .1 .1 .1 .0) (2 * origin c .args .shape .width) pairs x)) ++ drop (origin c .args .shape .height * origin c .args .shape .width) (joined (middle c) .if1 .r)
     ≡ inverseBlock (planOf (origin c .args .shape)) (origin c .args .c .now)
 along-gives c pairs e =
-    along-is (given (origin c)) (fits (origin c)) (c .weights-1282 .ensures) (between (given (origin c)) _ _ (settled (middle c))) pairs e
-    (joined (middle c) .if1 .r) (half-is c ∙ c .before .half .ensures .0) (first-room (joined (middle c)))
+    along-is (given (origin c)) (fits (origin c)) (c .put-1282 .ensures .1) (between (given (origin c)) _ _ (settled (middle c))) pairs e
+    (joined (middle c) .if1 .r) (half-is c ∙ c .before .before .half .ensures .0) (first-room (joined (middle c)))
 
 slice-aggregate-lines-5 : tie.Need-slice-aggregate-lines-5
 slice-aggregate-lines-5 c = held-full (c .before .before)
@@ -251,7 +261,7 @@ small-spec =
     mul-full
     slice-aggregate-zip
     zip-requires
-    weights-128-requires
+    put-128-requires
     slice-aggregate-lines
     slice-aggregate-lines-2
     lines-requires
@@ -262,12 +272,12 @@ small-spec =
     part-settle-start
     part-settle-end
     sub-settle-2
-    part-m-start
-    part-m-end
+    part-z-start
+    part-z-end
     settle-requires
     sub-last
     half-requires
-    weights-128-requires-2
+    put-128-requires-2
     slice-aggregate-lines-5
     slice-aggregate-lines-6
     lines-requires-3

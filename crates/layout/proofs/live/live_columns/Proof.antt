@@ -1,10 +1,9 @@
 -- `live_columns` meets its contract: what is clear among the marks is a column with nothing. Assumes nothing.
 use borrow.Author.Needs.{needs}
 use native.Mathlib.Omega.{arith}
-use mathlib.Core.Path.{_≡_, refl, sym, ap, _∙_}
-use Prim.Native.Nat.{ℕ, _*_, _-_, _≤_, _<_}
-use native.Mathlib.Nat.{mul-one, sub-zero}
-use lib.ListN.{length, take}
+use mathlib.Core.Path.{sym, _∙_}
+use Prim.Native.Nat.{_≤_}
+use native.Mathlib.Nat.{mul-one}
 use Rattle.algebra.proofs.Lists.{part-long}
 use Rattle.meaning.proofs.Cases.{size-in}
 use Rattle.layout.proofs.Looking.{columns-live}

@@ -1,6 +1,5 @@
 -- `add_file` ends. Assumes nothing.
 use borrow.Author.Needs.{needs}
-use native.Mathlib.Omega.{arith}
 use Rattle.print_report.proofs.files.add_file.Statement.{statement}
 use Rattle.print_report.proofs.files.add_file.Tie as tie
 

@@ -1,5 +1,4 @@
 -- `side` meets its contract. Assumes nothing.
-use mathlib.Core.Path.{refl}
 use native.Mathlib.Omega.{arith}
 use borrow.Author.Tests.{eq-eqb, ne-eqb}
 use Rattle.report.proofs.totals.side.Statement.{statement}

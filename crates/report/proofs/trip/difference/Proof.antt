@@ -2,15 +2,15 @@
 use native.Mathlib.Omega.{arith}
 use mathlib.Core.Path.{_≡_, refl, sym, ap, _∙_, subst}
 use mathlib.Core.Bool.{true, false}
-use Prim.Native.Nat.{ℕ}
 use lib.Dec.{T}
 use lib.IntN.{ℤ, pos, natAbs, _-ℤ_}
 use lib.Signed.{nonNeg, ltZ}
-use mir.Syntax.{w16, w32, w64}
-use mir.Val.{SFits, Fits}
+use mir.Syntax.{w32, w64}
+use mir.Val.{Fits}
 use Rattle.algebra.proofs.Order.{in-fits}
 use Rattle.algebra.proofs.Machine.{MV, arg, arg≤, lit, cast, cast-fits, sub, sub-fits, val}
-use Rattle.report.proofs.Numbers.{negative, other, apart-in}
+use Rattle.algebra.proofs.Signs.{below-turned, not-below}
+use Rattle.report.proofs.Numbers.{apart-in}
 use Rattle.report.proofs.trip.difference.Statement.{statement}
 use Rattle.report.proofs.trip.difference.Tie as tie
 
@@ -45,16 +45,16 @@ sub-result c = sub-fits (lit w32 0) (off (c .before)) tt
 cast-result : tie.Need-cast-result
 cast-result c =
     let z = c .before .args .given -ℤ c .before .args .back in
-    let n = negative z (below c) in
+    let n = below-turned z (below c) in
     subst (λ (y : ℤ). T (nonNeg y) × Fits w64 (natAbs y)) (sym (val (turned (c .before)))) (n .0, word (c .before) (pos 0 -ℤ z) (n .1))
 
 cast-result-2 : tie.Need-cast-result-2
 cast-result-2 c =
     let z = c .before .args .given -ℤ c .before .args .back in
-    subst (λ (y : ℤ). T (nonNeg y) × Fits w64 (natAbs y)) (sym (val (off (c .before)))) (other z (above c), word (c .before) z refl)
+    subst (λ (y : ℤ). T (nonNeg y) × Fits w64 (natAbs y)) (sym (val (off (c .before)))) (not-below z (above c), word (c .before) z refl)
 
 returns : tie.Need-returns
-returns c = ap natAbs (val (turned (c .before))) ∙ negative (c .before .args .given -ℤ c .before .args .back) (below c) .1
+returns c = ap natAbs (val (turned (c .before))) ∙ below-turned (c .before .args .given -ℤ c .before .args .back) (below c) .1
 
 returns-2 : tie.Need-returns-2
 returns-2 c = ap natAbs (val (off (c .before)))

@@ -1,19 +1,15 @@
 -- `largest_difference` meets its contract. Assumes nothing.
-use mathlib.Core.Path.{_≡_, refl, sym, ap, _∙_, subst}
-use Prim.Native.Nat.{ℕ, _+_, _*_, _-_, _<_, _≤_, max}
+use mathlib.Core.Path.{_≡_, sym, ap, _∙_, subst}
+use Prim.Native.Nat.{ℕ, _-_, _≤_, max}
 use lib.IntN.{ℤ, natAbs, _-ℤ_}
 use lib.ListN.{length}
 use mir.Syntax.{w16, w32}
-use mir.Val.{toZ, ofZ}
 use mir.ValLaws.{toZ-ofZ}
-use Rattle.algebra.specs.Sum.{sumℕ}
 use Rattle.algebra.specs.Lists.{at}
 use Rattle.report.specs.Trip.{apart, greatest}
 use borrow.Author.Needs.{needs}
 use native.Mathlib.Omega.{arith}
-use Rattle.report.proofs.Numbers.{greatest-none, greatest-next, sum-none, squares-in, apart-in}
-use Rattle.algebra.proofs.Order.{in-fits}
-use Rattle.algebra.proofs.Sum.{sumℕ-next}
+use Rattle.report.proofs.Numbers.{greatest-none, greatest-next}
 use Rattle.report.proofs.trip.largest_difference.Statement.{statement}
 use Rattle.report.proofs.trip.largest_difference.Tie as tie
 

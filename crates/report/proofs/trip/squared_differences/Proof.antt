@@ -1,18 +1,17 @@
 -- `squared_differences` meets its contract. Assumes nothing.
-use mathlib.Core.Path.{_≡_, refl, sym, ap, _∙_, subst}
-use Prim.Native.Nat.{ℕ, _+_, _*_, _-_, _<_, _≤_, max}
+use mathlib.Core.Path.{_≡_, sym, ap, _∙_, subst}
+use Prim.Native.Nat.{ℕ, _+_, _*_, _-_, _≤_}
 use lib.IntN.{ℤ, natAbs, _-ℤ_}
 use lib.ListN.{length}
 use mir.Syntax.{w16, w32}
-use mir.Val.{toZ, ofZ}
 use mir.ValLaws.{toZ-ofZ}
 use Rattle.algebra.specs.Sum.{sumℕ}
 use Rattle.algebra.specs.Lists.{at}
-use Rattle.report.specs.Trip.{apart, greatest}
+use Rattle.report.specs.Trip.{apart}
 use borrow.Author.Needs.{needs}
 use native.Mathlib.Nat.{mul-le-mul}
 use native.Mathlib.Omega.{arith}
-use Rattle.report.proofs.Numbers.{greatest-none, greatest-next, sum-none, squares-in, apart-in}
+use Rattle.report.proofs.Numbers.{sum-none, apart-in}
 use Rattle.algebra.proofs.Order.{in-fits}
 use Rattle.algebra.proofs.Sum.{sumℕ-next}
 use Rattle.report.proofs.trip.squared_differences.Statement.{statement}

@@ -3,9 +3,8 @@ use mathlib.Core.Path.{_≡_}
 use Prim.Native.Nat.{_+_, _-_, _≤_}
 use lib.ListN.{length}
 use denote.Ref.{now}
-use Rattle.block_file.specs.Cursor.{start}
 use Rattle.salvage.specs.Pieces.{droppedOf, dropped}
-use Rattle.salvage.proofs.Joining.{rest, rest-end, begun, count-more}
+use Rattle.salvage.proofs.Joining.{rest, rest-end, count-more}
 use mathlib.Core.Path.{ap}
 use Rattle.block_file.specs.declared.cursor.Cursor.{Cursor}
 use Rattle.salvage.proofs.Lengths.{dropped-short}

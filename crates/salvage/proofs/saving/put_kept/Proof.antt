@@ -1,10 +1,9 @@
 -- `put_kept` meets its contract. Assumes nothing.
-use mathlib.Core.Path.{_≡_, ap}
-use Prim.Native.Nat.{_+_, _-_, _≤_}
+use mathlib.Core.Path.{ap}
+use Prim.Native.Nat.{_-_, _≤_}
 use lib.ListN.{length}
 use denote.Ref.{now}
 use Rattle.block_file.specs.declared.cursor.Cursor.{Cursor}
-use Rattle.block_file.specs.Cursor.{start}
 use Rattle.salvage.specs.Pieces.{keptOf, written}
 use Rattle.salvage.proofs.Joining.{rest, Writing, begun, count-more, written-more, ended, within}
 use Rattle.salvage.proofs.Lengths.{written-short}

@@ -1,5 +1,4 @@
 -- `piece_at` meets its contract. Assumes nothing.
-use mathlib.Core.Path.{_≡_}
 use Prim.Native.Nat.{_-_}
 use lib.Dec.{eqb}
 use borrow.Author.Needs.{needs}

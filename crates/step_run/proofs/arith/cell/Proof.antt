@@ -1,5 +1,6 @@
 -- `arith::cell`: past all cells where the number is negative. Assumes nothing.
-use Rattle.step_run.proofs.Laws.{cell-below, cell-from, not-below, count-fits}
+use Rattle.algebra.proofs.Signs.{not-below}
+use Rattle.step_run.proofs.Laws.{cell-below, cell-from, count-fits}
 use lib.Signed.{ltZ}
 use lib.IntN.{pos}
 use mathlib.Core.Bool.{true, false}

@@ -5,7 +5,6 @@ use Rattle.algebra.specs.Lists.{at}
 use lib.IntN.{pos}
 use mir.ValLaws.{toZ-ofZ}
 use mir.Syntax.{w32}
-use Prim.Native.Nat.{_-_}
 use mathlib.Core.Path.{sym, ap, _∙_}
 use borrow.Author.Needs.{needs}
 use Rattle.step_run.proofs.run.held.Statement.{statement}

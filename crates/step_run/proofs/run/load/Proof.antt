@@ -11,7 +11,7 @@ use lib.ListN.{length, take, drop, getD, replicate, length-replicate}
 use mir.Syntax.{w16}
 use mir.ValLaws.{toZ-ofZ}
 use Rattle.steps.proofs.Front.{same-at, copy-more, copy-long, copied}
-use Rattle.step_run.proofs.Laws.{wider, cast-back}
+use Rattle.algebra.proofs.Signs.{wider, widened}
 use Rattle.step_run.proofs.run.load.Statement.{statement}
 use Rattle.step_run.proofs.run.load.Tie as tie
 
@@ -66,7 +66,7 @@ loop-again c =
     let flags = replicate (length (s .x .now)) true in (
       omega arith,
       (
-        rw (cast-back (getD (s .x .now) i (pos 0)) (record { sfits = c .values .given }), inv .0) (copy-more (s .values .now) i (s .x .now) (pos 0) (omega arith) (omega arith)),
+        rw (widened (getD (s .x .now) i (pos 0)) (record { sfits = c .values .given }), inv .0) (copy-more (s .values .now) i (s .x .now) (pos 0) (omega arith) (omega arith)),
         rw (inv .1) (rw (same-at (length (s .x .now)) i true) at (copy-more (s .written .now) i flags true (omega (arith, length-replicate (length (s .x .now)) true)) (omega arith))),
       ),
     )

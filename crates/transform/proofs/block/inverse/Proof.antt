@@ -18,10 +18,11 @@ use Rattle.meaning.specs.Inverse.{rails, inverseBlock, firstOutside, inverseOut
 use Rattle.meaning.proofs.Cases.{size-in}
 use Rattle.meaning.specs.Taken.{TakenBlock}
 use Rattle.meaning.proofs.Accepted.{block-taken}
-use Rattle.meaning.proofs.KeptPart.{columns-kept}
+use Rattle.meaning.proofs.KeptPart.{columns-kept, rows-kept}
 use Rattle.layout.specs.Live.{Live}
-use Rattle.inverse_block.specs.Part.{Part}
-use Rattle.inverse_block.proofs.Inside.{live-part, kept-part}
+use Rattle.layout.specs.Part.{Part}
+use Rattle.layout.proofs.Inside.{kept-part}
+use Rattle.inverse_block.proofs.Inside.{live-part}
 use Rattle.transform.proofs.block.inverse.Statement.{statement}
 use Rattle.transform.proofs.block.inverse.Tie as tie
 
@@ -117,7 +118,7 @@ stages-requires c κs =
       size-rows = C .before .rows .ensures .size;
       size-columns = C .columns .ensures .size;
       live = live C;
-      kept = kept-part (s .args .shape) (s .args .coefficients .now) (w .long) (w .taken) (omega (arith, c .before .before .hunt .ensures, c .before .if2 .left));
+      kept = kept-part (planOf (s .args .shape)) (s .args .coefficients .now) (w .long) (columns-kept (s .args .shape) (w .taken) .within) (rows-kept (s .args .shape) (w .taken) .within) (omega (arith, c .before .before .hunt .ensures, c .before .if2 .left));
     }
 
 acceptance-requires : tie.Need-acceptance-requires

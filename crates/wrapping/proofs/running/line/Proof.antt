@@ -44,16 +44,16 @@ line-of-requires-3 c κs =
     let S = c .before .before .before .before .before .before .before in
     (feed (c .before .before .before .if3 .taken) 8 refl (omega arith) (S .args .kind) (S .args .forward) (c .before .before .zipped-16 .ensures) (S .args .x .now) (S .pre .0 .long) (S .pre .1), S .pre .0 .room ∙ sym (S .pre .0 .long))
 
-zipped-32-requires : tie.Need-zipped-32-requires
-zipped-32-requires c κs = search needs
+put-32-requires : tie.Need-put-32-requires
+put-32-requires c κs = search needs
 
 slice-aggregate-line-of-4 : tie.Need-slice-aggregate-line-of-4
 slice-aggregate-line-of-4 c = search needs
 
 line-of-requires-4 : tie.Need-line-of-requires-4
 line-of-requires-4 c κs =
-    let S = c .before .before .before .before .before .before .before in
-    (feed (last S (c .before .before .before .before .before .if1 .left) (c .before .before .before .before .if2 .left) (c .before .before .before .if3 .left)) 16 refl (omega arith) (S .args .kind) (S .args .forward) (c .before .before .zipped-32 .ensures) (S .args .x .now) (S .pre .0 .long) (S .pre .1), S .pre .0 .room ∙ sym (S .pre .0 .long))
+    let S = c .before .before .before .before .before .before .before .before in
+    (feed (last S (c .before .before .before .before .before .before .if1 .left) (c .before .before .before .before .before .if2 .left) (c .before .before .before .before .if3 .left)) 16 refl (omega arith) (S .args .kind) (S .args .forward) (c .before .before .put-32 .ensures .1) (S .args .x .now) (S .pre .0 .long) (S .pre .1), S .pre .0 .room ∙ sym (S .pre .0 .long))
 
 same-length : tie.Need-same-length
 same-length c = search needs
@@ -84,8 +84,8 @@ same-length-4 c = search needs
 
 returns-4 : tie.Need-returns-4
 returns-4 c =
-    let S = c .before .before .before .before .before .before .before .before .before in
-    is-line (last S (c .before .before .before .before .before .before .before .if1 .left) (c .before .before .before .before .before .before .if2 .left) (c .before .before .before .before .before .if3 .left)) 16 refl (omega arith) (S .args .kind) (S .args .forward) (c .before .before .before .before .zipped-32 .ensures) (S .args .x .now) (S .pre .0 .long) _ (c .before .line-of4 .ensures)
+    let S = c .before .before .before .before .before .before .before .before .before .before in
+    is-line (last S (c .before .before .before .before .before .before .before .before .if1 .left) (c .before .before .before .before .before .before .before .if2 .left) (c .before .before .before .before .before .before .if3 .left)) 16 refl (omega arith) (S .args .kind) (S .args .forward) (c .before .before .before .before .put-32 .ensures .1) (S .args .x .now) (S .pre .0 .long) _ (c .before .line-of4 .ensures)
 
 pub line-spec : {M : Type 1} → statement M
 line-spec =
@@ -100,7 +100,7 @@ line-spec =
     zipped-16-requires
     slice-aggregate-line-of-3
     line-of-requires-3
-    zipped-32-requires
+    put-32-requires
     slice-aggregate-line-of-4
     line-of-requires-4
     same-length

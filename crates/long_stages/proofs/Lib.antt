@@ -1,0 +1,6 @@
+pub mod Edge
+pub mod Summing
+pub mod Ceil
+pub mod Rails
+pub mod Whole
+pub mod LivePart
