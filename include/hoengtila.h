@@ -25,6 +25,7 @@
  *  16  row of blocks: more than 64
  *  17  steps: a cell is read that was not written
  *  18  steps: more than 2,048 steps or cells
+ *  19  thin blocks: a work area is shorter than width * height
  *  20  the kept columns or the kept rows are 0, or more than hoengtila_shape_of gives
  *  21  a line whose sums wrap: the order is not each of 0..n-1 once
  *  22  totals: 65,536 blocks were given before
@@ -38,7 +39,7 @@
  *
  * 10 to 13 are met by the programs that read block files (`blocks`), and by no function here.
  *
- * In this order: shapes and answers; lines; blocks; rows of blocks and long numbers; totals; pictures; broken files; steps.
+ * In this order: shapes and answers; lines; blocks; rows of blocks, long numbers and thin blocks; totals; pictures; broken files; steps.
  */
 #ifndef HOENGTILA_H
 #define HOENGTILA_H
@@ -109,7 +110,7 @@ hoengtila_answer hoengtila_block_inverse(hoengtila_shape shape, const int16_t *c
  * 9. */
 hoengtila_answer hoengtila_block_forward(hoengtila_shape shape, const int16_t *residuals, size_t residuals_len, int16_t *coefficients, size_t coefficients_len);
 
-/* ---- Rows of blocks and long numbers: the inverse ---- */
+/* ---- Rows of blocks, long numbers and thin blocks: the inverse ---- */
 
 /* A row of blocks in one call: up to 64 inverse blocks, with one buffer of all coefficients and one of all residuals, in which
  * the blocks lie one after the other. Block k is handed its own stretch of both, and answers[k] is what hoengtila_block_inverse
@@ -140,6 +141,22 @@ static inline uint32_t hoengtila_blocks_inverse(const hoengtila_shape *shapes, s
  * 5 + R - depth: with the switch on R is max(15, min(20, depth + 6)), with it off 15. Refusals: 1 to 5, 20, 6, 7, 8, then 27. With
  * the switch off and numbers of 16 bits it is hoengtila_block_inverse. */
 hoengtila_answer hoengtila_block_inverse_long(hoengtila_shape shape, uint32_t extended, const int32_t *coefficients, size_t coefficients_len, int32_t *residuals, size_t residuals_len);
+
+/* What thin blocks hand back. */
+typedef struct {
+    uint32_t number; /* 0, or the number of the refusal */
+    uint32_t place;  /* of the number that 8 refuses: column + row * width */
+    uint32_t rails;  /* values between the stages that the clip altered */
+    uint32_t area;   /* which area starts with the residuals: 1 or 2; 0 where the call was refused */
+} hoengtila_thin;
+
+/* Thin blocks, one sample wide or high: the inverse over two work areas of at least width * height numbers each. In this call alone a
+ * side may be 1 where the other is 4, 8 or 16; its kind is looked at (3, 4) and not used, and it keeps 1. Such a block has one stage,
+ * with the last shift 21 - depth and no value between: its residuals are the first width * height numbers of `first`, and `second`
+ * stays. Any other block has two stages and the residuals of hoengtila_block_inverse, in `second`; `first` then has the values between
+ * the stages at column + row * width, 0 in columns that are not kept. Numbers beyond width * height stay. Refusals: 1 to 5, 20, 6, 19,
+ * then 8; a refused call changes neither area. */
+hoengtila_thin hoengtila_block_inverse_thin(hoengtila_shape shape, const int16_t *coefficients, size_t coefficients_len, int32_t *first, size_t first_len, int32_t *second, size_t second_len);
 
 /* ---- Totals: a report over blocks of residuals that are run forward and back ---- */
 

@@ -11,6 +11,7 @@ enum { MOST = 4096 };
 enum { WEIGHT, LINE_FORWARD, LINE_INVERSE, LINE_FORWARD_PRODUCT, LINE_INVERSE_PRODUCT, BLOCK_INVERSE, BLOCK_FORWARD, SHAPE_OF };
 enum { BLOCK_ROW = 500 };
 enum { STEPS_RUN = 600, STEPS_LIST, STEPS_FORWARD };
+enum { BLOCK_INVERSE_THIN = 700 };
 enum { WRAPPED_FORWARD = 900, WRAPPED_INVERSE };
 enum { STRAY = 1300 };
 enum { BLOCK_INVERSE_LONG = 1400 };
@@ -28,6 +29,7 @@ static uint32_t order32[MOST];
 static int32_t in32[MOST];
 static int16_t out16[MOST + 1];
 static int32_t out32[MOST + 1];
+static int32_t other32[MOST + 1];
 static int32_t steps32[MOST_STEPS + 1];
 static int32_t outs32[MOST + 1];
 static hoengtila_shape shapes[MOST_BLOCKS];
@@ -164,6 +166,24 @@ static void block_inverse_long(void) {
     put(out32, sizeof *out32, out);
 }
 
+static void block_inverse_thin(void) {
+    hoengtila_shape s = shape();
+    uint32_t in = length(), first = length(), second = length();
+    hoengtila_thin t;
+    get(in16, sizeof *in16, in);
+    get(out32, sizeof *out32, first);
+    get(other32, sizeof *other32, second);
+    out32[first] = other32[second] = BEYOND;
+    t = hoengtila_block_inverse_thin(s, in16, in, out32, first, other32, second);
+    if (out32[first] != BEYOND || other32[second] != BEYOND) exit(3);
+    put(&t.number, sizeof t.number, 1);
+    put(&t.place, sizeof t.place, 1);
+    put(&t.rails, sizeof t.rails, 1);
+    put(&t.area, sizeof t.area, 1);
+    put(out32, sizeof *out32, first);
+    put(other32, sizeof *other32, second);
+}
+
 static uint32_t at_most(uint32_t most) {
     uint32_t n = number();
     if (n > most) exit(2);
@@ -260,6 +280,7 @@ int main(void) {
         else if (call == SHAPE_OF) shape_of();
         else if (call == STRAY) stray();
         else if (call == BLOCK_INVERSE_LONG) block_inverse_long();
+        else if (call == BLOCK_INVERSE_THIN) block_inverse_thin();
         else if (call == BLOCK_ROW) row();
         else if (call == STEPS_RUN) steps_run();
         else if (call == STEPS_LIST) steps_list();

@@ -44,6 +44,17 @@ pub struct Answer {
     pub rails: u32,
 }
 
+/// What a call over two areas hands back: the number of the refusal or 0, its place, the rail count, and which area starts with the
+/// residuals: 1 or 2, or 0 where the call was refused.
+#[repr(C)]
+#[derive(Clone, Copy, Debug, PartialEq, Eq)]
+pub struct Thin {
+    pub number: u32,
+    pub place: u32,
+    pub rails: u32,
+    pub area: u32,
+}
+
 /// What a run of a list of steps hands back beside its output: the number of the refusal or 0, and how many multiplying
 /// steps it took.
 #[repr(C)]
@@ -92,7 +103,7 @@ pub struct Saved {
 }
 
 mod c {
-    use super::{Answer, Listed, Picture, Saved, Shape, Taken, Written};
+    use super::{Answer, Listed, Picture, Saved, Shape, Taken, Thin, Written};
 
     // Nothing holds these lines to the header or to the Rattle source but the tests.
     unsafe extern "C" {
@@ -174,6 +185,15 @@ mod c {
             residuals: *mut i32,
             residuals_len: usize,
         ) -> Answer;
+        pub fn hoengtila_block_inverse_thin(
+            shape: Shape,
+            coefficients: *const i16,
+            coefficients_len: usize,
+            first: *mut i32,
+            first_len: usize,
+            second: *mut i32,
+            second_len: usize,
+        ) -> Thin;
         pub fn hoengtila_block_forward(
             shape: Shape,
             residuals: *const i16,
@@ -373,6 +393,28 @@ pub fn block_inverse_long(
             input.len(),
             output.as_mut_ptr(),
             output.len(),
+        )
+    }
+}
+
+/// The residuals of a block of coefficients of which one side may be 1: at the start of the area that is told, of two.
+#[inline]
+pub fn block_inverse_thin(
+    shape: Shape,
+    coefficients: &[i16],
+    first: &mut [i32],
+    second: &mut [i32],
+) -> Thin {
+    let input = coefficients;
+    unsafe {
+        c::hoengtila_block_inverse_thin(
+            shape,
+            input.as_ptr(),
+            input.len(),
+            first.as_mut_ptr(),
+            first.len(),
+            second.as_mut_ptr(),
+            second.len(),
         )
     }
 }

@@ -14,6 +14,7 @@ pub mod row;
 pub mod salvage;
 pub mod small;
 pub mod steps;
+pub mod thin;
 pub mod weights;
 pub mod wrapped;
 
@@ -25,6 +26,7 @@ pub use long::inverse_long;
 pub use picture::{read_picture, write_picture};
 pub use row::inverse_row;
 pub use small::{forward_4x4, inverse_4x4, Small};
+pub use thin::inverse_thin;
 pub use wrapped::{forward_wrapped, inverse_wrapped};
 
 #[cfg(test)]

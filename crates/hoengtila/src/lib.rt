@@ -1,5 +1,5 @@
 // The library for C and Rust: each public function of `transform`, `long_block`, `wrapping`, `block_row`, `round_trip`, `report`,
-// `step_run`, `step_lists`, `picture` and `salvage`, and the one that makes a shape, under the name and with the
+// `step_run`, `step_lists`, `picture` and `salvage`, `work` of `thin_block`, and the one that makes a shape, under the name and with the
 // arguments that include/hoengtila.h declares. A wrapper is one call and has the contract of what it calls; none has a `requires`, so whatever
 // numbers and lengths a caller hands over, the contract says what comes back. Read it beside the header.
 use meaning::Answer;
@@ -9,6 +9,7 @@ use picture::write::Written;
 use salvage::saving::Saved;
 use step_lists::Listed;
 use steps::Taken;
+use thin_block::Thin;
 ghost use mathlib.Core.Path.{_≡_};
 ghost use mathlib.Core.Bool.{not};
 ghost use mathlib.Core.List.{List};
@@ -25,6 +26,7 @@ ghost use Rattle.round_trip.specs.RoundTrip.{strayOrZero};
 ghost use Rattle.block_row.specs.Numbers.{shapesOf};
 ghost use Rattle.block_row.specs.Row.{RowOutcome, rowOutcome};
 ghost use Rattle.steps.specs.Numbers.{listOf};
+ghost use Rattle.thin_block.specs.Thin.{Areas, thinOutcome};
 ghost use Rattle.steps.specs.Outcome.{Result, runOutcome};
 ghost use Rattle.wrapping.specs.Outcome.{forwardWrapped, inverseWrapped};
 ghost use Rattle.picture.specs.Outcomes.{writeOutcome, readOutcome};
@@ -146,6 +148,18 @@ pub extern "C" fn hoengtila_block_inverse_long(
     ensures { λ r. ⌜ _≡_ {A = Outcome} (r, now (residuals .exit)) (longOutcome (not (eqb extended 0)) shape (now (coefficients .entry)) (now (residuals .entry))) ⌝ }
 {
     long_block::inverse(shape, extended != 0, coefficients, residuals)
+}
+
+#[no_mangle]
+pub extern "C" fn hoengtila_block_inverse_thin(
+    shape: Shape,
+    coefficients: &[i16],
+    first: &mut [i32],
+    second: &mut [i32],
+) -> Thin
+    ensures { λ r. ⌜ _≡_ {A = Areas} (record { answer = r; first = now (first .exit); second = now (second .exit) }) (thinOutcome shape (now (coefficients .entry)) (now (first .entry)) (now (second .entry))) ⌝ }
+{
+    thin_block::work(shape, coefficients, first, second)
 }
 
 #[no_mangle]

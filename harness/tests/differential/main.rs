@@ -14,5 +14,6 @@ mod rows;
 mod shapes;
 mod steps;
 mod strays;
+mod thin;
 mod weights;
 mod wrapped;

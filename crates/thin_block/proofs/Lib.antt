@@ -1,0 +1,10 @@
+pub mod Sides
+pub mod KeptLine
+pub mod Stages
+pub mod Passed
+pub mod Handing
+pub mod Areas
+pub mod NearLine
+pub mod AsInverse
+pub mod Numbers
+pub mod Unique

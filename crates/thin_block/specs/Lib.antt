@@ -1,0 +1,3 @@
+pub mod Thin
+pub mod Handed
+pub mod Given
