@@ -22,6 +22,7 @@
  *  12  block file: a shape, or kept numbers, of another length than theirs
  *  13  block file: data, or kept numbers, before any shape
  *  14  block file: more than 65,536 bytes
+ *  15  asking why: the place is not below width * height
  *  16  row of blocks: more than 64
  *  17  steps: a cell is read that was not written
  *  18  steps: more than 2,048 steps or cells
@@ -39,7 +40,8 @@
  *
  * 10 to 13 are met by the programs that read block files (`blocks`), and by no function here.
  *
- * In this order: shapes and answers; lines; blocks; rows of blocks, long numbers and thin blocks; totals; pictures; broken files; steps.
+ * In this order: shapes and answers; lines; blocks; rows of blocks, long numbers and thin blocks; asking why; totals; pictures; broken
+ * files; steps.
  */
 #ifndef HOENGTILA_H
 #define HOENGTILA_H
@@ -157,6 +159,27 @@ typedef struct {
  * the stages at column + row * width, 0 in columns that are not kept. Numbers beyond width * height stay. Refusals: 1 to 5, 20, 6, 19,
  * then 8; a refused call changes neither area. */
 hoengtila_thin hoengtila_block_inverse_thin(hoengtila_shape shape, const int16_t *coefficients, size_t coefficients_len, int32_t *first, size_t first_len, int32_t *second, size_t second_len);
+
+/* ---- Asking why: what the residual at a place of an inverse block is made of ---- */
+
+typedef struct {
+    uint32_t number; /* 0, or the number of the refusal */
+    uint32_t place;  /* of the number that 8 or 27 refuses: column + row * width */
+    int64_t exact;   /* the exact double sum */
+    int64_t middle_roundings; /* what the roundings between the stages added */
+    int64_t clippings;        /* what clipping added */
+    int64_t last_rounding;    /* what the last rounding added */
+} hoengtila_parts;
+
+/* The four parts of the residual at a place, column + row * width. Put over 2^(27 - depth) they add up to the residual:
+ * exact + middle_roundings + clippings + last_rounding is 2^(27 - depth) times what hoengtila_block_inverse writes there. `exact` is the
+ * sum of all kept coefficients, each times its two weights, with nothing rounded; what the roundings and the clip between the stages
+ * added is carried through the horizontal weights. Refusals, all four parts 0: 1 to 5, 20, 6, 8, then 15. */
+hoengtila_parts hoengtila_block_why(hoengtila_shape shape, const int16_t *coefficients, size_t coefficients_len, uint32_t place);
+
+/* The same of long numbers: the residual is that of hoengtila_block_inverse_long, and the power is 2^(12 + R - depth), with R as there,
+ * which is 2^(27 - depth) with the switch off. Refusals: 1 to 5, 20, 6, 8, 27, then 15. */
+hoengtila_parts hoengtila_block_why_long(hoengtila_shape shape, uint32_t extended, const int32_t *coefficients, size_t coefficients_len, uint32_t place);
 
 /* ---- Totals: a report over blocks of residuals that are run forward and back ---- */
 

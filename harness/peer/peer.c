@@ -9,6 +9,7 @@
 
 enum { MOST = 4096 };
 enum { WEIGHT, LINE_FORWARD, LINE_INVERSE, LINE_FORWARD_PRODUCT, LINE_INVERSE_PRODUCT, BLOCK_INVERSE, BLOCK_FORWARD, SHAPE_OF };
+enum { BLOCK_WHY = 400, BLOCK_WHY_LONG };
 enum { BLOCK_ROW = 500 };
 enum { STEPS_RUN = 600, STEPS_LIST, STEPS_FORWARD };
 enum { BLOCK_INVERSE_THIN = 700 };
@@ -184,6 +185,29 @@ static void block_inverse_thin(void) {
     put(other32, sizeof *other32, second);
 }
 
+static void put_parts(hoengtila_parts p) {
+    put(&p.number, sizeof p.number, 1);
+    put(&p.place, sizeof p.place, 1);
+    put(&p.exact, sizeof p.exact, 1);
+    put(&p.middle_roundings, sizeof p.middle_roundings, 1);
+    put(&p.clippings, sizeof p.clippings, 1);
+    put(&p.last_rounding, sizeof p.last_rounding, 1);
+}
+
+static void block_why(void) {
+    hoengtila_shape s = shape();
+    uint32_t in = length(), place = number();
+    get(in16, sizeof *in16, in);
+    put_parts(hoengtila_block_why(s, in16, in, place));
+}
+
+static void block_why_long(void) {
+    hoengtila_shape s = shape();
+    uint32_t extended = number(), in = length(), place = number();
+    get(in32, sizeof *in32, in);
+    put_parts(hoengtila_block_why_long(s, extended, in32, in, place));
+}
+
 static uint32_t at_most(uint32_t most) {
     uint32_t n = number();
     if (n > most) exit(2);
@@ -281,6 +305,8 @@ int main(void) {
         else if (call == STRAY) stray();
         else if (call == BLOCK_INVERSE_LONG) block_inverse_long();
         else if (call == BLOCK_INVERSE_THIN) block_inverse_thin();
+        else if (call == BLOCK_WHY) block_why();
+        else if (call == BLOCK_WHY_LONG) block_why_long();
         else if (call == BLOCK_ROW) row();
         else if (call == STEPS_RUN) steps_run();
         else if (call == STEPS_LIST) steps_list();

@@ -4,8 +4,8 @@
 //! with no eye to speed.
 //! `random` makes the cases, the same ones for the same seed; `patterns`, `folding` and `wrong` know which are hard, `files`
 //! has block files, and `steps` makes the lists of steps that the crates store.
-//! `library` is the library for Rust callers, `peer` the library behind a pipe; `call`, `row_call`, `step_call`, `long_call`, `thin_call`
-//! and `subject` let a test run the same calls on either, and `compare` and `tally` hold what comes back to the model.
+//! `library` is the library for Rust callers, `peer` the library behind a pipe; `call`, `row_call`, `step_call`, `long_call`, `thin_call`,
+//! `why_call` and `subject` let a test run the same calls on either, and `compare` and `tally` hold what comes back to the model.
 
 pub mod call;
 pub mod compare;
@@ -24,4 +24,5 @@ pub mod steps;
 pub mod subject;
 pub mod tally;
 pub mod thin_call;
+pub mod why_call;
 pub mod wrong;

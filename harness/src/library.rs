@@ -92,6 +92,18 @@ pub struct Picture {
     pub height: u32,
 }
 
+/// What is told of a residual: the number of the refusal or 0, its place, and the four parts, all over the same power of 2.
+#[repr(C)]
+#[derive(Clone, Copy, Debug, PartialEq, Eq)]
+pub struct Parts {
+    pub number: u32,
+    pub place: u32,
+    pub exact: i64,
+    pub middle_roundings: i64,
+    pub clippings: i64,
+    pub last_rounding: i64,
+}
+
 /// What saving a broken block file hands back: the number of the refusal or 0, how many bytes the new file has, and how many
 /// stretches were dropped.
 #[repr(C)]
@@ -103,7 +115,7 @@ pub struct Saved {
 }
 
 mod c {
-    use super::{Answer, Listed, Picture, Saved, Shape, Taken, Thin, Written};
+    use super::{Answer, Listed, Parts, Picture, Saved, Shape, Taken, Thin, Written};
 
     // Nothing holds these lines to the header or to the Rattle source but the tests.
     unsafe extern "C" {
@@ -210,6 +222,19 @@ mod c {
             residuals: *mut i32,
             residuals_len: usize,
         ) -> u32;
+        pub fn hoengtila_block_why(
+            shape: Shape,
+            coefficients: *const i16,
+            coefficients_len: usize,
+            place: u32,
+        ) -> Parts;
+        pub fn hoengtila_block_why_long(
+            shape: Shape,
+            extended: u32,
+            coefficients: *const i32,
+            coefficients_len: usize,
+            place: u32,
+        ) -> Parts;
         pub fn hoengtila_steps_run(
             inputs: u32,
             cells: u32,
@@ -479,6 +504,20 @@ pub fn blocks_inverse(
         }
     }
     number
+}
+
+/// The parts of the residual at a place of a block of coefficients.
+#[inline]
+pub fn block_why(shape: Shape, coefficients: &[i16], place: u32) -> Parts {
+    let input = coefficients;
+    unsafe { c::hoengtila_block_why(shape, input.as_ptr(), input.len(), place) }
+}
+
+/// The same of a block of long coefficients; `extended` is the extended-precision switch, off where it is 0.
+#[inline]
+pub fn block_why_long(shape: Shape, extended: u32, coefficients: &[i32], place: u32) -> Parts {
+    let input = coefficients;
+    unsafe { c::hoengtila_block_why_long(shape, extended, input.as_ptr(), input.len(), place) }
 }
 
 /// Runs a list of steps on `x`: four numbers to a step in `steps`, the output cells in `outs`.

@@ -16,6 +16,7 @@ pub mod small;
 pub mod steps;
 pub mod thin;
 pub mod weights;
+pub mod why;
 pub mod wrapped;
 
 pub use block::{fair_ends, forward, inverse};
@@ -27,6 +28,7 @@ pub use picture::{read_picture, write_picture};
 pub use row::inverse_row;
 pub use small::{forward_4x4, inverse_4x4, Small};
 pub use thin::inverse_thin;
+pub use why::{why, why_long};
 pub use wrapped::{forward_wrapped, inverse_wrapped};
 
 #[cfg(test)]

@@ -1,4 +1,4 @@
-// The library for C and Rust: each public function of `transform`, `long_block`, `wrapping`, `block_row`, `round_trip`, `report`,
+// The library for C and Rust: each public function of `transform`, `long_block`, `why`, `wrapping`, `block_row`, `round_trip`, `report`,
 // `step_run`, `step_lists`, `picture` and `salvage`, `work` of `thin_block`, and the one that makes a shape, under the name and with the
 // arguments that include/hoengtila.h declares. A wrapper is one call and has the contract of what it calls; none has a `requires`, so whatever
 // numbers and lengths a caller hands over, the contract says what comes back. Read it beside the header.
@@ -10,6 +10,7 @@ use salvage::saving::Saved;
 use step_lists::Listed;
 use steps::Taken;
 use thin_block::Thin;
+use why::Parts;
 ghost use mathlib.Core.Path.{_≡_};
 ghost use mathlib.Core.Bool.{not};
 ghost use mathlib.Core.List.{List};
@@ -33,6 +34,7 @@ ghost use Rattle.picture.specs.Outcomes.{writeOutcome, readOutcome};
 ghost use Rattle.salvage.specs.Outcomes.{savedOutcome};
 ghost use Rattle.report.specs.Totals.{empty, addOutcome};
 ghost use Rattle.step_lists.specs.Listed.{Handed, listOutcome, lineOutcome};
+ghost use Rattle.why.specs.Why.{whyOutcome, longWhyOutcome};
 
 #[no_mangle]
 pub extern "C" fn hoengtila_shape_of(
@@ -184,6 +186,25 @@ pub extern "C" fn hoengtila_block_row(
     ensures { λ r. ⌜ _≡_ {A = RowOutcome} (r, (now (answers .exit), now (residuals .exit))) (rowOutcome (shapesOf count (now (shapes .entry))) (now (answers .entry)) (now (coefficients .entry)) (now (residuals .entry))) ⌝ }
 {
     block_row::row::row(shapes, count, answers, coefficients, residuals)
+}
+
+#[no_mangle]
+pub extern "C" fn hoengtila_block_why(shape: Shape, coefficients: &[i16], place: u32) -> Parts
+    ensures { λ r. ⌜ r ≡ whyOutcome shape (now (coefficients .entry)) place ⌝ }
+{
+    why::parts(shape, coefficients, place)
+}
+
+#[no_mangle]
+pub extern "C" fn hoengtila_block_why_long(
+    shape: Shape,
+    extended: u32,
+    coefficients: &[i32],
+    place: u32,
+) -> Parts
+    ensures { λ r. ⌜ r ≡ longWhyOutcome (not (eqb extended 0)) shape (now (coefficients .entry)) place ⌝ }
+{
+    why::long_parts(shape, extended != 0, coefficients, place)
 }
 
 #[no_mangle]

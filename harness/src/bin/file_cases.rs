@@ -4,9 +4,11 @@
 //! the same files and must print it.
 
 use hoengtila_harness::files::{stored, Case};
+use hoengtila_harness::model::file::{picked, Picked};
 use hoengtila_harness::model::report::{add_file, table, NUMBERS};
 use hoengtila_harness::model::run_file;
 use hoengtila_harness::model::salvage::saved_of;
+use hoengtila_harness::model::why::{text, why};
 use std::path::Path;
 use std::{env, fs, io};
 
@@ -73,8 +75,19 @@ fn write_examples(folder: &Path, cases: &[Case]) -> io::Result<()> {
             let dropped = saved_of(&case.file).1;
             fs::write(folder.join("broken_dropped.txt"), dropped)?;
         }
+        if case.name == "whole_case" {
+            fs::write(folder.join("whole_case_why.txt"), reasons(&case.file, 5))?;
+        }
     }
     Ok(())
+}
+
+/// What `blocks why` prints of a place of the first block.
+fn reasons(file: &[u8], place: i64) -> String {
+    match picked(file, 1) {
+        Picked::Block { shape, numbers, .. } => text(&why(&shape, &numbers, place), shape.depth),
+        _ => String::new(),
+    }
 }
 
 fn main() -> io::Result<()> {

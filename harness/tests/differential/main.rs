@@ -16,4 +16,5 @@ mod steps;
 mod strays;
 mod thin;
 mod weights;
+mod why;
 mod wrapped;

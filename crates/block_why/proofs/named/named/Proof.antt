@@ -1,0 +1,73 @@
+-- `named` meets its contract. Assumes nothing.
+use mathlib.Core.Path.{_≡_, sym, ap, subst, _∙_}
+use mathlib.Core.Bool.{true}
+use mathlib.Core.List.{List}
+use Prim.Native.Nat.{ℕ}
+use denote.Ref.{now}
+use Rattle.why.specs.declared.answer.Parts.{Parts}
+use Rattle.block_file.specs.declared.cursor.Step.{Step}
+use Rattle.block_file.specs.Field.{isData}
+use Rattle.block_file.specs.Cursor.{foundAt}
+use Rattle.block_numbers.specs.Numbers.{numbers}
+use Rattle.block_run.specs.Does.{Fits}
+use Rattle.block_run.proofs.Steps.{data-fits}
+use Rattle.block_why.specs.declared.named.Reasons.{Reasons}
+use Rattle.block_why.specs.Named.{inverseNamed}
+use Rattle.block_why.proofs.Naming.{is-inverse, is-none}
+use borrow.Author.Needs.{needs}
+use Rattle.block_why.proofs.named.named.Statement.{statement}
+use Rattle.block_why.proofs.named.named.Tie as tie
+
+bytes : {x : ℕ × ℕ} {l m : List ℕ} {y : ℕ × ℕ} → _≡_ {A = (ℕ × ℕ) × List ℕ} (x, l) (y, m) → l ≡ m
+bytes e = ap (λ (z : (ℕ × ℕ) × List ℕ). z .1) e
+
+pick-requires : tie.Need-pick-requires
+pick-requires c κs = search needs
+
+step-requires : tie.Need-step-requires
+step-requires c κs = search needs
+
+body-requires : tie.Need-body-requires
+body-requires c κs = search needs
+
+body-parts-requires : tie.Need-body-parts-requires
+body-parts-requires c κs =
+    let file = now (c .before .before .before .before .before .before .args .file) in
+    let k = c .before .before .before .before .pick .result in
+    let t : isData (foundAt file k .tag) ≡ true = rw (sym (ap (λ (x : Step). x .tag) (c .before .before .before .step .ensures)) ∙ c .before .if1 .taken) in
+    subst (λ (l : List ℕ). Fits (k .shape) l) (sym (bytes (c .body .ensures))) (data-fits file k t)
+
+returns : tie.Need-returns
+returns c =
+    let a = c .before .before .before .before .before .before .before .args in
+    let file = now (a .file) in
+    let pick = c .before .before .before .before .before .pick in
+    let step = c .before .before .before .before .step in
+    let k = pick .result in
+    ap (λ (p : Parts). record { tag = 2; offset = k .at; depth = k .shape .depth; parts = p }) (c .body-parts .ensures)
+    ∙ ap (λ (l : List ℕ). inverseNamed (k .shape) (numbers l) (k .at) (a .place)) (bytes (c .before .body .ensures))
+    ∙ is-inverse file (a .n) (a .place) k (pick .ensures) (step .result) (step .ensures) (c .before .before .if1 .taken)
+
+none-requires : tie.Need-none-requires
+none-requires c κs = search needs
+
+returns-2 : tie.Need-returns-2
+returns-2 c =
+    let a = c .before .before .before .before .before .before .args in
+    let pick = c .before .before .before .before .pick in
+    let step = c .before .before .before .step in
+    let k = pick .result in
+    ap (λ (p : Parts). record { tag = step .result .tag; offset = k .at; depth = 0; parts = p }) (c .none .ensures)
+    ∙ is-none (now (a .file)) (a .n) (a .place) k (pick .ensures) (step .result) (step .ensures) (c .before .if1 .left)
+
+pub named-spec : {M : Type 1} → statement M
+named-spec =
+    tie.close
+    (tie.spec
+    pick-requires
+    step-requires
+    body-requires
+    body-parts-requires
+    returns
+    none-requires
+    returns-2)

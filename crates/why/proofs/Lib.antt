@@ -1,0 +1,9 @@
+pub mod Rounded
+pub mod Running
+pub mod Reading
+pub mod Passing
+pub mod Off
+pub mod Refusing
+pub mod Adding
+pub mod Unique
+pub mod Example

@@ -1,0 +1,99 @@
+// Prints the parts of a residual of the block file on standard input: `why_file BLOCK PLACE`. The block is named by its count among the
+// data fields, the first being 1; the place is column + row * width. Where there are no parts, a line on standard error says why.
+// Nothing is proved of the text but that it ends: `tests/why` holds what is printed to the harness's model.
+mod text;
+
+use block_input::file_buffer;
+use block_input::read_input;
+use block_input::say;
+use block_input::say_refused;
+use block_input::say_unread;
+use block_why::named::named;
+use libc::STDIN_FILENO;
+use plain_text::number_of;
+use plain_text::print;
+use why::Parts;
+ghost use mathlib.Core.Path.{_≡_};
+ghost use lib.ListN.{length};
+
+fn text_buffer() -> [u8; 1024]
+    ensures { λ r. ⌜ 1024 ≡ length r ⌝ }
+{
+    [0; 1024]
+}
+
+fn show(depth: u32, parts: Parts) {
+    let mut text = text_buffer();
+    let end = text::put_parts(depth, parts, &mut text);
+    print(&text, end);
+}
+
+// A refusal that has to do with a place of the block, which is given as it is to be written.
+fn say_refused_place(number: u32, offset: usize, place: &[u8]) {
+    say_refused(number, offset);
+    say(b" place ");
+    say(place);
+    say(b"\n");
+}
+
+// 15 with the place that was asked for, as it was written, and else the place of a coefficient.
+fn say_place(number: u32, offset: usize, place: u32, word: &[u8]) {
+    if number == 15 {
+        say_refused_place(number, offset, word);
+        return;
+    }
+    let mut digits: [u8; 20] = [0; 20];
+    let count = io::decimal(place as u64, &mut digits);
+    say_refused_place(number, offset, &digits[..count]);
+}
+
+fn answer(file: &[u8], n: usize, place: u32, word: &[u8]) {
+    let reasons = named(file, n, place);
+    let tag = reasons.tag;
+    let offset = reasons.offset;
+    let parts = reasons.parts;
+    let number = parts.number;
+    if tag == 3 {
+        say(b"the block is a forward, which has no such parts\n");
+        return;
+    }
+    if tag == 2 {
+        if number != 0 {
+            say_place(number, offset, parts.place, word);
+            return;
+        }
+        show(reasons.depth, parts);
+        return;
+    }
+    if number != 0 {
+        say_refused(number, offset);
+        say(b"\n");
+        return;
+    }
+    say(b"there is no such block\n");
+}
+
+// The last number that is read stands for a word that is none.
+fn ask(file: &[u8], n: usize, word: &[u8]) {
+    let place = number_of(word, 100000);
+    if place == 100000 {
+        say(b"the place is no number\n");
+        return;
+    }
+    answer(file, n, place as u32, word);
+}
+
+fn main() {
+    let mut block = io::buffer();
+    let b = os::arg(1, &mut block);
+    let mut place = io::buffer();
+    let p = os::arg(2, &mut place);
+    let mut file = file_buffer();
+    let read = read_input(STDIN_FILENO, &mut file);
+    let count = read.count;
+    if read.failed {
+        say_unread();
+        return;
+    }
+    ask(&file[..count], number_of(&block[..b], 0), &place[..p]);
+}

@@ -1,0 +1,95 @@
+//! The program behind `blocks why`: whole and damaged block files, every count and many places, held to the model.
+//!
+//! `HOENGTILA_WHY_PROGRAM` gives its command line; `tests/why` at the root of the repository gives it.
+
+use hoengtila_harness::files::random_file;
+use hoengtila_harness::model::file::{picked, Picked, TAG_RESIDUALS};
+use hoengtila_harness::model::why::{text, why};
+use hoengtila_harness::program::run_on;
+use hoengtila_harness::random::{seeded, Random};
+
+const VARIABLE: &str = "HOENGTILA_WHY_PROGRAM";
+
+/// What the program writes, and what it says where it writes nothing.
+fn wanted(file: &[u8], n: usize, place: &str) -> (String, String) {
+    let said = |line: String| (String::new(), line + "\n");
+    let Ok(number) = place.parse::<i64>() else {
+        return said("the place is no number".to_string());
+    };
+    match picked(file, n) {
+        Picked::Refused(number, at) => said(format!("R {number} {at}")),
+        Picked::Missing => said("there is no such block".to_string()),
+        Picked::Block {
+            tag: TAG_RESIDUALS, ..
+        } => said("the block is a forward, which has no such parts".to_string()),
+        Picked::Block {
+            at, shape, numbers, ..
+        } => {
+            let parts = why(&shape, &numbers, number);
+            match parts.number {
+                0 => (text(&parts, shape.depth), String::new()),
+                15 => said(format!("R 15 {at} place {place}")),
+                number => said(format!("R {number} {at} place {}", parts.place)),
+            }
+        }
+    }
+}
+
+/// A place of the block, or one of those that are none.
+fn place(random: &mut Random, file: &[u8], n: usize) -> String {
+    let area = match picked(file, n) {
+        Picked::Block { numbers, .. } => numbers.len() as i64,
+        _ => 16,
+    };
+    let inside = random.between(0, area - 1);
+    random
+        .choose(&[
+            inside,
+            inside,
+            inside,
+            0,
+            area - 1,
+            area,
+            99_999,
+            123_456_789,
+        ])
+        .to_string()
+}
+
+#[test]
+fn the_program_prints_what_the_model_does() {
+    let Ok(command_line) = std::env::var(VARIABLE) else {
+        println!("why: {VARIABLE} is not set, so the program was not run");
+        return;
+    };
+    let run = |file: &[u8], words: &[&str]| {
+        let (out, said) = run_on(&command_line, file, words);
+        (String::from_utf8(out).expect("it prints text"), said)
+    };
+    let mut random = seeded();
+    let (mut printed, mut refused, mut others) = (0, 0, 0);
+    for _ in 0..150 {
+        let file = random_file(&mut random);
+        for n in 0..4 {
+            let place = place(&mut random, &file, n);
+            let outcome = run(&file, &[&n.to_string(), &place]);
+            let wanted = wanted(&file, n, &place);
+            assert_eq!(outcome, wanted, "block {n}, place {place} of {file:02x?}");
+            printed += usize::from(outcome.1.is_empty());
+            refused += usize::from(outcome.1.starts_with('R'));
+            others += usize::from(outcome.1.starts_with('t'));
+        }
+    }
+    assert!(printed > 50 && refused > 50 && others > 50);
+
+    let mut file = vec![1, 0, 5, 4, 4, 1, 1, 10, 2, 0, 32, 0, 64];
+    file.extend([0; 30]);
+    for words in [["x", "5"], ["", "5"], ["1x", "5"], ["-1", "5"], ["2", "5"]] {
+        assert_eq!(run(&file, &words).1, "there is no such block\n");
+    }
+    for place in ["", "x", "5x", "-1", "+5", " 5"] {
+        let said = "the place is no number\n".to_string();
+        assert_eq!(run(&file, &["1", place]), (String::new(), said), "{place}");
+    }
+    println!("why: the program prints the parts of {printed} residuals and refuses {refused} as the model does");
+}
