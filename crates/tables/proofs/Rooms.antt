@@ -13,9 +13,13 @@ use Rattle.tables.specs.Term.{term}
 use Rattle.tables.specs.Stage.{Front, Weights}
 use Rattle.tables.proofs.Pairs.{place-held}
 
--- a size that is neither 4 nor 8, of up to 16
-pub is-sixteen : (n : ℕ) → isSize n ≡ true → (n ≡ 4 → ⊥) → (n ≡ 8 → ⊥) → n ≤ 16 → n ≡ 16
-is-sixteen = size-cases (λ n. (n ≡ 4 → ⊥) → (n ≡ 8 → ⊥) → n ≤ 16 → n ≡ 16) (λ a b l. absurd (a refl)) (λ a b l. absurd (b refl)) (λ a b l. refl) (λ a b l. absurd (omega arith))
+-- a size of up to 8 that is not 4
+pub is-eight : (n : ℕ) → isSize n ≡ true → (n ≡ 4 → ⊥) → n ≤ 8 → n ≡ 8
+is-eight = size-cases (λ n. (n ≡ 4 → ⊥) → n ≤ 8 → n ≡ 8) (λ a l. absurd (a refl)) (λ a l. refl) (λ a l. absurd (omega arith)) (λ a l. absurd (omega arith))
+
+-- a size of less than 16
+pub is-few : (n : ℕ) → isSize n ≡ true → n ≤ 16 → (n ≡ 16 → ⊥) → n ≤ 8
+is-few = size-cases (λ n. n ≤ 16 → (n ≡ 16 → ⊥) → n ≤ 8) (λ l a. omega arith) (λ l a. omega arith) (λ l a. absurd (a refl)) (λ l a. absurd (omega arith))
 
 -- a size above 16
 pub is-thirty-two : (n : ℕ) → isSize n ≡ true → 16 < n → n ≡ 32

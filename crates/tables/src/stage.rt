@@ -11,17 +11,12 @@ ghost use lib.ListN.{length};
 ghost use Rattle.meaning.specs.Shape.{isSize};
 ghost use Rattle.tables.specs.Stage.{Front, Weights};
 
-fn least(a: usize, b: usize) -> usize
-    ensures { λ r. ⌜ r ≡ min a b ⌝ }
-{
-    if a < b { a } else { b }
-}
-
-// As many numbers of t as there is room for.
-fn front(t: &[i16], u: &mut [i16])
+// As many numbers of t as there is room for. Their number is a literal at each call, so that they are copied from where the
+// constants stand: of one that is not known the table is laid out on the stack first (docs/DECISIONS.md).
+fn front(t: &[i16], most: usize, u: &mut [i16])
+    requires { ⌜ most ≡ min (length (now t)) (length (now u)) ⌝ }
     ensures { λ _. ⌜ Front (length (now (u .entry))) (now (u .exit)) (now (t .entry)) ⌝ }
 {
-    let most = least(t.len(), u.len());
     let mut k = 0;
     while k < most {
         u[k] = t[k];
@@ -29,17 +24,15 @@ fn front(t: &[i16], u: &mut [i16])
     }
 }
 
-// The weights of up to 16 points in whatever room there is.
-fn weights(kind: u32, forward: bool, n: usize, u: &mut [i16])
-    requires { ⌜ (isSize n ≡ true) × (n ≤ 16) ⌝ }
+// The weights of up to 8 points, for which every room is large enough.
+fn few(kind: u32, forward: bool, n: usize, u: &mut [i16])
+    requires { ⌜ ((isSize n ≡ true) × (n ≤ 8)) × (64 ≤ length (now u)) ⌝ }
     ensures { λ _. ⌜ (length (now (u .exit)) ≡ length (now (u .entry))) × Weights (length (now (u .entry))) n forward kind n (now (u .exit)) ⌝ }
 {
     if n == 4 {
-        front(&zipped_4(kind, forward), u);
-    } else if n == 8 {
-        front(&zipped_8(kind, forward), u);
+        front(&zipped_4(kind, forward), 16, u);
     } else {
-        front(&zipped_16(kind, forward), u);
+        front(&zipped_8(kind, forward), 64, u);
     }
 }
 
@@ -50,10 +43,12 @@ pub fn put_128(kind: u32, forward: bool, n: usize, u: &mut [i16; 128])
     if 16 < n {
         let mut t = [0i16; 1024];
         put_32(kind, forward, &mut t);
-        front(&t, u);
-        return;
+        front(&t, 128, u);
+    } else if n == 16 {
+        front(&zipped_16(kind, forward), 128, u);
+    } else {
+        few(kind, forward, n, u);
     }
-    weights(kind, forward, n, u);
 }
 
 pub fn put_1024(kind: u32, forward: bool, n: usize, u: &mut [i16; 1024])
@@ -62,7 +57,9 @@ pub fn put_1024(kind: u32, forward: bool, n: usize, u: &mut [i16; 1024])
 {
     if 16 < n {
         put_32(kind, forward, u);
-        return;
+    } else if n == 16 {
+        front(&zipped_16(kind, forward), 256, u);
+    } else {
+        few(kind, forward, n, u);
     }
-    weights(kind, forward, n, u);
 }

@@ -13,31 +13,28 @@ use Rattle.tables.proofs.stage.front.Statement.{statement}
 use Rattle.tables.proofs.stage.front.Tie as tie
 
 abbrev Inv-loop : tie.InvT-loop
-Inv-loop t u₀ most k₀ u k = (k ≤ most) × Filled 0 k u u₀ (at t)
+Inv-loop t most u₀ k₀ u k = (k ≤ most) × Filled 0 k u u₀ (at t)
 
 abbrev μ-loop : tie.MeasureT-loop
-μ-loop t u₀ most k₀ u k = most - k
+μ-loop t most u₀ k₀ u k = most - k
 
-long : (c : tie.At-loop Inv-loop μ-loop) → length (c .loop .u) ≡ length (c .before .before .args .u .now)
+long : (c : tie.At-loop Inv-loop μ-loop) → length (c .loop .u) ≡ length (c .before .args .u .now)
 long c = c .loop .inv .1 .long
-
-least-requires : tie.Need-least-requires Inv-loop μ-loop
-least-requires c κs = search needs
 
 loop-holds : tie.Need-loop-holds Inv-loop μ-loop
 loop-holds c = (omega arith, fill-none 0 _ _)
 
 mul-u : tie.Need-mul-u Inv-loop μ-loop
-mul-u c = omega (arith, c .before .before .least .ensures, c .loop-test .taken)
+mul-u c = omega (arith, c .before .before .pre, c .loop-test .taken)
 
 shared-slice-copy-out-u : tie.Need-shared-slice-copy-out-u Inv-loop μ-loop
-shared-slice-copy-out-u c = omega (arith, c .before .before .least .ensures, c .loop-test .taken)
+shared-slice-copy-out-u c = omega (arith, c .before .before .pre, c .loop-test .taken)
 
-mul-t11 : tie.Need-mul-t11 Inv-loop μ-loop
-mul-t11 c = omega (arith, long (c .before .before), c .before .before .before .least .ensures, c .before .loop-test .taken)
+mul-t9 : tie.Need-mul-t9 Inv-loop μ-loop
+mul-t9 c = omega (arith, long (c .before .before), c .before .before .before .pre, c .before .loop-test .taken)
 
 slice-set-from-u : tie.Need-slice-set-from-u Inv-loop μ-loop
-slice-set-from-u c = omega (arith, long (c .before .before), c .before .before .before .least .ensures, c .before .loop-test .taken)
+slice-set-from-u c = omega (arith, long (c .before .before), c .before .before .before .pre, c .before .loop-test .taken)
 
 add-k : tie.Need-add-k Inv-loop μ-loop
 add-k c = search needs
@@ -50,8 +47,8 @@ loop-again c =
     let I = c .before in
     let L = I .before in (
       omega arith,
-      fill-first _ (omega (arith, L .before .least .ensures, I .loop-test .taken)) (L .loop .inv .1)
-          (toZ-ofZ w16 (at (L .before .before .args .t .now) (L .loop .k)) (record { sfits = c .u .given })),
+      fill-first _ (omega (arith, L .before .pre, I .loop-test .taken)) (L .loop .inv .1)
+          (toZ-ofZ w16 (at (L .before .args .t .now) (L .loop .k)) (record { sfits = c .u .given })),
     )
 
 same-length : tie.Need-same-length Inv-loop μ-loop
@@ -62,7 +59,7 @@ returns c =
     let L = c .before in
     record {
       long = L .loop .inv .1 .long;
-      same = λ k h g. ap (at (L .loop .u)) (sym (zero-add k)) ∙ L .loop .inv .1 .done k (omega (arith, L .before .least .ensures, c .loop-test .left));
+      same = λ k h g. ap (at (L .loop .u)) (sym (zero-add k)) ∙ L .loop .inv .1 .done k (omega (arith, L .before .pre, c .loop-test .left));
     }
 
 pub front-spec : {M : Type 1} → statement M
@@ -71,11 +68,10 @@ front-spec =
     (tie.spec
     Inv-loop
     μ-loop
-    least-requires
     loop-holds
     mul-u
     shared-slice-copy-out-u
-    mul-t11
+    mul-t9
     slice-set-from-u
     add-k
     loop-less
