@@ -7,6 +7,7 @@ use crate::place::clear_beyond;
 use crate::place::narrow;
 use crate::shift::column_shift;
 use crate::shift::row_shift;
+use layout::small::is_small;
 use layout::zip::zip;
 use meaning::Shape;
 use meaning::kept_columns;
@@ -168,15 +169,6 @@ fn large(shape: Shape, residuals: &[i16], coefficients: &mut [i16])
     let mut down = [0i16; 1024];
     put_1024(shape.vertical, true, h, &mut down);
     worked(shape, residuals, &mut along, &down, coefficients);
-}
-
-fn is_small(shape: Shape) -> bool
-    ensures { λ r. ⌜ (r ≡ true → (shape .width ≤ 8) × (shape .height ≤ 8)) ⌝ }
-{
-    if 8 < shape.width {
-        return false;
-    }
-    shape.height <= 8
 }
 
 pub fn stages(shape: Shape, residuals: &[i16], coefficients: &mut [i16])

@@ -3,12 +3,12 @@
 // first stage writes rounded sums where the residuals will stand; each line of residuals is then written into its own stretch.
 // What lines read stands in arrays of the function that names their number of pairs: what is lent might overlap the output, as far
 // as the compiler knows, and it then takes one number at a time (docs/DECISIONS.md). So the two rooms have a function each.
-use crate::eight::eight;
-use crate::eight::is_eight;
-use crate::four::four;
-use crate::four::is_four;
-use crate::live::is_small;
-use crate::settle::settle;
+use inverse_squares::eight::eight;
+use inverse_squares::eight::is_eight;
+use inverse_squares::four::four;
+use inverse_squares::four::is_four;
+use inverse_stage::settle::settle;
+use layout::small::is_small;
 use layout::zip::zip;
 use meaning::Shape;
 use product::half;
@@ -19,7 +19,7 @@ ghost use mathlib.Core.Path.{_≡_};
 ghost use Prim.Native.Nat.{_*_, _≤_};
 ghost use Rattle.meaning.specs.Plan.{planOf};
 ghost use Rattle.meaning.specs.Inverse.{rails, inverseBlock};
-ghost use Rattle.inverse_block.specs.Given.{Given, Room};
+ghost use Rattle.inverse_stage.specs.Given.{Given, Room};
 
 // Where every list that a stage needs has room in 128 numbers: buffers have to be zeroed, and those of `large` would take as long
 // as a small block does.

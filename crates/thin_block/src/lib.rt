@@ -1,7 +1,7 @@
 // Blocks one sample wide or high (document 02, Wish 7), in one call with those of the inverse: one stage for a side of 1, two
 // otherwise, over two lent work areas. `work` says everything of both areas: its contract is `thinOutcome` of specs/Thin; read that
 // first. `inverse` hands back the stretch that holds the result: specs/Handed. Then check (the refusals; the hunt for 8 is that of
-// `inverse_block`), one and two (the stages).
+// `inverse_hunt`), one and two (the stages).
 mod check;
 mod one;
 mod two;
@@ -10,7 +10,7 @@ use crate::check::thin_refusal;
 use crate::one::one_stage;
 use crate::one::single;
 use crate::two::two_stages;
-use inverse_block::hunt::hunt;
+use inverse_hunt::hunt::hunt;
 use meaning::Shape;
 ghost use mathlib.Core.Path.{_≡_};
 ghost use Rattle.thin_block.specs.Thin.{Areas, thinOutcome};

@@ -17,9 +17,9 @@ pub fn inverse(shape: Shape, coefficients: &[i16], residuals: &mut [i32]) -> Ans
     if number != 0 {
         return refusal(number, 0);
     }
-    let rows = inverse_block::live::rows(shape, coefficients);
-    let columns = inverse_block::live::columns(shape, rows, coefficients);
-    let place = inverse_block::hunt::hunt(shape, columns, rows, coefficients);
+    let rows = inverse_hunt::live::rows(shape, coefficients);
+    let columns = inverse_hunt::live::columns(shape, rows, coefficients);
+    let place = inverse_hunt::hunt::hunt(shape, columns, rows, coefficients);
     if place < coefficients.len() {
         return refusal(8, place as u32);
     }

@@ -18,9 +18,9 @@ use Rattle.meaning.specs.Plan.{planOf, shortRange}
 use Rattle.meaning.specs.Inverse.{rails, inverseBlock}
 use Rattle.meaning.proofs.Cases.{depth-cases, size-in}
 use Rattle.product.specs.Product.{lineSum, shifted, Rounding, Lines}
-use Rattle.inverse_block.specs.Given.{Given, Room}
-use Rattle.inverse_block.specs.Settled.{railsOf}
-use Rattle.inverse_block.proofs.Work.{four, eight, few, zip-given, down-given, down-is, sums, sums-long, middles, middles-long, settled-rails, block-long, between, along-given, along-is, room-full}
+use Rattle.inverse_stage.specs.Given.{Given, Room}
+use Rattle.inverse_stage.specs.Settled.{railsOf}
+use Rattle.inverse_stage.proofs.Work.{four, eight, few, zip-given, down-given, down-is, sums, sums-long, middles, middles-long, settled-rails, block-long, between, along-given, along-is, room-full}
 use Rattle.inverse_block.proofs.stages.small.Statement.{statement}
 use Rattle.inverse_block.proofs.stages.small.Tie as tie
 

@@ -4,7 +4,7 @@ use native.Mathlib.Omega.{arith}
 use mathlib.Core.Path.{refl, sym}
 use Prim.Native.Nat.{_*_, _≤_}
 use native.Mathlib.Nat.{mul-le-mul, mul-comm}
-use Rattle.inverse_block.proofs.Work.{whole, all-rooms}
+use Rattle.inverse_stage.proofs.Work.{whole, all-rooms}
 use Rattle.inverse_block.proofs.stages.stages.Statement.{statement}
 use Rattle.inverse_block.proofs.stages.stages.Tie as tie
 

@@ -22,7 +22,7 @@ use Rattle.meaning.proofs.KeptPart.{columns-kept, rows-kept}
 use Rattle.layout.specs.Live.{Live}
 use Rattle.layout.specs.Part.{Part}
 use Rattle.layout.proofs.Inside.{kept-part}
-use Rattle.inverse_block.proofs.Inside.{live-part}
+use Rattle.inverse_hunt.proofs.Inside.{live-part}
 use Rattle.transform.proofs.block.inverse.Statement.{statement}
 use Rattle.transform.proofs.block.inverse.Tie as tie
 

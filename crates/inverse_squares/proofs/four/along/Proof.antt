@@ -1,0 +1,141 @@
+-- `four::along` meets its contract: in each case the kind is the one whose weights are taken. Assumes nothing.
+use borrow.Author.Needs.{needs}
+use native.Mathlib.Omega.{arith}
+use mathlib.Core.Path.{_≡_, refl, sym, ap, _∙_, subst}
+use mathlib.Core.List.{List, _++_}
+use Prim.Native.Nat.{ℕ, _*_, _≤_}
+use lib.ListN.{length, drop}
+use lib.IntN.{ℤ}
+use mir.Syntax.{w32}
+use mir.Val.{toZ, ofZ}
+use mir.ValLaws.{toZ-ofZ}
+use Rattle.algebra.specs.Lists.{block}
+use Rattle.algebra.proofs.Lists.{block-length}
+use Rattle.product.specs.Product.{lineSum, shifted, Rounding, Lines}
+use Rattle.inverse_squares.specs.Square.{alongBlock}
+use Rattle.inverse_stage.proofs.Work.{all-written}
+use Rattle.inverse_squares.proofs.Square.{Of, of-kind, of-other, along-lines, along-sums}
+use Rattle.inverse_squares.proofs.four.along.Statement.{statement}
+use Rattle.inverse_squares.proofs.four.along.Tie as tie
+
+half-requires : tie.Need-half-requires
+half-requires c κs = c .pre .1 .0
+
+-- what the rounding is, as it is handed on
+abbrev held : tie.After-half → ℤ
+held c = toZ w32 (ofZ w32 (c .half .result))
+
+half-is : (c : tie.After-half) → held c ≡ c .half .result
+half-is c = toZ-ofZ w32 (c .half .result) (search needs)
+
+-- the lines, by the weights of the kind
+module _ (c : tie.After-half) {t : List ℤ} (weights : Of (c .before .args .kind) 4 2 t) where
+  abbrev m : List ℤ
+  m = c .before .args .m .now
+
+  abbrev r : List ℤ
+  r = c .before .args .r .now
+
+  abbrev last : ℕ
+  last = c .before .args .last
+
+  asks : Lines 4 4 2 m 4 2 t 8 × (Rounding (held c) last × (16 ≤ length r))
+  asks = (
+    along-lines (c .before .args .kind) refl (omega arith) (omega arith) weights m (c .before .pre .1 .1 .0),
+    (subst (λ (z : ℤ). Rounding z last) (sym (half-is c)) (c .half .ensures .1), omega (arith, c .before .pre .1 .1 .1)),
+  )
+
+  gives : block 4 4 (λ x y. shifted (held c) last (lineSum m (4 * y) 2 t 8 2 x)) ++ drop 16 r ≡ alongBlock (c .before .args .kind) 4 4 m last
+  gives =
+      all-written 16 (block 4 4 (λ x y. shifted (held c) last (lineSum m (4 * y) 2 t 8 2 x))) r (omega (arith, c .before .pre .1 .1 .1))
+      ∙ along-sums (c .before .args .kind) refl (omega arith) (omega arith) weights m (c .before .pre .1 .1 .0) last (half-is c ∙ c .half .ensures .0)
+
+  as-long : {l : List ℤ} → l ≡ alongBlock (c .before .args .kind) 4 4 m last → length l ≡ length r
+  as-long e = ap length e ∙ block-length 4 4 _ ∙ sym (c .before .pre .1 .1 .1)
+
+zipped-4-requires : tie.Need-zipped-4-requires
+zipped-4-requires c κs = search needs
+
+slice-aggregate-lines : tie.Need-slice-aggregate-lines
+slice-aggregate-lines c = search needs
+
+weights : (c : tie.After-zipped-4) → Of (c .before .before .before .args .kind) 4 2 (c .zipped-4 .result)
+weights c = of-kind (c .before .before .before .args .kind) 1 (c .before .if1 .taken) (c .zipped-4 .ensures)
+
+lines-requires : tie.Need-lines-requires
+lines-requires c κs = let W = c .before .before .before in asks (W .before .before) (weights W)
+
+zipped-4-requires-2 : tie.Need-zipped-4-requires-2
+zipped-4-requires-2 c κs = search needs
+
+slice-aggregate-lines-2 : tie.Need-slice-aggregate-lines-2
+slice-aggregate-lines-2 c = search needs
+
+weights-2 : (c : tie.After-zipped-42) → Of (c .before .before .before .before .args .kind) 4 2 (c .zipped-42 .result)
+weights-2 c = of-kind (c .before .before .before .before .args .kind) 2 (c .before .if2 .taken) (c .zipped-42 .ensures)
+
+lines-requires-2 : tie.Need-lines-requires-2
+lines-requires-2 c κs = let W = c .before .before .before in asks (W .before .before .before) (weights-2 W)
+
+zipped-4-requires-3 : tie.Need-zipped-4-requires-3
+zipped-4-requires-3 c κs = search needs
+
+slice-aggregate-lines-3 : tie.Need-slice-aggregate-lines-3
+slice-aggregate-lines-3 c = search needs
+
+weights-3 : (c : tie.After-zipped-43) → Of (c .before .before .before .before .args .kind) 4 2 (c .zipped-43 .result)
+weights-3 c =
+    let I = c .before in
+    let s = I .before .before .before in
+    of-other (s .args .kind) (s .pre .0) (λ e. omega (arith, I .before .if1 .left)) (λ e. omega (arith, I .if2 .left)) (c .zipped-43 .ensures)
+
+lines-requires-3 : tie.Need-lines-requires-3
+lines-requires-3 c κs = let W = c .before .before .before in asks (W .before .before .before) (weights-3 W)
+
+done : (c : tie.After-lines) → let s = c .before .before .before .before .before .before .before .args in c .lines .last .1 .1 .1 .1 .1 .1 .1 .1 .1 .1 .0 ≡ alongBlock (s .kind) 4 4 (s .m .now) (s .last)
+done c = let W = c .before .before .before .before in c .lines .ensures ∙ gives (W .before .before) (weights W)
+
+same-length : tie.Need-same-length
+same-length c = let W = c .before .before .before .before .before in as-long (W .before .before) (weights W) (done (c .before))
+
+returns : tie.Need-returns
+returns c = done (c .before)
+
+done-2 : (c : tie.After-lines2) → let s = c .before .before .before .before .before .before .before .before .args in c .lines2 .last .1 .1 .1 .1 .1 .1 .1 .1 .1 .1 .0 ≡ alongBlock (s .kind) 4 4 (s .m .now) (s .last)
+done-2 c = let W = c .before .before .before .before in c .lines2 .ensures ∙ gives (W .before .before .before) (weights-2 W)
+
+same-length-2 : tie.Need-same-length-2
+same-length-2 c = let W = c .before .before .before .before .before in as-long (W .before .before .before) (weights-2 W) (done-2 (c .before))
+
+returns-2 : tie.Need-returns-2
+returns-2 c = done-2 (c .before)
+
+done-3 : (c : tie.After-lines3) → let s = c .before .before .before .before .before .before .before .before .args in c .lines3 .last .1 .1 .1 .1 .1 .1 .1 .1 .1 .1 .0 ≡ alongBlock (s .kind) 4 4 (s .m .now) (s .last)
+done-3 c = let W = c .before .before .before .before in c .lines3 .ensures ∙ gives (W .before .before .before) (weights-3 W)
+
+same-length-3 : tie.Need-same-length-3
+same-length-3 c = let W = c .before .before .before .before .before in as-long (W .before .before .before) (weights-3 W) (done-3 (c .before))
+
+returns-3 : tie.Need-returns-3
+returns-3 c = done-3 (c .before)
+
+pub along-spec : {M : Type 1} → statement M
+along-spec =
+    tie.close
+    (tie.spec
+    half-requires
+    zipped-4-requires
+    slice-aggregate-lines
+    lines-requires
+    zipped-4-requires-2
+    slice-aggregate-lines-2
+    lines-requires-2
+    zipped-4-requires-3
+    slice-aggregate-lines-3
+    lines-requires-3
+    same-length
+    returns
+    same-length-2
+    returns-2
+    same-length-3
+    returns-3)

@@ -1,0 +1,107 @@
+-- `four::four` meets its contract: both stages, and the rail count between them. Assumes nothing.
+use borrow.Author.Needs.{needs}
+use native.Mathlib.Omega.{arith}
+use mathlib.Core.Path.{_≡_, refl, sym, ap, _∙_}
+use mathlib.Core.List.{List}
+use Prim.Native.Nat.{_*_, _-_, _≤_}
+use lib.ListN.{length}
+use lib.IntN.{ℤ}
+use Rattle.algebra.specs.Clip.{clip}
+use Rattle.algebra.specs.Lists.{at, tabulate}
+use Rattle.algebra.proofs.Lists.{block-length, tab-length}
+use Rattle.meaning.specs.Plan.{planOf, shortRange}
+use Rattle.meaning.specs.Inverse.{rails, inverseBlock}
+use Rattle.meaning.proofs.Cases.{depth-cases}
+use Rattle.inverse_stage.specs.Given.{Given}
+use Rattle.inverse_stage.specs.Settled.{railsOf}
+use Rattle.inverse_squares.specs.Square.{Square, downBlock, alongBlock}
+use Rattle.inverse_stage.proofs.Work.{sums, middles, settled-rails, block-long}
+use Rattle.inverse_squares.proofs.Square.{whole-sums, whole-block}
+use Rattle.inverse_squares.proofs.four.four.Statement.{statement}
+use Rattle.inverse_squares.proofs.four.four.Tie as tie
+
+given : (s : tie.Start) → Given (s .args .shape) (s .args .shape .height) (s .args .shape .width) (s .args .c .now) (s .args .r .now)
+given s = s .pre .0
+
+square : (s : tie.Start) → Square 4 (s .args .shape)
+square s = s .pre .1
+
+area : (s : tie.Start) → s .args .shape .width * s .args .shape .height ≡ 16
+area s = λ i. square s .width i * square s .height i
+
+depth : (s : tie.Start) → (8 ≤ s .args .shape .depth) × (s .args .shape .depth ≤ 12)
+depth s = depth-cases (s .args .shape .depth) (given s .block .taken .depth)
+
+down-requires : tie.Need-down-requires
+down-requires c κs = let s = c .before in (given s .block .taken .vertical, (given s .block .long ∙ area s, refl))
+
+-- the rounded sums of the first stage
+abbrev start : tie.After-down → tie.Start
+start c = c .before .before
+
+first-long : (c : tie.After-down) → length (c .down .last .1 .1 .0) ≡ 16
+first-long c = ap length (c .down .ensures) ∙ block-length 4 4 _
+
+first : (c : tie.After-down) → c .down .last .1 .1 .0 ≡ sums (given (start c))
+first c =
+    let s = start c in
+    c .down .ensures ∙ sym (λ i. downBlock (s .args .shape .vertical) (square s .width i) (square s .height i) (s .args .c .now)) ∙ whole-sums (given s)
+
+slice-aggregate-settle : tie.Need-slice-aggregate-settle
+slice-aggregate-settle c = sym (first-long (c .before))
+
+slice-aggregate-settle-2 : tie.Need-slice-aggregate-settle-2
+slice-aggregate-settle-2 c = search needs
+
+settle-requires : tie.Need-settle-requires
+settle-requires c κs = let e = first-long (c .before .before) in (e, omega arith)
+
+-- the middle values, and the rail count
+abbrev downed : tie.After-settle → tie.After-down
+downed c = c .before .before .before
+
+settled : (c : tie.After-settle) → c .settle .last .1 .0 ≡ middles (given (start (downed c)))
+settled c = c .settle .ensures .0 ∙ ap (λ (l : List ℤ). tabulate (length l) (λ k. clip shortRange (at l k))) (first (downed c))
+
+settled-long : (c : tie.After-settle) → length (c .settle .last .1 .0) ≡ 16
+settled-long c = ap length (c .settle .ensures .0) ∙ tab-length _ _ ∙ first-long (downed c)
+
+counted : (c : tie.After-settle) → c .settle .result ≡ rails (planOf (start (downed c) .args .shape)) (start (downed c) .args .c .now)
+counted c = c .settle .ensures .1 ∙ (λ i. railsOf (length (first (downed c) i)) (first (downed c) i) (settled c i)) ∙ settled-rails (given (start (downed c)))
+
+sub-along : tie.Need-sub-along
+sub-along c = omega (arith, depth (start (downed (c .before .before .before))))
+
+along-requires : tie.Need-along-requires
+along-requires c κs =
+    let S = c .before .before .before .before in
+    let s = start (downed S) in
+    let d = depth s in
+    (given s .block .taken .horizontal, ((omega arith, omega arith), (settled-long S, given s .block .room ∙ area s)))
+
+done : (c : tie.After-along) → let s = start (downed (c .before .before .before .before .before)) in c .along .last .1 .1 .1 .0 ≡ inverseBlock (planOf (s .args .shape)) (s .args .c .now)
+done c =
+    let S = c .before .before .before .before .before in
+    let s = start (downed S) in
+    c .along .ensures
+    ∙ sym (λ i. alongBlock (s .args .shape .horizontal) (square s .width i) (square s .height i) (sym (settled S) i) (20 - s .args .shape .depth))
+    ∙ whole-block (given s)
+
+same-length : tie.Need-same-length
+same-length c = ap length (done (c .before)) ∙ block-long (given (start (downed (c .before .before .before .before .before .before))))
+
+returns : tie.Need-returns
+returns c = (counted (c .before .before .before .before .before .before), done (c .before))
+
+pub four-spec : {M : Type 1} → statement M
+four-spec =
+    tie.close
+    (tie.spec
+    down-requires
+    slice-aggregate-settle
+    slice-aggregate-settle-2
+    settle-requires
+    sub-along
+    along-requires
+    same-length
+    returns)

@@ -1,0 +1,29 @@
+-- The rail count of a list, number by number. Assumes nothing.
+use mathlib.Core.Path.{_≡_, refl}
+use mathlib.Core.Bool.{Bool, true, false}
+use mathlib.Core.List.{List}
+use Prim.Native.Nat.{ℕ, _+_, _≤_}
+use native.Mathlib.Omega.{arith}
+use lib.IntN.{ℤ}
+use Rattle.algebra.specs.Sum.{sumℕ}
+use Rattle.algebra.specs.Lists.{at}
+use Rattle.algebra.proofs.Sum.{sumℕ-next, sumℕ-mono, sumℕ-const}
+use Rattle.meaning.specs.Inverse.{railed, count}
+use Rattle.inverse_stage.specs.Settled.{railsOf}
+
+module _ (e m : List ℤ) where
+  pub rails-none : 0 ≡ railsOf 0 e m
+  unfolding railsOf sumℕ
+  rails-none = refl
+
+  pub rails-next : (k : ℕ) → railsOf (k + 1) e m ≡ railsOf k e m + count (railed (at e k) (at m k))
+  unfolding railsOf
+  rails-next k = sumℕ-next k (λ k. count (railed (at e k) (at m k)))
+
+  pub rails-in : (n : ℕ) → railsOf n e m ≤ n
+  unfolding railsOf
+  rails-in n = omega (arith, sumℕ-mono n (λ k. count (railed (at e k) (at m k))) (λ k. 1) (λ k _. count-in (railed (at e k) (at m k))), sumℕ-const n 1)
+    where
+      count-in : (b : Bool) → count b ≤ 1
+      count-in true = omega arith
+      count-in false = omega arith
