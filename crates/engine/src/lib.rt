@@ -2,7 +2,7 @@
 // functions ask that sizes and lengths were tested before, so they have a `requires`; every function that a user calls stands in
 // `transform` and has none. Read specs/Lines.
 use product::line;
-use tables::zipped::put_32;
+use tables::stage::put_1024;
 use tables::zipped::zipped_4;
 use tables::zipped::zipped_8;
 use tables::zipped::zipped_16;
@@ -47,7 +47,7 @@ pub fn entry(n: usize, kind: u32, i: usize, j: usize) -> i32
         return stored(&t, 32, i, j);
     }
     let mut t = [0i16; 1024];
-    put_32(kind, false, &mut t);
+    put_1024(kind, false, n, &mut t);
     stored(&t, 64, i, j)
 }
 
@@ -67,7 +67,7 @@ pub fn full(n: usize, kind: u32, forward: bool, x: &[i16], y: &mut [i32])
         line(8, 32, x, 0, 2, &t, 0, 0, y);
     } else {
         let mut t = [0i16; 1024];
-        put_32(kind, forward, &mut t);
+        put_1024(kind, forward, n, &mut t);
         line(16, 64, x, 0, 2, &t, 0, 0, y);
     }
 }

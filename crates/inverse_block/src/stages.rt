@@ -8,6 +8,7 @@ use inverse_squares::eight::is_eight;
 use inverse_squares::four::four;
 use inverse_squares::four::is_four;
 use inverse_stage::settle::settle;
+use inverse_stage::shift::last_shift;
 use layout::small::is_small;
 use layout::zip::zip;
 use meaning::Shape;
@@ -43,7 +44,7 @@ fn small(shape: Shape, rows: usize, columns: usize, c: &[i16], r: &mut [i32]) ->
         lines(4, wide, &t, 2, tall, &z, columns, h, 64, 7, r);
     }
     let rails = settle(&r[0..area], &mut z[0..area]);
-    let last = 20 - shape.depth;
+    let last = last_shift(shape);
     let half = half(last);
     put_128(shape.horizontal, false, w, &mut t);
     if columns <= 4 {
@@ -78,7 +79,7 @@ fn large(shape: Shape, rows: usize, columns: usize, c: &[i16], r: &mut [i32]) ->
         lines(16, wide, &t, 2, tall, &z, columns, h, 64, 7, r);
     }
     let rails = settle(&r[0..area], &mut z[0..area]);
-    let last = 20 - shape.depth;
+    let last = last_shift(shape);
     let half = half(last);
     put_1024(shape.horizontal, false, w, &mut t);
     if columns <= 4 {

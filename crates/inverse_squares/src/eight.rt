@@ -2,6 +2,7 @@
 // that names their pairs, and their number and length are read from the shape: where the compiler knows that a line has 8 outputs
 // it takes one number at a time (docs/DECISIONS.md).
 use inverse_stage::settle::settle;
+use inverse_stage::shift::last_shift;
 use layout::zip::zip;
 use meaning::Shape;
 use product::half;
@@ -47,7 +48,7 @@ pub fn eight(shape: Shape, horizontal: u32, c: &[i16], r: &mut [i32]) -> u32
     put(shape.vertical, &mut t);
     lines(4, 16, &t, 2, 16, &z, w, h, 64, 7, r);
     let rails = settle(r, &mut z);
-    let last = 20 - shape.depth;
+    let last = last_shift(shape);
     let half = half(last);
     put(horizontal, &mut t);
     lines(4, 16, &z, 8, 2, &t, w, h, half, last, r);

@@ -2,6 +2,7 @@
 // kind is a literal wherever weights are taken, so that the compiler multiplies by constants: of one that is not known it would
 // choose every weight by itself, and here it writes out all lines.
 use inverse_stage::settle::settle;
+use inverse_stage::shift::last_shift;
 use layout::zip::zip;
 use meaning::Shape;
 use product::half;
@@ -63,7 +64,7 @@ pub fn four(shape: Shape, c: &[i16], r: &mut [i32]) -> u32
     let mut m = [0i16; 16];
     down(shape.vertical, c, &mut e);
     let rails = settle(&e, &mut m);
-    along(shape.horizontal, &m, 20 - shape.depth, r);
+    along(shape.horizontal, &m, last_shift(shape), r);
     rails
 }
 

@@ -190,16 +190,15 @@ module _ {sh : Shape} {rows columns : ℕ} {c r : List ℤ} (g : Given sh rows c
     along-given = lines-given rows-laid along-laid (omega (arith, even-columns)) (omega (arith, size-in columns (g .size-columns))) (λ i j l. inl (weightSize (sh .horizontal) w i j))
 
     -- the block, where the list that it was written to has no more room
-    pub along-is : {half : ℤ} (o : List ℤ) → half ≡ pos (2 ^ (20 - sh .depth - 1)) → length o ≡ w * h
-        → block w h (λ x y. shifted half (20 - sh .depth) (lineSum m (columns * y) 2 t (2 * w) pairs x)) ++ drop (h * w) o ≡ inverseBlock p c
+    pub along-is : {half : ℤ} {last : ℕ} (o : List ℤ) → half ≡ pos (2 ^ (last - 1)) → last ≡ p .last → length o ≡ w * h
+        → block w h (λ x y. shifted half last (lineSum m (columns * y) 2 t (2 * w) pairs x)) ++ drop (h * w) o ≡ inverseBlock p c
     unfolding inverseBlock residual
-    along-is {half} o q l =
-        let last = 20 - sh .depth in
+    along-is {half} {last} o q s l =
         all-written (h * w) (block w h (λ x y. shifted half last (lineSum m (columns * y) 2 t (2 * w) pairs x))) o (omega (arith, mul-comm w h))
         ∙ lines-are rows-laid along-laid half last
         ∙ block-cong w h _ _ (λ x y k v. (λ i. shifted (q i) last (sum (e i) (λ i. middleOf i y *ℤ weightAlong i x)))
-        ∙ ap (nearest last) (sum-cong columns _ _ (λ i _. *ℤ-comm (middleOf i y) (weightAlong i x))
-        ∙ row-is p keeps c columns rows (g .live) (g .kept) x y))
+        ∙ (λ i. nearest (s i) ((sum-cong columns _ _ (λ i _. *ℤ-comm (middleOf i y) (weightAlong i x))
+        ∙ row-is p keeps c columns rows (g .live) (g .kept) x y) i)))
 
 -- ---- a list at the front of a room of n numbers
 pub room-full : (n a : ℕ) (l z : List ℤ) → length l ≡ a → length z ≡ n → a ≤ n → n ≡ length (l ++ drop (a - 0) z)

@@ -38,6 +38,9 @@ front {n} z f pairs l m =
 pub whole : (kind : ℕ) (forward : Bool) {r : List ℤ} → Laid 32 16 2 64 (λ i j. term forward kind 32 j i) r → Weights 1024 32 forward kind 32 r
 whole kind forward z pairs l m = record { held = λ i j h g. z .held i j (omega arith) g; right = λ i j h g. z .right i j (omega arith) g }
 
+pub all-32 : (n kind : ℕ) (forward : Bool) {r : List ℤ} → n ≡ 32 → Weights 1024 n forward kind n r → Laid 32 16 2 64 (λ i j. term forward kind 32 j i) r
+all-32 n kind forward {r} e w = subst (λ (m : ℕ). Weights 1024 m forward kind m r) e w 16 (omega arith) (omega arith)
+
 -- in a room whose length is known
 pub in-room : {room long : ℕ} (n kind : ℕ) (forward : Bool) {r : List ℤ} → long ≡ room → (length r ≡ long) × Weights long n forward kind n r → (length r ≡ room) × Weights room n forward kind n r
 in-room n kind forward {r} e w = (w .0 ∙ e, subst (λ (m : ℕ). Weights m n forward kind n r) e (w .1))

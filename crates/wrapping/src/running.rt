@@ -2,7 +2,7 @@
 // other. One table is taken for a line and lent from there.
 use crate::word::product;
 use crate::word::signed;
-use tables::zipped::put_32;
+use tables::stage::put_1024;
 use tables::zipped::zipped_4;
 use tables::zipped::zipped_8;
 use tables::zipped::zipped_16;
@@ -77,7 +77,7 @@ pub fn line(n: usize, kind: u32, forward: bool, start: u32, order: &[u32], x: &[
         line_of(&t, 32, start, order, x, y);
     } else {
         let mut t = [0i16; 1024];
-        put_32(kind, forward, &mut t);
+        put_1024(kind, forward, n, &mut t);
         line_of(&t, 64, start, order, x, y);
     }
 }

@@ -1,9 +1,11 @@
 -- `entry` meets its contract: each size has its table. Assumes nothing.
 use borrow.Author.Needs.{needs}
 use mathlib.Core.Path.{_≡_, refl, _∙_, sym}
+use mathlib.Core.Bool.{false}
 use mir.Syntax.{w32}
 use mir.ValLaws.{toZ-ofZ}
 use Rattle.meaning.proofs.Cases.{thirty-two}
+use Rattle.tables.proofs.Rooms.{all-32}
 use Rattle.engine.proofs.WholeLine.{entry-is}
 use Rattle.engine.proofs.entry.Statement.{statement}
 use Rattle.engine.proofs.entry.Tie as tie
@@ -48,17 +50,17 @@ stored-requires-3 c κs = (entry-is (c .before .before .if3 .taken) 8 refl (c .b
 returns-3 : tie.Need-returns-3
 returns-3 c = toZ-ofZ w32 (c .stored3 .result) (search needs) ∙ c .stored3 .ensures ∙ (entry-is (c .before .before .before .if3 .taken) 8 refl (c .before .before .before .before .before .before .args .kind) (c .before .before .zipped-16 .ensures) (c .before .before .before .before .before .before .args .i) (c .before .before .before .before .before .before .args .j) (c .before .before .before .before .before .before .pre)) .1
 
-put-32-requires : tie.Need-put-32-requires
-put-32-requires c κs = search needs
+put-1024-requires : tie.Need-put-1024-requires
+put-1024-requires c κs = (c .before .before .before .before .pre .size, refl)
 
 slice-aggregate-stored-4 : tie.Need-slice-aggregate-stored-4
-slice-aggregate-stored-4 c = sym (c .before .put-32 .ensures .0)
+slice-aggregate-stored-4 c = sym (c .before .put-1024 .ensures .0)
 
 stored-requires-4 : tie.Need-stored-requires-4
-stored-requires-4 c κs = (entry-is (last (c .before .before .before .before .before .before) (c .before .before .before .before .before .if1 .left) (c .before .before .before .before .if2 .left) (c .before .before .before .if3 .left)) 16 refl (c .before .before .before .before .before .before .args .kind) (c .before .put-32 .ensures .1) (c .before .before .before .before .before .before .args .i) (c .before .before .before .before .before .before .args .j) (c .before .before .before .before .before .before .pre)) .0
+stored-requires-4 c κs = (entry-is (last (c .before .before .before .before .before .before) (c .before .before .before .before .before .if1 .left) (c .before .before .before .before .if2 .left) (c .before .before .before .if3 .left)) 16 refl (c .before .before .before .before .before .before .args .kind) (all-32 (c .before .before .before .before .before .before .args .n) (c .before .before .before .before .before .before .args .kind) false (last (c .before .before .before .before .before .before) (c .before .before .before .before .before .if1 .left) (c .before .before .before .before .if2 .left) (c .before .before .before .if3 .left)) (c .before .put-1024 .ensures .1)) (c .before .before .before .before .before .before .args .i) (c .before .before .before .before .before .before .args .j) (c .before .before .before .before .before .before .pre)) .0
 
 returns-4 : tie.Need-returns-4
-returns-4 c = toZ-ofZ w32 (c .stored4 .result) (search needs) ∙ c .stored4 .ensures ∙ (entry-is (last (c .before .before .before .before .before .before .before) (c .before .before .before .before .before .before .if1 .left) (c .before .before .before .before .before .if2 .left) (c .before .before .before .before .if3 .left)) 16 refl (c .before .before .before .before .before .before .before .args .kind) (c .before .before .put-32 .ensures .1) (c .before .before .before .before .before .before .before .args .i) (c .before .before .before .before .before .before .before .args .j) (c .before .before .before .before .before .before .before .pre)) .1
+returns-4 c = toZ-ofZ w32 (c .stored4 .result) (search needs) ∙ c .stored4 .ensures ∙ (entry-is (last (c .before .before .before .before .before .before .before) (c .before .before .before .before .before .before .if1 .left) (c .before .before .before .before .before .if2 .left) (c .before .before .before .before .if3 .left)) 16 refl (c .before .before .before .before .before .before .before .args .kind) (all-32 (c .before .before .before .before .before .before .before .args .n) (c .before .before .before .before .before .before .before .args .kind) false (last (c .before .before .before .before .before .before .before) (c .before .before .before .before .before .before .if1 .left) (c .before .before .before .before .before .if2 .left) (c .before .before .before .before .if3 .left)) (c .before .before .put-1024 .ensures .1)) (c .before .before .before .before .before .before .before .args .i) (c .before .before .before .before .before .before .before .args .j) (c .before .before .before .before .before .before .before .pre)) .1
 
 pub entry-spec : {M : Type 1} → statement M
 entry-spec =
@@ -76,7 +78,7 @@ entry-spec =
     slice-aggregate-stored-3
     stored-requires-3
     returns-3
-    put-32-requires
+    put-1024-requires
     slice-aggregate-stored-4
     stored-requires-4
     returns-4)

@@ -3,6 +3,7 @@ use native.Mathlib.Omega.{arith}
 use borrow.Author.Needs.{needs}
 use mathlib.Core.Path.{_≡_, refl, sym}
 use Rattle.meaning.proofs.Cases.{thirty-two}
+use Rattle.tables.proofs.Rooms.{all-32}
 use Rattle.engine.proofs.WholeLine.{whole-given, whole-line}
 use Rattle.engine.proofs.full.Statement.{statement}
 use Rattle.engine.proofs.full.Tie as tie
@@ -44,16 +45,17 @@ line-requires-3 c κs =
     let S = c .before .before .before .before .before .before in
     (whole-given (c .before .before .before .if3 .taken) 8 refl (omega arith) (S .args .kind) (S .args .forward) (c .before .before .zipped-16 .ensures) (S .args .x .now) (S .args .y .now) (S .pre), record { small = omega arith; short = omega arith })
 
-put-32-requires : tie.Need-put-32-requires
-put-32-requires c κs = search needs
+put-1024-requires : tie.Need-put-1024-requires
+put-1024-requires c κs = (c .before .before .before .before .pre .size, refl)
 
 slice-aggregate-line-4 : tie.Need-slice-aggregate-line-4
-slice-aggregate-line-4 c = sym (c .before .put-32 .ensures .0)
+slice-aggregate-line-4 c = sym (c .before .put-1024 .ensures .0)
 
 line-requires-4 : tie.Need-line-requires-4
 line-requires-4 c κs =
     let S = c .before .before .before .before .before .before .before in
-    (whole-given (last S (c .before .before .before .before .before .before .if1 .left) (c .before .before .before .before .before .if2 .left) (c .before .before .before .before .if3 .left)) 16 refl (omega arith) (S .args .kind) (S .args .forward) (c .before .before .put-32 .ensures .1) (S .args .x .now) (S .args .y .now) (S .pre), record { small = omega arith; short = omega arith })
+    let e = last S (c .before .before .before .before .before .before .if1 .left) (c .before .before .before .before .before .if2 .left) (c .before .before .before .before .if3 .left) in
+    (whole-given e 16 refl (omega arith) (S .args .kind) (S .args .forward) (all-32 (S .args .n) (S .args .kind) (S .args .forward) e (c .before .before .put-1024 .ensures .1)) (S .args .x .now) (S .args .y .now) (S .pre), record { small = omega arith; short = omega arith })
 
 same-length : tie.Need-same-length
 same-length c = search needs
@@ -85,7 +87,8 @@ same-length-4 c = search needs
 returns-4 : tie.Need-returns-4
 returns-4 c =
     let S = c .before .before .before .before .before .before .before .before .before in
-    whole-line (last S (c .before .before .before .before .before .before .before .before .if1 .left) (c .before .before .before .before .before .before .before .if2 .left) (c .before .before .before .before .before .before .if3 .left)) 16 refl (omega arith) (S .args .kind) (S .args .forward) (c .before .before .before .before .put-32 .ensures .1) (S .args .x .now) (S .args .y .now) (S .pre) _ (c .before .line4 .ensures)
+    let e = last S (c .before .before .before .before .before .before .before .before .if1 .left) (c .before .before .before .before .before .before .before .if2 .left) (c .before .before .before .before .before .before .if3 .left) in
+    whole-line e 16 refl (omega arith) (S .args .kind) (S .args .forward) (all-32 (S .args .n) (S .args .kind) (S .args .forward) e (c .before .before .before .before .put-1024 .ensures .1)) (S .args .x .now) (S .args .y .now) (S .pre) _ (c .before .line4 .ensures)
 
 pub full-spec : {M : Type 1} → statement M
 full-spec =
@@ -100,7 +103,7 @@ full-spec =
     zipped-16-requires
     slice-aggregate-line-3
     line-requires-3
-    put-32-requires
+    put-1024-requires
     slice-aggregate-line-4
     line-requires-4
     same-length

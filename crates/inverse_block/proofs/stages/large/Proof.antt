@@ -16,7 +16,7 @@ use Rattle.algebra.specs.Lists.{at, tabulate, block}
 use Rattle.algebra.proofs.Lists.{part-long, part-same}
 use Rattle.meaning.specs.Plan.{planOf, shortRange}
 use Rattle.meaning.specs.Inverse.{rails, inverseBlock}
-use Rattle.meaning.proofs.Cases.{depth-cases, size-in}
+use Rattle.meaning.proofs.Cases.{size-in}
 use Rattle.product.specs.Product.{lineSum, shifted, Rounding, Lines}
 use Rattle.inverse_stage.specs.Given.{Given, Room}
 use Rattle.inverse_stage.specs.Settled.{railsOf}
@@ -29,9 +29,6 @@ given s = s .pre
 
 fits : (s : tie.Start) → Room 1024 (s .args .shape) (s .args .rows) (s .args .columns)
 fits s = all-rooms (s .pre)
-
-depth : (s : tie.Start) → (8 ≤ s .args .shape .depth) × (s .args .shape .depth ≤ 12)
-depth s = depth-cases (s .args .shape .depth) (given s .block .taken .depth)
 
 -- the sums of the first stage have room in r
 abbrev area : tie.Start → ℕ
@@ -188,11 +185,11 @@ settled c = c .settle .ensures .0 ∙ ap (λ (l : List ℤ). tabulate (length l)
 counted : (c : tie.After-settle) → c .settle .result ≡ rails (planOf (began (joined c) .args .shape)) (began (joined c) .args .c .now)
 counted c = c .settle .ensures .1 ∙ (λ i. railsOf (length (part (joined c) i)) (part (joined c) i) (settled c i)) ∙ settled-rails (given (began (joined c)))
 
-sub-last : tie.Need-sub-last
-sub-last c = omega (arith, depth (began (joined (c .before .before))))
+last-shift-requires : tie.Need-last-shift-requires
+last-shift-requires c κs = given (began (joined (c .before))) .block .taken .depth
 
 half-requires : tie.Need-half-requires
-half-requires c κs = let d = depth (began (joined (c .before .before))) in (omega arith, omega arith)
+half-requires c κs = c .last-shift .ensures .1
 
 put-1024-requires-2 : tie.Need-put-1024-requires-2
 put-1024-requires-2 c κs = (given (began (joined (c .before .before .before .before))) .block .taken .width, laid-long (joined (c .before .before .before .before) .before))
@@ -207,6 +204,9 @@ origin c = began (joined (middle c))
 abbrev held : tie.After-put-10242 → List ℤ
 held c = middle c .settle .last .1 .0 ++ drop (area (origin c) - 0) (zipped (joined (middle c) .before))
 
+abbrev shift : tie.After-put-10242 → ℕ
+shift c = c .before .before .before .last-shift .result
+
 half-is : (c : tie.After-put-10242) → toZ w32 (ofZ w32 (c .before .before .half .result)) ≡ c .before .before .half .result
 half-is c = toZ-ofZ w32 (c .before .before .half .result) (search needs)
 
@@ -215,21 +215,21 @@ held-full c = room-full 1024 (area (origin c)) (middle c .settle .last .1 .0) (z
 
 along-asks : (c : tie.After-put-10242) (pairs : ℕ) → 2 * pairs ≡ origin c .args .columns
     → Lines (origin c .args .shape .height) (origin c .args .shape .width) pairs (held c) (origin c .args .columns) 2 (c .put-10242 .last .1 .1 .1 .0) (2 * origin c .args .shape .width)
-    × (Rounding (toZ w32 (ofZ w32 (c .before .before .half .result))) (20 - origin c .args .shape .depth) × (origin c .args .shape .height * origin c .args .shape .width ≤ length (joined (middle c) .if1 .r)))
+    × (Rounding (toZ w32 (ofZ w32 (c .before .before .half .result))) (shift c) × (origin c .args .shape .height * origin c .args .shape .width ≤ length (joined (middle c) .if1 .r)))
 along-asks c pairs e = (
   along-given (given (origin c)) (fits (origin c)) (c .put-10242 .ensures .1) (between (given (origin c)) _ _ (settled (middle c))) pairs e,
   (
-    subst (λ (z : ℤ). Rounding z (20 - origin c .args .shape .depth)) (sym (half-is c)) (c .before .before .half .ensures .1),
+    subst (λ (z : ℤ). Rounding z (shift c)) (sym (half-is c)) (c .before .before .half .ensures .1),
     omega (arith, first-room (joined (middle c)), mul-comm (origin c .args .shape .width) (origin c .args .shape .height)),
   ),
 )
 
 along-gives : (c : tie.After-put-10242) (pairs : ℕ) → 2 * pairs ≡ origin c .args .columns
-    → block (origin c .args .shape .width) (origin c .args .shape .height) (λ x y. shifted (toZ w32 (ofZ w32 (c .before .before .half .result))) (20 - origin c .args .shape .depth) (lineSum (held c) (origin c .args .columns * y) 2 (c .put-10242 .last .1 .1 .1 .0) (2 * origin c .args .shape .width) pairs x)) ++ drop (origin c .args .shape .height * origin c .args .shape .width) (joined (middle c) .if1 .r)
+    → block (origin c .args .shape .width) (origin c .args .shape .height) (λ x y. shifted (toZ w32 (ofZ w32 (c .before .before .half .result))) (shift c) (lineSum (held c) (origin c .args .columns * y) 2 (c .put-10242 .last .1 .1 .1 .0) (2 * origin c .args .shape .width) pairs x)) ++ drop (origin c .args .shape .height * origin c .args .shape .width) (joined (middle c) .if1 .r)
     ≡ inverseBlock (planOf (origin c .args .shape)) (origin c .args .c .now)
 along-gives c pairs e =
     along-is (given (origin c)) (fits (origin c)) (c .put-10242 .ensures .1) (between (given (origin c)) _ _ (settled (middle c))) pairs e
-    (joined (middle c) .if1 .r) (half-is c ∙ c .before .before .half .ensures .0) (first-room (joined (middle c)))
+    (joined (middle c) .if1 .r) (half-is c ∙ c .before .before .half .ensures .0) (c .before .before .before .last-shift .ensures .0) (first-room (joined (middle c)))
 
 slice-aggregate-lines-9 : tie.Need-slice-aggregate-lines-9
 slice-aggregate-lines-9 c = held-full (c .before .before)
@@ -335,7 +335,7 @@ large-spec =
     part-z-start
     part-z-end
     settle-requires
-    sub-last
+    last-shift-requires
     half-requires
     put-1024-requires-2
     slice-aggregate-lines-9

@@ -3,7 +3,7 @@ use borrow.Author.Needs.{needs}
 use native.Mathlib.Omega.{arith}
 use mathlib.Core.Path.{_≡_, refl, sym, ap, _∙_, subst}
 use mathlib.Core.List.{List}
-use Prim.Native.Nat.{ℕ, _+_, _*_, _-_, _≤_}
+use Prim.Native.Nat.{ℕ, _+_, _*_}
 use native.Mathlib.Nat.{mul-comm}
 use lib.ListN.{length}
 use lib.IntN.{ℤ, pos}
@@ -14,7 +14,6 @@ use Rattle.algebra.specs.Clip.{clip}
 use Rattle.algebra.specs.Lists.{at, tabulate, block}
 use Rattle.meaning.specs.Plan.{planOf, shortRange}
 use Rattle.meaning.specs.Inverse.{rails, inverseBlock}
-use Rattle.meaning.proofs.Cases.{depth-cases}
 use Rattle.product.specs.Product.{Laid, lineSum, shifted, Rounding, Lines}
 use Rattle.inverse_stage.specs.Given.{Given}
 use Rattle.inverse_stage.specs.Settled.{railsOf}
@@ -35,9 +34,6 @@ area s = λ i. square s .height i * square s .width i
 
 room : (s : tie.Start) → length (s .args .r .now) ≡ s .args .shape .height * s .args .shape .width
 room s = given s .block .room ∙ mul-comm (s .args .shape .width) (s .args .shape .height)
-
-depth : (s : tie.Start) → (8 ≤ s .args .shape .depth) × (s .args .shape .depth ≤ 12)
-depth s = depth-cases (s .args .shape .depth) (given s .block .taken .depth)
 
 cast-w : tie.Need-cast-w
 cast-w c = search needs
@@ -128,11 +124,11 @@ settled-long c = ap length (settled c) ∙ middles-long (given (origin c)) ∙ a
 counted : (c : tie.After-settle) → c .settle .result ≡ rails (planOf (origin c .args .shape)) (origin c .args .c .now)
 counted c = c .settle .ensures .1 ∙ (λ i. railsOf (length (first (work c) i)) (first (work c) i) (settled c i)) ∙ settled-rails (given (origin c))
 
-sub-last : tie.Need-sub-last
-sub-last c = omega (arith, depth (origin (c .before .before)))
+last-shift-requires : tie.Need-last-shift-requires
+last-shift-requires c κs = given (origin (c .before)) .block .taken .depth
 
 half-requires : tie.Need-half-requires
-half-requires c κs = let d = depth (origin (c .before .before)) in (omega arith, omega arith)
+half-requires c κs = c .last-shift .ensures .1
 
 put-requires-2 : tie.Need-put-requires-2
 put-requires-2 c κs = let s = origin (c .before .before .before .before) in rw (s .pre .1 .1) (given s .block .taken .horizontal)
@@ -140,6 +136,9 @@ put-requires-2 c κs = let s = origin (c .before .before .before .before) in rw 
 -- ---- the lines along the rows
 abbrev middle : tie.After-put2 → tie.After-settle
 middle c = c .before .before .before .before .before
+
+abbrev shift : tie.After-put2 → ℕ
+shift c = c .before .before .before .last-shift .result
 
 abbrev held : tie.After-put2 → ℤ
 held c = toZ w32 (ofZ w32 (c .before .before .half .result))
@@ -160,7 +159,7 @@ lines-requires-2 c κs =
     let s = origin S in (
       of-square (λ w h. Lines h w 4 (S .settle .last .1 .0) 8 2 (P .put2 .last .1 .0) 16) (square s)
           (along-lines (s .args .horizontal) refl (omega arith) (omega arith) (P .put2 .ensures .1) (S .settle .last .1 .0) (settled-long S)),
-      (subst (λ (z : ℤ). Rounding z (20 - s .args .shape .depth)) (sym (half-is P)) (P .before .before .half .ensures .1), omega (arith, first-long (work S))),
+      (subst (λ (z : ℤ). Rounding z (shift P)) (sym (half-is P)) (P .before .before .half .ensures .1), omega (arith, first-long (work S))),
     )
 
 done : (c : tie.After-lines2) → let s = origin (middle (c .before .before .before .before)) in c .lines2 .last .1 .1 .1 .1 .1 .1 .1 .1 .1 .1 .0 ≡ inverseBlock (planOf (s .args .shape)) (s .args .c .now)
@@ -168,12 +167,12 @@ done c =
     let P = c .before .before .before .before in
     let S = middle P in
     let s = origin S in
-    let last = 20 - s .args .shape .depth in
+    let last = shift P in
     c .lines2 .ensures
     ∙ all-written (s .args .shape .height * s .args .shape .width) _ (work S .lines .last .1 .1 .1 .1 .1 .1 .1 .1 .1 .1 .0) (omega (arith, first-long (work S)))
     ∙ of-square (λ w h. block w h (λ x y. shifted (held P) last (lineSum (S .settle .last .1 .0) (8 * y) 2 (P .put2 .last .1 .0) 16 4 x)) ≡ alongBlock (s .args .horizontal) w h (S .settle .last .1 .0) last) (square s)
     (along-sums (s .args .horizontal) refl (omega arith) (omega arith) (P .put2 .ensures .1) (S .settle .last .1 .0) (settled-long S) last (half-is P ∙ P .before .before .half .ensures .0))
-    ∙ (λ i. alongBlock (s .pre .1 .1 i) (s .args .shape .width) (s .args .shape .height) (settled S i) last)
+    ∙ (λ i. alongBlock (s .pre .1 .1 i) (s .args .shape .width) (s .args .shape .height) (settled S i) (P .before .before .before .last-shift .ensures .0 i))
     ∙ whole-block (given s)
 
 same-length : tie.Need-same-length
@@ -196,7 +195,7 @@ eight-spec =
     lines-requires
     slice-aggregate-settle
     settle-requires
-    sub-last
+    last-shift-requires
     half-requires
     put-requires-2
     slice-aggregate-lines-3

@@ -3,7 +3,7 @@ use borrow.Author.Needs.{needs}
 use native.Mathlib.Omega.{arith}
 use mathlib.Core.Path.{_≡_, refl, sym, ap, _∙_}
 use mathlib.Core.List.{List}
-use Prim.Native.Nat.{_*_, _-_, _≤_}
+use Prim.Native.Nat.{_*_}
 use lib.ListN.{length}
 use lib.IntN.{ℤ}
 use Rattle.algebra.specs.Clip.{clip}
@@ -11,7 +11,6 @@ use Rattle.algebra.specs.Lists.{at, tabulate}
 use Rattle.algebra.proofs.Lists.{block-length, tab-length}
 use Rattle.meaning.specs.Plan.{planOf, shortRange}
 use Rattle.meaning.specs.Inverse.{rails, inverseBlock}
-use Rattle.meaning.proofs.Cases.{depth-cases}
 use Rattle.inverse_stage.specs.Given.{Given}
 use Rattle.inverse_stage.specs.Settled.{railsOf}
 use Rattle.inverse_squares.specs.Square.{Square, downBlock, alongBlock}
@@ -28,9 +27,6 @@ square s = s .pre .1
 
 area : (s : tie.Start) → s .args .shape .width * s .args .shape .height ≡ 16
 area s = λ i. square s .width i * square s .height i
-
-depth : (s : tie.Start) → (8 ≤ s .args .shape .depth) × (s .args .shape .depth ≤ 12)
-depth s = depth-cases (s .args .shape .depth) (given s .block .taken .depth)
 
 down-requires : tie.Need-down-requires
 down-requires c κs = let s = c .before in (given s .block .taken .vertical, (given s .block .long ∙ area s, refl))
@@ -69,22 +65,21 @@ settled-long c = ap length (c .settle .ensures .0) ∙ tab-length _ _ ∙ first-
 counted : (c : tie.After-settle) → c .settle .result ≡ rails (planOf (start (downed c) .args .shape)) (start (downed c) .args .c .now)
 counted c = c .settle .ensures .1 ∙ (λ i. railsOf (length (first (downed c) i)) (first (downed c) i) (settled c i)) ∙ settled-rails (given (start (downed c)))
 
-sub-along : tie.Need-sub-along
-sub-along c = omega (arith, depth (start (downed (c .before .before .before))))
+last-shift-requires : tie.Need-last-shift-requires
+last-shift-requires c κs = given (start (downed (c .before .before))) .block .taken .depth
 
 along-requires : tie.Need-along-requires
 along-requires c κs =
     let S = c .before .before .before .before in
     let s = start (downed S) in
-    let d = depth s in
-    (given s .block .taken .horizontal, ((omega arith, omega arith), (settled-long S, given s .block .room ∙ area s)))
+    (given s .block .taken .horizontal, (c .before .last-shift .ensures .1, (settled-long S, given s .block .room ∙ area s)))
 
 done : (c : tie.After-along) → let s = start (downed (c .before .before .before .before .before)) in c .along .last .1 .1 .1 .0 ≡ inverseBlock (planOf (s .args .shape)) (s .args .c .now)
 done c =
     let S = c .before .before .before .before .before in
     let s = start (downed S) in
     c .along .ensures
-    ∙ sym (λ i. alongBlock (s .args .shape .horizontal) (square s .width i) (square s .height i) (sym (settled S) i) (20 - s .args .shape .depth))
+    ∙ sym (λ i. alongBlock (s .args .shape .horizontal) (square s .width i) (square s .height i) (sym (settled S) i) (sym (c .before .before .last-shift .ensures .0) i))
     ∙ whole-block (given s)
 
 same-length : tie.Need-same-length
@@ -101,7 +96,7 @@ four-spec =
     slice-aggregate-settle
     slice-aggregate-settle-2
     settle-requires
-    sub-along
+    last-shift-requires
     along-requires
     same-length
     returns)

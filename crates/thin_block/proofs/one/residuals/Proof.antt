@@ -32,8 +32,8 @@ rounded n kind s c l e =
     ap (λ (m : ℕ). tabulate m (λ k. nearest s (at l k))) (ap length e ∙ tab-length n (inverseSum kind n n (at c)))
     ∙ tab-cong n _ _ (λ k h. ap (nearest s) (ap (λ (l : List ℤ). at l k) e ∙ tab-at n (inverseSum kind n n (at c)) k h))
 
-inverse-requires : tie.Need-inverse-requires
-inverse-requires c κs = search needs
+inverse-product-requires : tie.Need-inverse-product-requires
+inverse-product-requires c κs = search needs
 
 sub-round-each : tie.Need-sub-round-each
 sub-round-each c = omega (arith, depth (c .before .before .before))
@@ -50,8 +50,8 @@ returns c =
     let s = I .before .before in
     let a = s .args in
     c .before .round-each .ensures
-    ∙ rounded (a .n) (a .kind) (thinShift (a .d)) (a .c .now) _ (ap (λ (o : Outcome). o .1) (I .inverse .ensures ∙ done (a .n) (a .kind) (a .d) (a .c .now) (a .out .now) (s .pre)))
+    ∙ rounded (a .n) (a .kind) (thinShift (a .d)) (a .c .now) _ (ap (λ (o : Outcome). o .1) (I .inverse-product .ensures ∙ done (a .n) (a .kind) (a .d) (a .c .now) (a .out .now) (s .pre)))
 
 pub residuals-spec : {M : Type 1} → statement M
 residuals-spec =
-    tie.close (tie.spec inverse-requires sub-round-each round-each-requires same-length returns)
+    tie.close (tie.spec inverse-product-requires sub-round-each round-each-requires same-length returns)

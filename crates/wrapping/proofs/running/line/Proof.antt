@@ -4,6 +4,7 @@ use native.Mathlib.Omega.{arith}
 use mathlib.Core.Path.{_≡_, refl, sym, _∙_}
 use Rattle.meaning.proofs.Cases.{thirty-two}
 use Rattle.wrapping.proofs.StoredLine.{feed, is-line}
+use Rattle.tables.proofs.Rooms.{all-32}
 use Rattle.wrapping.proofs.running.line.Statement.{statement}
 use Rattle.wrapping.proofs.running.line.Tie as tie
 
@@ -44,8 +45,8 @@ line-of-requires-3 c κs =
     let S = c .before .before .before .before .before .before .before in
     (feed (c .before .before .before .if3 .taken) 8 refl (omega arith) (S .args .kind) (S .args .forward) (c .before .before .zipped-16 .ensures) (S .args .x .now) (S .pre .0 .long) (S .pre .1), S .pre .0 .room ∙ sym (S .pre .0 .long))
 
-put-32-requires : tie.Need-put-32-requires
-put-32-requires c κs = search needs
+put-1024-requires : tie.Need-put-1024-requires
+put-1024-requires c κs = (c .before .before .before .before .before .pre .0 .size, refl)
 
 slice-aggregate-line-of-4 : tie.Need-slice-aggregate-line-of-4
 slice-aggregate-line-of-4 c = search needs
@@ -53,7 +54,8 @@ slice-aggregate-line-of-4 c = search needs
 line-of-requires-4 : tie.Need-line-of-requires-4
 line-of-requires-4 c κs =
     let S = c .before .before .before .before .before .before .before .before in
-    (feed (last S (c .before .before .before .before .before .before .if1 .left) (c .before .before .before .before .before .if2 .left) (c .before .before .before .before .if3 .left)) 16 refl (omega arith) (S .args .kind) (S .args .forward) (c .before .before .put-32 .ensures .1) (S .args .x .now) (S .pre .0 .long) (S .pre .1), S .pre .0 .room ∙ sym (S .pre .0 .long))
+    let e = last S (c .before .before .before .before .before .before .if1 .left) (c .before .before .before .before .before .if2 .left) (c .before .before .before .before .if3 .left) in
+    (feed e 16 refl (omega arith) (S .args .kind) (S .args .forward) (all-32 (S .args .n) (S .args .kind) (S .args .forward) e (c .before .before .put-1024 .ensures .1)) (S .args .x .now) (S .pre .0 .long) (S .pre .1), S .pre .0 .room ∙ sym (S .pre .0 .long))
 
 same-length : tie.Need-same-length
 same-length c = search needs
@@ -85,7 +87,8 @@ same-length-4 c = search needs
 returns-4 : tie.Need-returns-4
 returns-4 c =
     let S = c .before .before .before .before .before .before .before .before .before .before in
-    is-line (last S (c .before .before .before .before .before .before .before .before .if1 .left) (c .before .before .before .before .before .before .before .if2 .left) (c .before .before .before .before .before .before .if3 .left)) 16 refl (omega arith) (S .args .kind) (S .args .forward) (c .before .before .before .before .put-32 .ensures .1) (S .args .x .now) (S .pre .0 .long) _ (c .before .line-of4 .ensures)
+    let e = last S (c .before .before .before .before .before .before .before .before .if1 .left) (c .before .before .before .before .before .before .before .if2 .left) (c .before .before .before .before .before .before .if3 .left) in
+    is-line e 16 refl (omega arith) (S .args .kind) (S .args .forward) (all-32 (S .args .n) (S .args .kind) (S .args .forward) e (c .before .before .before .before .put-1024 .ensures .1)) (S .args .x .now) (S .pre .0 .long) _ (c .before .line-of4 .ensures)
 
 pub line-spec : {M : Type 1} → statement M
 line-spec =
@@ -100,7 +103,7 @@ line-spec =
     zipped-16-requires
     slice-aggregate-line-of-3
     line-of-requires-3
-    put-32-requires
+    put-1024-requires
     slice-aggregate-line-of-4
     line-of-requires-4
     same-length
