@@ -1,14 +1,14 @@
 -- The largest and the smallest of some numbers: where neither is too large, none is. Assumes nothing.
-use mathlib.Core.Path.{_≡_, sym, ap, _∙_}
-use mathlib.Core.Bool.{Bool, true, false}
+use mathlib.Core.Path.{_≡_}
+use mathlib.Core.Bool.{true, false}
 use mathlib.Core.List.{List}
 use Prim.Native.Nat.{ℕ, _≤_, _<_}
 use native.Mathlib.Omega.{arith}
 use lib.ListN.{length}
 use lib.IntN.{ℤ, natAbs}
-use lib.Signed.{ltZ, _≤ℤ_, _<ℤ_}
+use lib.Signed.{ltZ, _≤ℤ_}
 use Rattle.algebra.specs.Lists.{at}
-use Rattle.algebra.proofs.Order.{le-parts, lt-parts, parts-le, abs-parts, parts-abs, parts-zero}
+use Rattle.algebra.proofs.Order.{le-parts, lt-parts, parts-le, abs-parts, parts-abs}
 use Rattle.algebra.proofs.Clip.{order-cases}
 use Rattle.meaning.specs.Taken.{NoneAbove}
 use Rattle.meaning.proofs.Small.{within-places}

@@ -4,7 +4,7 @@ use mathlib.Core.Path.{_≡_, refl, sym, ap, _∙_, subst}
 use mathlib.Core.Bool.{Bool, true, false, cond, _&&_}
 use mathlib.Core.Logic.{inl, inr}
 use mathlib.Core.List.{List}
-use Prim.Native.Nat.{ℕ, suc, _+_, _*_, _/_, _≤_, _<_}
+use Prim.Native.Nat.{ℕ, _+_, _*_, _/_, _≤_, _<_}
 use native.Mathlib.Nat.{mul-comm, mul-le-mul-left, mul-le-mul-right, mul-suc, suc-mul}
 use native.Mathlib.Omega.{arith}
 use borrow.Author.Tests.{ltb-true, ltb-false}
@@ -25,8 +25,8 @@ use Rattle.meaning.specs.Forward.{rowShift, columnShift, rowValue, columnValue,
 use Rattle.meaning.proofs.Cases.{size-in, depth-cases}
 use Rattle.meaning.proofs.KeptPart.{columns-kept, rows-kept}
 use Rattle.meaning.proofs.Sizes.{weightSize}
-use Rattle.meaning.proofs.Stages.{log-in, rowStage, columnStage, rowValue-fits, columnValue-fits}
-use Rattle.product.specs.Product.{spot, Laid, lineSum}
+use Rattle.meaning.proofs.Stages.{log-in, rowValue-fits, columnValue-fits}
+use Rattle.product.specs.Product.{spot, Laid}
 use Rattle.product.proofs.Laid.{laid-less, lines-given, line-is}
 use Rattle.layout.specs.Zip.{Rows}
 use Rattle.layout.proofs.Zipping.{size-even}

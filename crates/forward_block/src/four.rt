@@ -15,7 +15,7 @@ ghost use lib.IntN.{_+ℤ_, _*ℤ_, natAbs};
 ghost use lib.ListN.{length};
 ghost use mir.Syntax.{w16};
 ghost use mir.Val.{SFits};
-ghost use Rattle.algebra.specs.Lists.{at, tabulate};
+ghost use Rattle.algebra.specs.Lists.{tabulate};
 ghost use Rattle.algebra.specs.Shift.{nearest};
 ghost use Rattle.meaning.specs.Forward.{forwardBlock};
 ghost use Rattle.product.specs.Product.{shifted, Rounding};

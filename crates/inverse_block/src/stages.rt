@@ -17,7 +17,7 @@ use product::lines;
 use tables::stage::put_128;
 use tables::stage::put_1024;
 ghost use mathlib.Core.Path.{_≡_};
-ghost use Prim.Native.Nat.{_*_, _≤_};
+ghost use Prim.Native.Nat.{_*_};
 ghost use Rattle.meaning.specs.Plan.{planOf};
 ghost use Rattle.meaning.specs.Inverse.{rails, inverseBlock};
 ghost use Rattle.inverse_stage.specs.Given.{Given, Room};

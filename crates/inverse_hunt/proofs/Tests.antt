@@ -1,17 +1,16 @@
 -- Tests of numbers, by what they say. Assumes nothing.
 use mathlib.Core.Path.{_≡_, refl, _∙_}
-use mathlib.Core.Bool.{Bool, true, false, not, _&&_}
+use mathlib.Core.Bool.{Bool, true, false, not}
 use mathlib.Core.List.{List}
 use Prim.Native.Nat.{ℕ, zero, suc, _+_, _≤_, _<_}
 use native.Mathlib.Omega.{arith}
-use borrow.Author.Tests.{ltb-true, ltb-false, lt-ltb, le-leb, lt-leb}
-use lib.Dec.{eqb, ltb, leb}
-use lib.IntN.{ℤ, natAbs}
+use borrow.Author.Tests.{ltb-true, ltb-false, le-leb, lt-leb}
+use lib.Dec.{ltb, leb}
+use lib.IntN.{ℤ}
 use lib.ListN.{length, drop}
 use Rattle.algebra.specs.Lists.{at}
 use Rattle.algebra.specs.First.{firstAt}
 use Rattle.algebra.proofs.First.{first-on}
-use Rattle.meaning.specs.Inverse.{outsideAt}
 
 pub leb-not : (a b : ℕ) → leb a b ≡ not (ltb b a)
 leb-not a b = go (ltb b a) refl
@@ -29,11 +28,3 @@ skip p l k zero h f =
 skip p l k (suc n) h f =
     let e : k + n + 1 ≡ k + suc n = omega arith in
     skip p l k n (omega arith) (λ i g. f i (omega arith)) ∙ first-on p l (k + n) (omega arith) (f n (omega arith)) ∙ rw e
-
--- what is kept is not outside
-pub kept-not : (columns rows x y : ℕ) (z : ℤ) → x < columns → y < rows → outsideAt columns rows x y z ≡ false
-kept-not columns rows x y z h g = rw (lt-ltb x columns h, lt-ltb y rows g) (no (not (eqb (natAbs z) 0)))
-  where
-    no : (b : Bool) → b && false ≡ false
-    no true = refl
-    no false = refl

@@ -2,7 +2,7 @@
 // any counts at all, and only then are they counted: clipping and looking take eight numbers at a time, counting does not.
 ghost use mathlib.Core.Path.{_≡_};
 ghost use mathlib.Core.Bool.{false};
-ghost use Prim.Native.Nat.{ℕ, _≤_, _<_};
+ghost use Prim.Native.Nat.{_≤_, _<_};
 ghost use lib.ListN.{length};
 ghost use Rattle.algebra.specs.Clip.{clip};
 ghost use Rattle.algebra.specs.Lists.{at, tabulate};

@@ -3,4 +3,3 @@ pub mod Summing
 pub mod Ceil
 pub mod Rails
 pub mod Whole
-pub mod LivePart

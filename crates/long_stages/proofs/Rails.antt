@@ -2,8 +2,7 @@
 use native.Mathlib.Omega.{arith}
 use mathlib.Core.Path.{_≡_, refl}
 use mathlib.Core.Bool.{Bool, true, false}
-use Prim.Native.Nat.{ℕ, zero, suc, _+_, _*_, _≤_}
-use native.Mathlib.Nat.{le-trans}
+use Prim.Native.Nat.{ℕ, _*_, _≤_}
 use Rattle.algebra.specs.Sum.{sumℕ}
 use Rattle.algebra.proofs.Sum.{sumℕ-mono, sumℕ-const}
 use Rattle.meaning.specs.Inverse.{count}

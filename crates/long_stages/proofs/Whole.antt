@@ -4,13 +4,13 @@ use native.Mathlib.Omega.{arith}
 use mathlib.Core.Path.{_≡_, sym, ap, _∙_, subst}
 use mathlib.Core.Bool.{Bool, false}
 use mathlib.Core.List.{List, _++_}
-use Prim.Native.Nat.{ℕ, _+_, _*_, _-_, _≤_, _<_}
+use Prim.Native.Nat.{ℕ, _+_, _*_, _≤_, _<_}
 use native.Mathlib.Nat.{mul-comm, mul-le-mul}
-use lib.ListN.{length, drop, length-append, List·getD-append}
+use lib.ListN.{length, length-append, List·getD-append}
 use lib.IntN.{ℤ, pos, _*ℤ_}
 use mir.Syntax.{w32}
 use mir.Val.{SFits}
-use Rattle.algebra.specs.Sum.{sum, sumℕ}
+use Rattle.algebra.specs.Sum.{sumℕ}
 use Rattle.algebra.specs.Clip.{clip}
 use Rattle.algebra.specs.Shift.{nearest}
 use Rattle.algebra.specs.Lists.{at, block}
@@ -27,7 +27,7 @@ use Rattle.meaning.proofs.LongSizes.{long-residual-fits}
 use Rattle.product.specs.Product.{spot, Laid}
 use Rattle.tables.specs.Stage.{Weights}
 use Rattle.layout.proofs.Alive as alive
-use Rattle.long_stages.specs.Sums.{dotted, Dot}
+use Rattle.long_stages.specs.Sums.{dotted}
 use Rattle.long_stages.specs.Work.{columnAt, railOf, Down, rowAt, Along, Given}
 use Rattle.long_stages.proofs.Summing.{odd-spot}
 

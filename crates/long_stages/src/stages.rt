@@ -10,7 +10,7 @@ use meaning::Shape;
 use tables::stage::put_1024;
 ghost use mathlib.Core.Path.{_≡_};
 ghost use mathlib.Core.List.{_++_};
-ghost use Prim.Native.Nat.{ℕ, _+_, _*_, _≤_, _<_};
+ghost use Prim.Native.Nat.{_+_, _*_, _≤_, _<_};
 ghost use lib.ListN.{length, drop};
 ghost use Rattle.algebra.specs.Shift.{nearest};
 ghost use Rattle.algebra.specs.Sum.{sumℕ};

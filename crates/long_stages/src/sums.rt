@@ -1,7 +1,7 @@
 // One sum of a line, in 64 bits.
 use crate::arith::mac;
 ghost use mathlib.Core.Path.{_≡_};
-ghost use Prim.Native.Nat.{ℕ, _+_, _*_, _≤_};
+ghost use Prim.Native.Nat.{_+_, _*_, _≤_};
 ghost use lib.IntN.{natAbs};
 ghost use Rattle.long_stages.specs.Sums.{dotted, Dot};
 

@@ -1,45 +1,36 @@
 -- A 4 by 4 block by value "refuses with 3, 4, 5 and 9 only": of the lent form's tests, 1, 2, 20, 6, 7 and 8 cannot apply
 -- (`forward-tests`, `inverse-tests`). And four lines of four are known by their numbers in order (`lines-one`), so that a
 -- contract over `flat` settles each of them. Assumes nothing.
-use mathlib.Core.Path.{_≡_, refl, sym, ap, _∙_}
-use mathlib.Core.Bool.{Bool, true, false, not, _&&_}
+use mathlib.Core.Path.{_≡_, sym, ap, _∙_}
+use mathlib.Core.Bool.{true, false, not}
 use mathlib.Core.List.{List, [], _∷_, _++_}
-use Prim.Native.Nat.{ℕ, _+_, _*_, _/_, _%_, _<_}
-use native.Mathlib.Nat.{mod-lt, div-lt-iff-lt-mul}
+use Prim.Native.Nat.{ℕ, _+_, _*_, _≤_, _<_}
 use native.Mathlib.Omega.{arith}
-use borrow.Author.Tests.{lt-ltb, le-ltb}
-use lib.Dec.{eqb, ltb}
-use lib.IntN.{ℤ, pos, natAbs}
+use borrow.Author.Tests.{le-ltb}
+use lib.Dec.{ltb}
+use lib.IntN.{ℤ, pos}
 use lib.ListN.{length, getD}
 use lib.Seq.{ext-getD}
 use Rattle.algebra.specs.Lists.{at, tabulate, flat}
 use Rattle.algebra.specs.Refusals.{Refusal}
-use Rattle.algebra.proofs.First.{first-past}
 use Rattle.algebra.proofs.Lists.{flat-at}
-use Rattle.meaning.specs.Shape.{isSize, isKind, isDepth, keeps}
+use Rattle.meaning.specs.Shape.{isSize, isKind, isDepth, most, keeps}
 use Rattle.meaning.specs.Plan.{planOf}
 use Rattle.meaning.specs.Answer.{outcome, test, accepted}
-use Rattle.meaning.specs.Inverse.{outside, firstOutside, rails, inverseBlock}
+use Rattle.meaning.specs.Inverse.{firstOutside, rails, inverseBlock}
 use Rattle.meaning.specs.Forward.{firstTooLarge, forwardBlock}
 use Rattle.meaning.proofs.KeptPart.{most-all}
+use Rattle.layout.specs.Part.{Part}
+use Rattle.layout.proofs.Inside.{none-outside}
 use Rattle.transform.specs.Small.{smallShape, zeros, smallForward, smallInverse}
 
 -- 3, 4 and 5
 abbrev pub smallTests : ℕ → ℕ → ℕ → List Refusal
 smallTests horizontal vertical depth = test (not (isKind horizontal)) 3 ∷ test (not (isKind vertical)) 4 ∷ test (not (isDepth depth)) 5 ∷ []
 
--- every place of a 4 by 4 block is kept
-kept : (h v d k : ℕ) (z : ℤ) → k < 16 → outside (planOf (smallShape h v d)) k z ≡ false
-kept h v d k z l =
-    let some : 0 < 4 = omega arith in
-    let p : k < 4 * 4 = omega arith in
-    let x : ltb (k % 4) 4 ≡ true = lt-ltb (k % 4) 4 (mod-lt k some) in
-    let y : ltb (k / 4) 4 ≡ true = lt-ltb (k / 4) 4 (div-lt-iff-lt-mul some .1 p) in
-    rw (most-all h 4 (omega arith), most-all v 4 (omega arith), x, y) (and-false (not (eqb (natAbs z) 0)))
-  where
-    and-false : (b : Bool) → b && false ≡ false
-    and-false true = refl
-    and-false false = refl
+-- all of a 4 by 4 block is kept
+whole : (b : List ℤ) → Part 4 4 4 4 b
+whole b = record { narrow = omega arith; low = omega arith; right = λ x y l g v. absurd (omega arith); below = λ x y g l v. absurd (omega arith) }
 
 all-four : (h v d : ℕ) → keeps (smallShape h v d) ≡ true
 unfolding keeps
@@ -52,14 +43,15 @@ module _ (b : List (List ℤ)) (h v d : ℕ) (long : length (flat b) ≡ 16) whe
   unfolding isSize tabulate
   forward-tests = rw (long, all-four h v d)
 
-  none-outside : ltb (firstOutside (planOf (smallShape h v d)) (flat b)) 16 ≡ false
-  none-outside =
-      let e = first-past (outside (planOf (smallShape h v d))) (flat b) 0 (λ i l. kept h v d (0 + i) (at (flat b) i) (omega arith)) in
+  none-found : ltb (firstOutside (planOf (smallShape h v d)) (flat b)) 16 ≡ false
+  none-found =
+      let all : (k : ℕ) → 4 ≤ most k 4 = λ k. omega (arith, most-all k 4 (omega arith)) in
+      let e = none-outside (planOf (smallShape h v d)) (flat b) long (whole (flat b)) (all h) (all v) in
       le-ltb (firstOutside (planOf (smallShape h v d)) (flat b)) 16 (omega (arith, e))
 
   pub inverse-tests : smallInverse b h v d ≡ outcome (smallTests h v d) zeros (accepted (rails (planOf (smallShape h v d)) (flat b)), inverseBlock (planOf (smallShape h v d)) (flat b))
   unfolding isSize tabulate
-  inverse-tests = rw (long, all-four h v d, none-outside)
+  inverse-tests = rw (long, all-four h v d, none-found)
 
 -- four lines of four
 pub record Four (b : List (List ℤ)) : Type 0 where

@@ -4,7 +4,7 @@ use native.Mathlib.Omega.{arith}
 use mathlib.Core.Path.{_≡_, sym, ap, _∙_}
 use mathlib.Core.Bool.{true, false}
 use mathlib.Core.List.{List, [], _∷_, _++_}
-use Prim.Native.Nat.{ℕ, _+_, _*_, _≤_, _<_}
+use Prim.Native.Nat.{ℕ, _+_, _*_, _≤_}
 use native.Mathlib.Nat.{mul-comm, mul-le-mul, mul-le-mul-right}
 use borrow.Author.Tests.{lt-ltb, le-ltb}
 use lib.Dec.{ltb}
@@ -22,8 +22,7 @@ use Rattle.meaning.proofs.Cases.{size-in}
 use Rattle.meaning.proofs.KeptPart.{columns-kept, rows-kept}
 use Rattle.meaning.proofs.Accepted.{block-taken-by}
 use Rattle.meaning.proofs.LongRules.{reach-in}
-use Rattle.layout.proofs.Inside.{kept-part}
-use Rattle.long_stages.proofs.LivePart.{live-part}
+use Rattle.layout.proofs.Inside.{live-part, kept-part}
 use Rattle.long_block.proofs.inverse.Statement.{statement}
 use Rattle.long_block.proofs.inverse.Tie as tie
 

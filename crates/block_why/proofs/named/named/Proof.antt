@@ -11,7 +11,6 @@ use Rattle.block_file.specs.Cursor.{foundAt}
 use Rattle.block_numbers.specs.Numbers.{numbers}
 use Rattle.block_run.specs.Does.{Fits}
 use Rattle.block_run.proofs.Steps.{data-fits}
-use Rattle.block_why.specs.declared.named.Reasons.{Reasons}
 use Rattle.block_why.specs.Named.{inverseNamed}
 use Rattle.block_why.proofs.Naming.{is-inverse, is-none}
 use borrow.Author.Needs.{needs}

@@ -1,6 +1,6 @@
 -- `four::four` meets its contract: the second stage's lines are the columns that the first one wrote. Assumes nothing.
 use borrow.Author.Needs.{needs}
-use mathlib.Core.Path.{_≡_, refl, sym, _∙_}
+use mathlib.Core.Path.{refl, sym, _∙_}
 use lib.ListN.{replicate}
 use lib.IntN.{pos}
 use Rattle.meaning.specs.Forward.{rowShift}

@@ -2,7 +2,7 @@
 use borrow.Author.Needs.{needs}
 use native.Mathlib.Omega.{arith}
 use borrow.Author.Tests.{eqb-true}
-use mathlib.Core.Path.{_≡_, sym, _∙_}
+use mathlib.Core.Path.{sym, _∙_}
 use Rattle.layout.proofs.Looking.{true-not-false}
 use Rattle.forward_block.proofs.four.is_four.Statement.{statement}
 use Rattle.forward_block.proofs.four.is_four.Tie as tie

@@ -1,6 +1,6 @@
 -- `four::output` meets its contract: four products and what they are rounded by stay in 32 bits. Assumes nothing.
 use borrow.Author.Needs.{needs}
-use mathlib.Core.Path.{_≡_, sym, ap, _∙_, subst}
+use mathlib.Core.Path.{_≡_, sym, _∙_, subst}
 use Prim.Native.Nat.{_^_, _≤_}
 use lib.IntN.{ℤ, natAbs, _*ℤ_}
 use mir.Syntax.{w16, w32}

@@ -1,11 +1,10 @@
 -- `four::turned` meets its contract: the outputs before o are written, one row each. Assumes nothing.
 use borrow.Author.Needs.{needs}
 use native.Mathlib.Omega.{arith}
-use mathlib.Core.Path.{_≡_, refl, sym, ap, _∙_, subst}
-use mathlib.Core.List.{List}
-use Prim.Native.Nat.{ℕ, _+_, _*_, _-_, _≤_, _<_}
-use lib.ListN.{length, take, drop}
-use lib.IntN.{ℤ, pos, natAbs}
+use mathlib.Core.Path.{_≡_, sym, ap, _∙_, subst}
+use Prim.Native.Nat.{ℕ, _+_, _*_, _-_, _≤_}
+use lib.ListN.{length}
+use lib.IntN.{ℤ, natAbs}
 use mir.Syntax.{w16}
 use mir.Val.{SFits, toZ, ofZ}
 use mir.ValLaws.{toZ-ofZ}
@@ -13,7 +12,7 @@ use Rattle.algebra.specs.Lists.{at, tabulate}
 use Rattle.algebra.specs.Shift.{nearest}
 use Rattle.algebra.proofs.Lists.{tab-cong}
 use Rattle.forward_block.specs.Stage.{lineValue, Stage}
-use Rattle.forward_block.specs.Square.{Light4, fourSum, FourOutputs}
+use Rattle.forward_block.specs.Square.{fourSum, FourOutputs}
 use Rattle.forward_block.proofs.Places.{part-in, part-filled, stage-none, stage-next}
 use Rattle.forward_block.proofs.Turning.{four-products}
 use Rattle.forward_block.proofs.four.turned.Statement.{statement}

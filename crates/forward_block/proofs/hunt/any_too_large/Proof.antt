@@ -1,11 +1,8 @@
 -- `hunt::any_too_large` meets its contract. Assumes nothing.
 use borrow.Author.Needs.{needs}
-use native.Mathlib.Omega.{arith}
-use mathlib.Core.Path.{_≡_, sym, ap, _∙_, subst}
-use mathlib.Core.Bool.{true, false}
+use mathlib.Core.Path.{sym, _∙_, subst}
 use Prim.Native.Nat.{_-_, _^_, _≤_}
 use borrow.Author.Tests.{ltb-false}
-use lib.Dec.{ltb}
 use lib.IntN.{ℤ, natAbs}
 use mir.Syntax.{w16}
 use mir.Val.{toZ, ofZ}

@@ -1,8 +1,6 @@
 -- `hunt::first_too_large` meets its contract: where none is too large, the first is past the end. Assumes nothing.
-use borrow.Author.Needs.{needs}
-use native.Mathlib.Omega.{arith}
-use mathlib.Core.Path.{_≡_, sym, ap, _∙_}
-use Prim.Native.Nat.{ℕ, _-_, _^_}
+use mathlib.Core.Path.{sym, _∙_}
+use Prim.Native.Nat.{_-_, _^_}
 use native.Mathlib.Nat.{zero-add}
 use borrow.Author.Tests.{le-ltb}
 use lib.IntN.{natAbs}

@@ -1,11 +1,10 @@
 -- `place::narrow` meets its contract: the numbers before x are written. Assumes nothing.
 use borrow.Author.Needs.{needs}
 use native.Mathlib.Omega.{arith}
-use mathlib.Core.Path.{_≡_, refl, sym, ap, _∙_}
+use mathlib.Core.Path.{refl}
 use Prim.Native.Nat.{_-_, _≤_, _<_}
 use lib.ListN.{length}
-use mir.Syntax.{w16, w32}
-use mir.Val.{SFits}
+use mir.Syntax.{w32}
 use Rattle.algebra.specs.Lists.{at}
 use Rattle.algebra.proofs.Word.{arg, cast-fits!, castV! }
 use Rattle.algebra.proofs.Lists.{Filled, fill-none, fill-first, filled-to}

@@ -1,7 +1,6 @@
 -- `shift::row_shift` meets its contract. Assumes nothing.
 use borrow.Author.Needs.{needs}
 use native.Mathlib.Omega.{arith}
-use Prim.Native.Nat.{_-_}
 use Rattle.meaning.proofs.Cases.{depth-cases}
 use Rattle.meaning.proofs.Stages.{log-in}
 use Rattle.forward_block.proofs.shift.row_shift.Statement.{statement}

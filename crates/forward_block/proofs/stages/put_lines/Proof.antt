@@ -1,15 +1,14 @@
 -- `stages::put_lines` meets its contract: the lines before y are written, and all else is as it was. Assumes nothing.
 use borrow.Author.Needs.{needs}
 use native.Mathlib.Omega.{arith}
-use mathlib.Core.Path.{_≡_, sym, ap, _∙_, subst}
-use mathlib.Core.List.{List, _++_}
+use mathlib.Core.Path.{_≡_, sym, _∙_, subst}
 use Prim.Native.Nat.{ℕ, _+_, _*_, _-_, _^_, _<_, _≤_}
 use lib.ListN.{length, take, drop}
 use lib.IntN.{ℤ, pos}
 use mir.Syntax.{w16, w32}
 use mir.Val.{SFits, toZ, ofZ}
 use mir.ValLaws.{toZ-ofZ}
-use Rattle.algebra.specs.Lists.{at, tabulate}
+use Rattle.algebra.specs.Lists.{at}
 use Rattle.algebra.proofs.Lists.{row-in, tab-cong}
 use Rattle.product.specs.Product.{Line, Rounding}
 use Rattle.forward_block.specs.Stage.{lineValue, Stage}

@@ -1,7 +1,9 @@
 -- `hunt::hunt` meets its contract. Assumes nothing.
 use borrow.Author.Needs.{needs}
 use native.Mathlib.Omega.{arith}
-use Rattle.inverse_hunt.proofs.Inside.{none-outside}
+use mathlib.Core.Path.{sym}
+use Rattle.meaning.specs.Plan.{planOf}
+use Rattle.layout.proofs.Inside.{none-outside}
 use Rattle.inverse_hunt.proofs.hunt.hunt.Statement.{statement}
 use Rattle.inverse_hunt.proofs.hunt.hunt.Tie as tie
 
@@ -26,7 +28,8 @@ returns-2 c = c .searched2 .ensures
 returns-3 : tie.Need-returns-3
 returns-3 c =
     let s = c .before .before .before .before in
-    none-outside (s .args .shape) (s .args .c .now) (s .pre .0 .0) (s .pre .1) (omega (arith, c .before .kept-columns .ensures, c .if2 .left)) (omega (arith, c .before .before .before .kept-rows .ensures, c .before .before .if1 .left))
+    sym (none-outside (planOf (s .args .shape)) (s .args .c .now) (s .pre .0 .0) (s .pre .1)
+    (omega (arith, c .before .kept-columns .ensures, c .if2 .left)) (omega (arith, c .before .before .before .kept-rows .ensures, c .before .before .if1 .left)))
 
 pub hunt-spec : {M : Type 1} → statement M
 hunt-spec =

@@ -18,7 +18,8 @@ use Rattle.algebra.proofs.Lists.{place-in, row-in, row-of, column-of}
 use Rattle.algebra.proofs.First.{first-on, first-here, first-none}
 use Rattle.meaning.specs.Plan.{planOf}
 use Rattle.meaning.specs.Inverse.{outside, outsideAt}
-use Rattle.inverse_hunt.proofs.Tests.{skip, kept-not}
+use Rattle.layout.proofs.Inside.{kept-not}
+use Rattle.inverse_hunt.proofs.Tests.{skip}
 use Rattle.inverse_hunt.proofs.hunt.searched.Statement.{statement}
 use Rattle.inverse_hunt.proofs.hunt.searched.Tie as tie
 

@@ -1,6 +1,6 @@
 -- `clip_to` meets its contract. Assumes nothing.
-use mathlib.Core.Path.{_≡_, sym, ap, _∙_}
-use mathlib.Core.Bool.{true, false}
+use mathlib.Core.Path.{_≡_, sym, _∙_}
+use mathlib.Core.Bool.{false}
 use native.Mathlib.Omega.{arith}
 use Prim.Native.Nat.{_<_, _≤_, _^_, zero-le}
 use lib.Dec.{lit<}
@@ -11,7 +11,7 @@ use mir.Val.{SFits}
 use mir.ValLaws.{toZ-ofZ}
 use Rattle.algebra.proofs.Order.{le-parts, parts-fit, up, dn}
 use Rattle.algebra.proofs.Clip.{clip-same}
-use Rattle.algebra.proofs.Word.{Is, arg, lt-no, castV, cast-fits, castV!, cast-fits! }
+use Rattle.algebra.proofs.Word.{arg, lt-no, castV, cast-fits, castV!, cast-fits! }
 use Rattle.long_stages.proofs.arith.clip_to.Statement.{statement}
 use Rattle.long_stages.proofs.arith.clip_to.Tie as tie
 

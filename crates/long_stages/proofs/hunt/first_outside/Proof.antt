@@ -14,7 +14,6 @@ use Rattle.algebra.specs.Lists.{at}
 use Rattle.algebra.specs.First.{firstAt}
 use Rattle.algebra.proofs.Lists.{place-in, row-of, column-of}
 use Rattle.algebra.proofs.First.{first-on, first-here, first-none}
-use Rattle.meaning.specs.Plan.{planOf}
 use Rattle.meaning.specs.Inverse.{outside, outsideAt}
 use Rattle.long_stages.proofs.hunt.first_outside.Statement.{statement}
 use Rattle.long_stages.proofs.hunt.first_outside.Tie as tie

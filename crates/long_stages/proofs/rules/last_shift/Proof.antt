@@ -1,7 +1,7 @@
 -- `last_shift` meets its contract: R is 15 to 20, and no depth is over 20. Assumes nothing.
 use borrow.Author.Needs.{needs}
 use native.Mathlib.Omega.{arith}
-use mathlib.Core.Path.{_≡_, ap}
+use mathlib.Core.Path.{ap}
 use Prim.Native.Nat.{ℕ, _+_, _-_}
 use Rattle.meaning.proofs.LongRules.{reach-in}
 use Rattle.long_stages.proofs.rules.last_shift.Statement.{statement}

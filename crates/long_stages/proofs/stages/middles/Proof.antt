@@ -4,7 +4,6 @@ use native.Mathlib.Omega.{arith}
 use mathlib.Core.Path.{_≡_, sym, ap, _∙_, subst}
 use mathlib.Core.List.{_++_}
 use Prim.Native.Nat.{ℕ, _+_, _*_, _-_, _≤_}
-use native.Mathlib.Nat.{le-trans}
 use lib.ListN.{length, take, drop, length-take, length-drop}
 use lib.IntN.{ℤ}
 use Rattle.algebra.specs.Sum.{sumℕ}

@@ -1,8 +1,8 @@
 -- `residuals` meets its contract: the lines before y are written, and what stands after them is as it was. Assumes nothing.
 use borrow.Author.Needs.{needs}
 use native.Mathlib.Omega.{arith}
-use mathlib.Core.Path.{_≡_, _∙_}
-use Prim.Native.Nat.{ℕ, _+_, _*_, _-_, _≤_}
+use mathlib.Core.Path.{_≡_}
+use Prim.Native.Nat.{_+_, _*_, _-_, _≤_}
 use lib.ListN.{length, take, drop, length-take, length-drop}
 use Rattle.algebra.specs.Shift.{nearest}
 use Rattle.algebra.proofs.Lists.{Rows, rows-none, rows-long, rows-next, rows-all, row-in}

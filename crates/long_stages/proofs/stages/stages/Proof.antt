@@ -5,7 +5,7 @@ use mathlib.Core.Path.{_≡_, refl, sym, ap, _∙_, subst}
 use mathlib.Core.List.{List, _++_}
 use Prim.Native.Nat.{ℕ, _*_, _≤_}
 use native.Mathlib.Nat.{mul-comm, mul-le-mul}
-use lib.ListN.{length, drop, replicate}
+use lib.ListN.{drop, replicate}
 use lib.IntN.{ℤ, pos}
 use Rattle.algebra.specs.Sum.{sumℕ}
 use Rattle.algebra.specs.Shift.{nearest}

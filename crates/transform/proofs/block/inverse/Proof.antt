@@ -21,8 +21,7 @@ use Rattle.meaning.proofs.Accepted.{block-taken}
 use Rattle.meaning.proofs.KeptPart.{columns-kept, rows-kept}
 use Rattle.layout.specs.Live.{Live}
 use Rattle.layout.specs.Part.{Part}
-use Rattle.layout.proofs.Inside.{kept-part}
-use Rattle.inverse_hunt.proofs.Inside.{live-part}
+use Rattle.layout.proofs.Inside.{live-part, kept-part}
 use Rattle.transform.proofs.block.inverse.Statement.{statement}
 use Rattle.transform.proofs.block.inverse.Tie as tie
 
@@ -74,7 +73,8 @@ turned c = let s = c .before .before in taken c .long ∙ mul-comm (s .args .sha
 live : (c : tie.After-columns) → let s = c .before .before .before .before in Part (s .args .shape .width) (s .args .shape .height) (c .columns .result) (c .before .rows .result) (s .args .coefficients .now)
 live c =
     let s = c .before .before .before .before in
-    live-part (s .args .shape .width) (s .args .shape .height) (c .columns .result) (c .before .rows .result) (s .args .coefficients .now) (c .before .rows .ensures) (c .columns .ensures)
+    live-part (s .args .shape .width) (s .args .shape .height) (c .columns .result) (c .before .rows .result) (s .args .coefficients .now)
+    (c .columns .ensures .within) (c .before .rows .ensures .within) (c .before .rows .ensures .clear) (c .columns .ensures .clear)
 
 rows-requires : tie.Need-rows-requires
 rows-requires c κs = (taken c .taken .height, turned c)

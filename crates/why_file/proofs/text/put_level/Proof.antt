@@ -1,6 +1,5 @@
 -- `put_level`: what is left of a division is less than the divisor. Assumes nothing.
 use native.Mathlib.Nat.{mod-lt}
-use native.Mathlib.Omega.{arith}
 use borrow.Author.Needs.{needs}
 use Rattle.why_file.proofs.text.put_level.Statement.{statement}
 use Rattle.why_file.proofs.text.put_level.Tie as tie
