@@ -1,7 +1,8 @@
 -- "Numbers on both sides", those of lines and blocks: one table, `items`, and one theorem, `items-hold`. What each entry
 -- says is `Says`. Items 5, 9 and 10, which are not marked P, stand in it too, with calls that tell the low end and the order of the
--- lengths, and the numbers of kind 0.
+-- lengths, the numbers of kind 0, and two calls of long numbers.
 use mathlib.Core.Path.{_≡_, refl}
+use mathlib.Core.Bool.{true}
 use mathlib.Core.List.{List, [], _∷_}
 use Prim.Native.Nat.{ℕ, _+_, _*_, _/_}
 use lib.IntN.{ℤ, pos, negsuc}
@@ -13,10 +14,11 @@ use Rattle.meaning.specs.declared.Shape.{Shape}
 use Rattle.meaning.specs.declared.Answer.{Answer}
 use Rattle.meaning.specs.Weights.{first, fold, S, C, cosines, turn, dct2, weight}
 use Rattle.meaning.specs.Line.{forwardSum, inverseSum, forwardLine}
-use Rattle.meaning.specs.Shape.{isSize, isKind, isDepth, most, keeps, shapeOf, keeping}
-use Rattle.meaning.specs.Plan.{shortRange}
+use Rattle.meaning.specs.Shape.{isSize, isKind, isDepth, isLongDepth, most, keeps, shapeOf, keeping}
+use Rattle.meaning.specs.Plan.{shortRange, reach}
 use Rattle.meaning.specs.Answer.{Outcome, refused, accepted, forwardLineOutcome}
 use Rattle.meaning.specs.Inverse.{columnSum, rounded, middleAt, rails, rowSum, residual, inverseBlock, inverseOutcome}
+use Rattle.meaning.specs.Long.{longOutcome}
 use Rattle.meaning.specs.Forward.{rowValue, columnValue, coefficient, forwardBlock, forwardOutcome}
 use Rattle.meaning.proofs.Sharing.{published4, cosines4}
 
@@ -39,6 +41,8 @@ pub data Item : Type 0 where
   -- calls that are turned down: number and place, for an output of so many numbers
   inverseRefused : Shape → List ℤ → ℕ → ℕ → ℕ → Item
   forwardRefused : Shape → List ℤ → ℕ → ℕ → ℕ → Item
+  -- an inverse of long numbers, with the switch on
+  longRefused : Shape → List ℤ → ℕ → ℕ → ℕ → Item
 
 -- what an output of n numbers held before
 abbrev held : ℕ → List ℤ
@@ -62,6 +66,7 @@ Says (gives sh c n r) = inverseOutcome sh c (held (area sh)) ≡ (accepted n, r)
 Says (takes sh c) = inverseOutcome sh c (held (area sh)) .0 .number ≡ 0
 Says (inverseRefused sh c out number place) = inverseOutcome sh c (held out) ≡ (refused number place, held out)
 Says (forwardRefused sh r out number place) = forwardOutcome sh r (held out) ≡ (refused number place, held out)
+Says (longRefused sh c out number place) = longOutcome true sh c (held out) ≡ (refused number place, held out)
 
 -- ---- the calls
 abbrev pub mixed : ℕ → ℕ → ℕ → ℕ → ℕ → Shape
@@ -139,6 +144,9 @@ items =
     ∷ inverseRefused (keeping (sized 32 4 10) 17 4) (all 128 (pos 0)) 128 20 0
     ∷ inverseRefused (keeping (sized 4 4 13) 4 5) (all 16 (pos 0)) 16 5 0
     ∷ inverseRefused (keeping (sized 4 4 10) 4 5) (all 15 (pos 0)) 15 20 0
+    -- long numbers: a coefficient outside both the kept part and the range is 8, one outside the range alone 27
+    ∷ longRefused (sized 32 4 10) (alone 128 16 (pos 65536)) 128 8 16
+    ∷ longRefused (sized 4 4 10) (alone 16 3 (pos 65536)) 16 27 3
     ∷ []
 
 -- what a list of items says, all of it
@@ -148,8 +156,8 @@ pub data Hold : List Item → Type 0 where
   _and_ : {i : Item} {is : List Item} → Says i → Hold is → Hold (i ∷ is)
 
 pub items-hold : Hold items
-unfolding sum sumℕ tabulate block firstAt first fold S C cosines turn dct2 weight forwardSum inverseSum forwardLine isSize isKind isDepth most keeps shortRange columnSum middleAt rails rowSum residual inverseBlock rowValue columnValue coefficient forwardBlock
+unfolding sum sumℕ tabulate block firstAt first fold S C cosines turn dct2 weight forwardSum inverseSum forwardLine isSize isKind isDepth isLongDepth most keeps shortRange reach columnSum middleAt rails rowSum residual inverseBlock rowValue columnValue coefficient forwardBlock
 items-hold =
     refl and refl and refl and refl and refl and refl and refl and refl and refl and refl and refl and refl and refl
     and refl and refl and refl and refl and refl and refl and refl and refl and refl and refl and refl and refl and refl
-    and refl and refl and refl and refl and refl and refl and refl and refl and refl and refl and refl and refl and refl and refl and refl and none
+    and refl and refl and refl and refl and refl and refl and refl and refl and refl and refl and refl and refl and refl and refl and refl and refl and refl and none
