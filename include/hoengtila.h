@@ -1,15 +1,17 @@
 /* Hoengtila: DCT-II, DST-VII and DCT-VIII of VVC (H.266), forward and inverse, for C and C++ callers.
  *
- * Every function takes any numbers and any lengths. What the caller owes: each pointer points to as many elements as the
- * length after it says (a length of 0 takes any pointer that is not null), and totals to 578; no output overlaps an input.
+ * Every function takes any numbers and any lengths. What the caller owes: each pointer points to as many elements as the length
+ * after it says, `totals` to 578, and `shapes` and `answers` of hoengtila_block_row to 64 shapes and 64 answers, whatever `count` is;
+ * none is null, not even one whose length is 0, through which nothing is read or written; and what a call writes overlaps nothing else
+ * that it is handed, no input and no other output.
  *
  * A call that is turned down hands back one of the numbers below, the first that applies in the order that stands beside the
  * function. Its outputs hold what they held and the other numbers that it hands back are 0, where nothing else is said; but 8, 9
  * and 27 have the place of the first number that they refuse, column + row * width. A call that is taken hands back number 0 and
  * place 0.
  *
- *   1  the width, or a line's length, is not 4, 8, 16 or 32; steps: there is no list of n points
- *   2  the height is not one of those
+ *   1  the width, or a line's length, is not 4, 8, 16 or 32 (thin blocks: or 1); steps: there is no list of n points
+ *   2  the height is not one of those (thin blocks: or 1)
  *   3  the horizontal kind, or a line's kind, is not 0 (DCT-II), 1 (DST-VII) or 2 (DCT-VIII)
  *   4  the vertical kind is not 0, 1 or 2
  *   5  the depth is outside 8..12, or 8..16 for long numbers with the switch on
@@ -18,7 +20,7 @@
  *   8  inverse block: a coefficient other than 0 outside the kept part, which is the first `columns` columns and the first `rows` rows
  *   9  forward block: a residual of size above 2^depth - 1
  *  10  block file: a field's header or body is cut short
- *  11  block file: a tag that is none
+ *  11  block file: a tag other than 1 to 4
  *  12  block file: a shape, or kept numbers, of another length than theirs
  *  13  block file: data, or kept numbers, before any shape
  *  14  block file: more than 65,536 bytes
@@ -63,7 +65,7 @@ typedef struct {
     uint32_t height;
     uint32_t horizontal; /* kind of the rows: 0 DCT-II, 1 DST-VII, 2 DCT-VIII */
     uint32_t vertical;   /* kind of the columns */
-    uint32_t depth;      /* bits of a sample, 8..12 */
+    uint32_t depth;      /* bits of a sample: 8..12; to 16 for long numbers with the switch on */
     uint32_t columns;    /* kept columns: at least 1, at most min(width, 16), or min(width, 32) where horizontal is 0 */
     uint32_t rows;       /* kept rows: at least 1, at most min(height, 16), or min(height, 32) where vertical is 0 */
 } hoengtila_shape;
@@ -72,18 +74,20 @@ typedef struct {
 typedef struct {
     uint32_t number; /* 0, or the number of the refusal */
     uint32_t place;  /* of the number that 8, 9 or 27 refuses: column + row * width */
-    uint32_t rails;  /* inverse block: values between the stages that the clip altered */
+    uint32_t rails;  /* inverse block: middle values that the clip altered */
 } hoengtila_answer;
 
-/* The shape that keeps the most columns and rows that it can. Any numbers; nothing is refused here. For less, set `columns` and
- * `rows` after it: the inverse then skips what is dropped, and the forward writes 0 there. */
+/* The shape that keeps the most columns and rows that it can. For less, set `columns` and `rows` after it: the inverse then skips
+ * what is dropped, and the forward writes 0 there. Nothing is refused. */
 hoengtila_shape hoengtila_shape_of(uint32_t width, uint32_t height, uint32_t horizontal, uint32_t vertical, uint32_t depth);
 
 /* ---- Lines: n numbers of 16 bits in, n exact sums of 32 bits out, with no shift ---- */
 
-/* The first two take the fast path, the others the full matrix product; they give the same. The fast path shares products
- * between weights: 10, 136 and 664 multiplications at 4, 16 and 32 points, where the product has 16, 256 and 1,024. At 8 points
- * nothing is shared, and it is the product. Refusals: 1, 3, then 6 and 7: a buffer that has not n numbers. */
+/* With W(i, j) for hoengtila_weight(kind, n, i, j), the forward gives y[i], the sum over j of W(i, j) * x[j], and the inverse y[j], the
+ * sum over i of W(i, j) * x[i]. The first two take the fast path, the others the full product of n * n multiplications; they give the
+ * same. The fast path of DST-VII and DCT-VIII shares products between weights: 10, 136 and 664 multiplications at 4, 16 and 32 points;
+ * at 8 nothing is shared, and it is the product. That of DCT-II goes by even and odd halves: 16, 32, 96 and 352 at 4, 8, 16 and 32.
+ * Refusals, in this order: 1, 3, 6, 7. 6 and 7: a buffer that has not n numbers. */
 hoengtila_answer hoengtila_line_forward(uint32_t n, uint32_t kind, const int16_t *x, size_t x_len, int32_t *y, size_t y_len);
 hoengtila_answer hoengtila_line_inverse(uint32_t n, uint32_t kind, const int16_t *x, size_t x_len, int32_t *y, size_t y_len);
 hoengtila_answer hoengtila_line_forward_product(uint32_t n, uint32_t kind, const int16_t *x, size_t x_len, int32_t *y, size_t y_len);
@@ -91,7 +95,7 @@ hoengtila_answer hoengtila_line_inverse_product(uint32_t n, uint32_t kind, const
 
 /* The same by adders of 32 bits that wrap: for each output the sum starts from `start`, takes the n products in the given order
  * modulo 2^32, and has `start` taken off; `order` names the products by their inputs. Whatever `start` is, and in every order,
- * they give what the lines above give. Refusals: 1, 3, 6, 7, then 21. */
+ * they give what the lines above give. Refusals, in this order: 1, 3, 6, 7, 21. */
 hoengtila_answer hoengtila_line_forward_wrapped(uint32_t n, uint32_t kind, uint32_t start, const uint32_t *order, size_t order_len, const int16_t *x, size_t x_len, int32_t *y, size_t y_len);
 hoengtila_answer hoengtila_line_inverse_wrapped(uint32_t n, uint32_t kind, uint32_t start, const uint32_t *order, size_t order_len, const int16_t *x, size_t x_len, int32_t *y, size_t y_len);
 
@@ -104,12 +108,15 @@ uint32_t hoengtila_stray(uint32_t kind, uint32_t n, uint32_t j);
 
 /* ---- Blocks: width * height numbers, row by row ---- */
 
-/* The inverse takes coefficients and gives residuals, which are not clipped, and the rail count. Refusals: 1 to 5, 20, then 6 and 7: a
- * buffer that has not width * height numbers; then 8. */
+/* The inverse takes coefficients and gives residuals and the rail count; >> rounds down. Columns first: each kept column goes through the
+ * inverse line over its kept rows, and a middle value is (sum + 64) >> 7, clipped to -32768..32767. Then rows: each goes through the
+ * inverse line over its kept columns, and a residual is (sum + 2^(19 - depth)) >> (20 - depth), which is not clipped.
+ * Refusals, in this order: 1, 2, 3, 4, 5, 20, 6, 7, 8. 6 and 7: a buffer that has not width * height numbers. */
 hoengtila_answer hoengtila_block_inverse(hoengtila_shape shape, const int16_t *coefficients, size_t coefficients_len, int32_t *residuals, size_t residuals_len);
 
-/* The forward takes residuals and gives coefficients, 0 outside the kept part; its rail count is 0. Refusals: 1 to 5, 20, 6, 7, then
- * 9. */
+/* The forward takes residuals and gives coefficients, 0 outside the kept part. Rows first: (sum + 2^(p - 1)) >> p of the forward line, with
+ * p = log2(width) + depth - 9. Then columns: (sum + 2^(q - 1)) >> q, with q = log2(height) + 6. Nothing is clipped, as nothing leaves 16
+ * bits, and the rail count is 0. Refusals, in this order: 1, 2, 3, 4, 5, 20, 6, 7, 9. */
 hoengtila_answer hoengtila_block_forward(hoengtila_shape shape, const int16_t *residuals, size_t residuals_len, int16_t *coefficients, size_t coefficients_len);
 
 /* ---- Rows of blocks, long numbers and thin blocks: the inverse ---- */
@@ -118,13 +125,13 @@ hoengtila_answer hoengtila_block_forward(hoengtila_shape shape, const int16_t *r
  * the blocks lie one after the other. Block k is handed its own stretch of both, and answers[k] is what hoengtila_block_inverse
  * hands back there; places are those in the block. A block that is refused keeps its stretch of the output, and the others go
  * on. A shape that 1 or 2 refuses has no stretch; one that another number refuses has its width * height.
- * The whole call hands back its number. Refusals: 16, then 6 and 7 where a buffer is not as long as the stretches together; then no
- * answer is written.
+ * The whole call hands back its number. Refusals, in this order: 16, 6, 7. 6 and 7: a buffer that is not as long as the stretches
+ * together. No answer is written then.
  * `shapes` points to 64 shapes, of which the first `count` are read, and `answers` to 64 answers, of which the first `count` are
  * written. */
 uint32_t hoengtila_block_row(const hoengtila_shape *shapes, size_t count, hoengtila_answer *answers, const int16_t *coefficients, size_t coefficients_len, int32_t *residuals, size_t residuals_len);
 
-/* The same with arrays of `count` shapes and `count` answers. */
+/* The same with arrays of `count` shapes and `count` answers, which may be null where `count` is 0. */
 static inline uint32_t hoengtila_blocks_inverse(const hoengtila_shape *shapes, size_t count, hoengtila_answer *answers, const int16_t *coefficients, size_t coefficients_len, int32_t *residuals, size_t residuals_len) {
     hoengtila_shape list[64];
     hoengtila_answer told[64];
@@ -139,25 +146,25 @@ static inline uint32_t hoengtila_blocks_inverse(const hoengtila_shape *shapes, s
 }
 
 /* Long numbers, of H.266's later edition: the inverse with coefficients of 32 bits. `extended` is the extended-precision switch, 0
- * for off and any other number for on. Coefficients and the values between the stages are -2^R .. 2^R - 1, and the last shift is
- * 5 + R - depth: with the switch on R is max(15, min(20, depth + 6)), with it off 15. Refusals: 1 to 5, 20, 6, 7, 8, then 27. With
- * the switch off and numbers of 16 bits it is hoengtila_block_inverse. */
+ * for off and any other number for on. Coefficients and middle values are -2^R .. 2^R - 1, and the last shift is 5 + R - depth: with the
+ * switch on R is max(15, min(20, depth + 6)), with it off 15. With the switch off and numbers of 16 bits it is hoengtila_block_inverse.
+ * Refusals, in this order: 1, 2, 3, 4, 5, 20, 6, 7, 8, 27. */
 hoengtila_answer hoengtila_block_inverse_long(hoengtila_shape shape, uint32_t extended, const int32_t *coefficients, size_t coefficients_len, int32_t *residuals, size_t residuals_len);
 
 /* What thin blocks hand back. */
 typedef struct {
     uint32_t number; /* 0, or the number of the refusal */
     uint32_t place;  /* of the number that 8 refuses: column + row * width */
-    uint32_t rails;  /* values between the stages that the clip altered */
+    uint32_t rails;  /* middle values that the clip altered */
     uint32_t area;   /* which area starts with the residuals: 1 or 2; 0 where the call was refused */
 } hoengtila_thin;
 
 /* Thin blocks, one sample wide or high: the inverse over two work areas of at least width * height numbers each. In this call alone a
  * side may be 1 where the other is 4, 8 or 16; its kind is looked at (3, 4) and not used, and it keeps 1. Such a block has one stage,
- * with the last shift 21 - depth and no value between: its residuals are the first width * height numbers of `first`, and `second`
- * stays. Any other block has two stages and the residuals of hoengtila_block_inverse, in `second`; `first` then has the values between
- * the stages at column + row * width, 0 in columns that are not kept. Numbers beyond width * height stay. Refusals: 1 to 5, 20, 6, 19,
- * then 8; a refused call changes neither area. */
+ * with the last shift 21 - depth and no middle values: its residuals are the first width * height numbers of `first`, and `second`
+ * stays. Any other block has two stages and the residuals of hoengtila_block_inverse, in `second`; `first` then has the middle values
+ * at column + row * width, 0 in columns that are not kept. Numbers beyond width * height stay.
+ * Refusals, in this order: 1, 2, 3, 4, 5, 20, 6, 19, 8. A refused call changes neither area. */
 hoengtila_thin hoengtila_block_inverse_thin(hoengtila_shape shape, const int16_t *coefficients, size_t coefficients_len, int32_t *first, size_t first_len, int32_t *second, size_t second_len);
 
 /* ---- Asking why: what the residual at a place of an inverse block is made of ---- */
@@ -166,19 +173,19 @@ typedef struct {
     uint32_t number; /* 0, or the number of the refusal */
     uint32_t place;  /* of the number that 8 or 27 refuses: column + row * width */
     int64_t exact;   /* the exact double sum */
-    int64_t middle_roundings; /* what the roundings between the stages added */
+    int64_t middle_roundings; /* what rounding the middle values added */
     int64_t clippings;        /* what clipping added */
     int64_t last_rounding;    /* what the last rounding added */
 } hoengtila_parts;
 
 /* The four parts of the residual at a place, column + row * width. Put over 2^(27 - depth) they add up to the residual:
  * exact + middle_roundings + clippings + last_rounding is 2^(27 - depth) times what hoengtila_block_inverse writes there. `exact` is the
- * sum of all kept coefficients, each times its two weights, with nothing rounded; what the roundings and the clip between the stages
- * added is carried through the horizontal weights. Refusals, all four parts 0: 1 to 5, 20, 6, 8, then 15. */
+ * sum of all kept coefficients, each times its two weights, with nothing rounded; what rounding and clipping the middle values added is
+ * carried through the horizontal weights. Refusals, in this order: 1, 2, 3, 4, 5, 20, 6, 8, 15. All four parts are 0 then. */
 hoengtila_parts hoengtila_block_why(hoengtila_shape shape, const int16_t *coefficients, size_t coefficients_len, uint32_t place);
 
 /* The same of long numbers: the residual is that of hoengtila_block_inverse_long, and the power is 2^(12 + R - depth), with R as there,
- * which is 2^(27 - depth) with the switch off. Refusals: 1 to 5, 20, 6, 8, 27, then 15. */
+ * which is 2^(27 - depth) with the switch off. Refusals, in this order: 1, 2, 3, 4, 5, 20, 6, 8, 27, 15. */
 hoengtila_parts hoengtila_block_why_long(hoengtila_shape shape, uint32_t extended, const int32_t *coefficients, size_t coefficients_len, uint32_t place);
 
 /* ---- Totals: a report over blocks of residuals that are run forward and back ---- */
@@ -190,12 +197,12 @@ hoengtila_parts hoengtila_block_why_long(hoengtila_shape shape, uint32_t extende
  *
  * on, where a and b are 0, 1, 2 and 3 for a width and a height of 4, 8, 16 and 32: how many blocks; the sum of their rail counts;
  * the largest size of a difference between a residual and the one that came back; the sum of the squares of all differences.
- * totals[576] is how many blocks were refused, which no other total counts, and totals[577] how many were given. */
+ * totals[576] is how many blocks were refused, which no other total counts, and totals[577] how many were given. Nothing is refused. */
 void hoengtila_report_clear(uint64_t totals[578]);
 
 /* Adds a block, and hands back the rail count of the way back. Any 578 numbers are taken as totals, and sums are modulo 2^64; from the
- * totals of no blocks, no sum reaches 2^64. Refusals: 22, with the totals as they were; then 1 to 5, 20, 6 and 9, with the block counted
- * as given and as refused. */
+ * totals of no blocks, no sum reaches 2^64. Refusals, in this order: 22, 1, 2, 3, 4, 5, 20, 6, 9. 22 leaves the totals as they were; with
+ * any other the block is counted as given and as refused. */
 hoengtila_answer hoengtila_report_add(uint64_t totals[578], hoengtila_shape shape, const int16_t *residuals, size_t residuals_len);
 
 /* ---- Pictures: a block of residuals as a binary graymap ---- */
@@ -206,7 +213,7 @@ typedef struct {
 } hoengtila_written;
 
 /* P5, maximum value 65535, each sample the residual + 32768, high byte first: at most 15 + 2 * width * height bytes. What stands beyond
- * the picture stays. Refusals: 1, 2, 6, 23, then 7: an output too short to hold the picture. */
+ * the picture stays. Refusals, in this order: 1, 2, 6, 23, 7. 7: an output too short to hold the picture. */
 hoengtila_written hoengtila_picture_write(uint32_t width, uint32_t height, const int32_t *residuals, size_t residuals_len, uint8_t *file, size_t file_len);
 
 typedef struct {
@@ -215,12 +222,15 @@ typedef struct {
     uint32_t height;
 } hoengtila_picture;
 
-/* Reads such a graymap, with any white space and comments in its header. Refusals: 24, 25, then 7: an output that has not
+/* Reads such a graymap, with any white space and comments in its header. Refusals, in this order: 24, 25, 7. 7: an output that has not
  * width * height numbers. */
 hoengtila_picture hoengtila_picture_read(const uint8_t *file, size_t file_len, int32_t *residuals, size_t residuals_len);
 
 /* ---- Broken files: what can be saved of a block file ---- */
 
+/* A block file is a row of fields: a tag of one byte, a length of two, a body of so many bytes; the high byte comes first. Tag 1: a shape
+ * in five bytes, from the width to the depth. Tag 2: the coefficients of an inverse, two bytes each; tag 3: the residuals of a forward.
+ * Tag 4: the kept columns and the kept rows of the shape, a byte each. */
 typedef struct {
     uint32_t number;    /* 0, or the number of the refusal */
     uint32_t bytes;     /* how long the new file is, from the start of the output */
@@ -230,8 +240,8 @@ typedef struct {
 /* Writes a new file of the fields that can be read. From a place where reading stops it goes on to the next whole shape field with a
  * whole data field behind it, or with kept numbers (tag 4) and then a data field; what lies between is dropped. The list gets the offset
  * and the length of each dropped stretch. What stands beyond the new file and beyond the list stays. Coefficients and residuals are not
- * looked at, so a block may still meet 8 or 9 when it is run. Refusals, with bytes and stretches 0: 14, then 7: an output shorter than
- * the file, or a list of fewer than 2,048 numbers; then 26. */
+ * looked at, so a block may still meet 8 or 9 when it is run. Refusals, in this order: 14, 7, 26. 7: an output shorter than the file, or a
+ * list of fewer than 2,048 numbers. */
 hoengtila_saved hoengtila_salvage(const uint8_t *file, size_t file_len, uint8_t *out, size_t out_len, uint32_t *list, size_t list_len);
 
 /* ---- Steps: a transform as a list of steps on numbered cells ---- */
@@ -244,28 +254,29 @@ hoengtila_saved hoengtila_salvage(const uint8_t *file, size_t file_len, uint8_t 
  *
  * Fewer than four numbers at the end are no step. The cells that a step reads are looked at before it writes. */
 typedef struct {
-    uint32_t number;
-    uint32_t count; /* how many multiplying steps the run took */
+    uint32_t number; /* 0, or the number of the refusal */
+    uint32_t count;  /* how many multiplying steps the run took; 0 where refused */
 } hoengtila_taken;
 
-/* Any list: x holds the inputs, y takes the outputs. Refusals, with count 0: 18; 6 and 7 where x or y has not the list's number of
- * inputs or of outputs; 28 for more inputs than cells; then, at the first step that meets one and after the last step at the first output
- * cell, 28, 17 and 29. */
+/* Any list: x holds the inputs, y takes the outputs. Refusals, in this order: 18, 6, 7, 28, 17, 29. 6 and 7: x or y has not the list's
+ * number of inputs or of outputs. 28 is met by more inputs than cells before any step; then the last three are looked for at each step,
+ * and after the last step 28 and 17 at each output cell. */
 hoengtila_taken hoengtila_steps_run(uint32_t inputs, uint32_t cells, const int32_t *steps, size_t steps_len, const int32_t *outs, size_t outs_len, const int16_t *x, size_t x_len, int32_t *y, size_t y_len);
 
 typedef struct {
-    uint32_t number;
-    uint32_t inputs;
-    uint32_t cells;
-    uint32_t steps; /* four numbers each */
-    uint32_t outs;
+    uint32_t number; /* 0, or the number of the refusal; the others are told with 7 too */
+    uint32_t inputs; /* how many inputs the list takes, in its first cells */
+    uint32_t cells;  /* how many cells it has */
+    uint32_t steps;  /* how many steps: four numbers each */
+    uint32_t outs;   /* how many outputs it gives */
 } hoengtila_listed;
 
-/* The forward DST-VII of n points as a list: 18, 277 or 1302 steps, 8, 127 or 620 of them multiplying. Refusals: 1 where n is not 4, 16
- * or 32; 7 where a buffer has another length than the list's, and neither is written: what is told of the list is told then too. */
+/* The forward DST-VII of n points as a list: 18, 277 or 1,302 steps at 4, 16 or 32 points, 8, 127 or 620 of them multiplying. `steps` has
+ * room for 72, 1,108 or 5,208 numbers and `outs` for n. Refusals, in this order: 1, 7. 1: n is not 4, 16 or 32. 7: a buffer of another
+ * length; neither is written. */
 hoengtila_listed hoengtila_steps_list(uint32_t n, int32_t *steps, size_t steps_len, int32_t *outs, size_t outs_len);
 
-/* The forward DST-VII of n points by its list: what hoengtila_line_forward_product gives. Refusals, with count 0: 1 as above, 6, 7. */
+/* The forward DST-VII of n points by its list: what hoengtila_line_forward_product gives. Refusals, in this order: 1, 6, 7. 1 as above. */
 hoengtila_taken hoengtila_steps_forward(uint32_t n, const int16_t *x, size_t x_len, int32_t *y, size_t y_len);
 
 #ifdef __cplusplus

@@ -82,6 +82,11 @@ impl Comparison {
         self.rails += u64::from(found.answer.rails);
     }
 
+    /// The numbers that were handed back.
+    pub fn numbers(&self) -> Vec<u32> {
+        (0..32).filter(|n| self.met[*n as usize] > 0).collect()
+    }
+
     /// Whether no call was turned down.
     pub fn all_taken(&self) -> bool {
         self.met[1..].iter().all(|count| *count == 0)

@@ -4,6 +4,7 @@
 //! with no eye to speed.
 //! `random` makes the cases, the same ones for the same seed; `patterns`, `folding` and `wrong` know which are hard, `files`
 //! has block files, and `steps` makes the lists of steps that the crates store.
+//! `header` has what the C header says of refusals.
 //! `library` is the library for Rust callers, `peer` the library behind a pipe; `call`, `row_call`, `step_call`, `long_call`, `thin_call`,
 //! `why_call` and `subject` let a test run the same calls on either, and `compare` and `tally` hold what comes back to the model.
 
@@ -11,6 +12,7 @@ pub mod call;
 pub mod compare;
 pub mod files;
 pub mod folding;
+pub mod header;
 pub mod library;
 pub mod long_call;
 pub mod model;

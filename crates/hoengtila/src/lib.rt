@@ -1,7 +1,9 @@
-// The library for C and Rust: each public function of `transform`, `long_block`, `why`, `wrapping`, `block_row`, `round_trip`, `report`,
-// `step_run`, `step_lists`, `picture` and `salvage`, `work` of `thin_block`, and the one that makes a shape, under the name and with the
-// arguments that include/hoengtila.h declares. A wrapper is one call and has the contract of what it calls; none has a `requires`, so whatever
-// numbers and lengths a caller hands over, the contract says what comes back. Read it beside the header.
+// The library for C and Rust: the calls of `transform`, `long_block`, `thin_block`, `why`, `wrapping`, `block_row`, `round_trip`, `report`,
+// `step_run`, `step_lists`, `picture` and `salvage` under the names and with the arguments that include/hoengtila.h declares, and the one
+// that makes a shape. A wrapper is one call and has the contract of what it calls; none has a `requires`, so whatever numbers and lengths
+// a caller hands over, the contract says what comes back. For Rattle callers alone are the 4 by 4 block by value (`small` of `transform`),
+// the calls that run two ways side by side (`forward_both`, `inverse_both`) and the thin block that hands a part of an area back
+// (`inverse` of `thin_block`; `work` is here). Read it beside the header.
 use meaning::Answer;
 use meaning::Shape;
 use picture::read::Picture;

@@ -26,7 +26,7 @@ pub fn inverse(shape: Shape, coefficients: &[i16], residuals: &mut [i32]) -> Ans
     acceptance(inverse_block::stages::stages(shape, rows, columns, coefficients, residuals))
 }
 
-/// The forward block: residuals to coefficients. Refusals 1 to 7 and 9.
+/// The forward block: residuals to coefficients. Refusals 1 to 5, 20, 6, 7, then 9.
 pub fn forward(shape: Shape, residuals: &[i16], coefficients: &mut [i16]) -> Answer
     ensures { λ r. ⌜ _≡_ {A = Outcome} (r, now (coefficients .exit)) (forwardOutcome shape (now (residuals .entry)) (now (coefficients .entry))) ⌝ }
 {

@@ -7,7 +7,7 @@ ghost use Prim.Native.Nat.{_*_};
 ghost use Rattle.algebra.specs.Refusals.{numberOf};
 ghost use Rattle.meaning.specs.Answer.{shapeTests, lengthTests};
 
-// 1 to 7 of a block, or 0.
+// 1 to 5, 20, 6 and 7 of a block, or 0.
 pub fn block_refusal(shape: Shape, input: usize, output: usize) -> u32
     ensures { λ r. ⌜ r ≡ numberOf (shapeTests shape ++ lengthTests (shape .width * shape .height) input output) ⌝ }
 {

@@ -3,6 +3,7 @@
 
 use crate::calls::{area, SIZES};
 use hoengtila_harness::call::{most_kept, Call, What};
+use hoengtila_harness::header::numbers;
 use hoengtila_harness::library::Shape;
 use hoengtila_harness::long_call::LongCall;
 use hoengtila_harness::model::long::ends;
@@ -122,7 +123,7 @@ fn refused_long_blocks() {
         let call = call_with(&mut c.random, switch, &wrong);
         c.outcome(&call);
     }
-    c.close(&[0, 1, 2, 3, 4, 5, 6, 7, 8, 20, 27]);
+    c.close(&numbers(&["block_inverse_long"]));
 }
 
 /// The last test, 9 of the other table, is 27 here.

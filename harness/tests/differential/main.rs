@@ -9,6 +9,7 @@ mod calls;
 mod lines;
 mod long;
 mod numbers;
+mod orders;
 mod refusals;
 mod rows;
 mod shapes;

@@ -4,9 +4,10 @@ use crate::calls::Direction::{self, Forward, Inverse};
 use crate::calls::{area, block_call, line_call, shapes_in_turn, DIRECTIONS, KINDS, SIZES};
 use hoengtila_harness::call::{Call, PATHS};
 use hoengtila_harness::compare::Comparison;
+use hoengtila_harness::header::numbers;
 use hoengtila_harness::patterns::{block, clear_outside, is_kept, LAYOUTS};
 use hoengtila_harness::random::Random;
-use hoengtila_harness::wrong::{asked, Wrong, NO_KIND, NO_SIZE, ORDER};
+use hoengtila_harness::wrong::{asked, Wrong, NO_KIND, NO_SIZE};
 
 /// Every set of the tests that a line can meet.
 #[test]
@@ -27,7 +28,7 @@ fn refused_lines() {
         }
     }
     let c = c.close();
-    assert!([0, 1, 3, 6, 7].iter().all(|number| c.met[*number] > 0));
+    assert_eq!(c.numbers(), numbers(&["line_forward"]));
 }
 
 /// Every set of the tests that a block can meet.
@@ -42,7 +43,7 @@ fn refused_blocks() {
         }
     }
     let c = c.close();
-    assert!(c.met[0] > 0 && ORDER.iter().all(|number| c.met[*number] > 0));
+    assert_eq!(c.numbers(), numbers(&["block_inverse", "block_forward"]));
 }
 
 fn call_with(random: &mut Random, direction: Direction, wrong: &Wrong) -> Call {

@@ -2,6 +2,7 @@
 
 use crate::calls::{shapes, SIZES};
 use hoengtila_harness::call::{most_kept, shape_numbers, Call, What};
+use hoengtila_harness::header::numbers;
 use hoengtila_harness::library::{Answer, Shape};
 use hoengtila_harness::model;
 use hoengtila_harness::patterns::{clear_outside, keeping_any};
@@ -260,5 +261,5 @@ fn too_many_blocks() {
             c.compare(&call);
         }
     }
-    c.close(&[0, 6, 7, 16], &[0, 8]);
+    c.close(&numbers(&["block_row"]), &[0, 8]);
 }

@@ -1,5 +1,6 @@
 //! Lists of steps: the three that are stored, any list that runs, and every refusal.
 
+use hoengtila_harness::header::numbers;
 use hoengtila_harness::model;
 use hoengtila_harness::model::steps::StepList;
 use hoengtila_harness::random::Random;
@@ -92,7 +93,7 @@ fn stored_lists_handed_out() {
             c.outcome(&StepCall::Forward { n, x, held });
         }
     }
-    c.close(&[0, 1, 6, 7]);
+    c.close(&numbers(&["steps_list", "steps_forward"]));
 }
 
 /// A list as numbers, whose every step reads cells that were written: it is refused for 29 alone.

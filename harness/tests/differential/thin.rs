@@ -3,10 +3,10 @@
 
 use crate::calls::{area, shapes, KINDS, SIZES};
 use hoengtila_harness::call::{most_kept, Call, What};
+use hoengtila_harness::header::numbers;
 use hoengtila_harness::library::Shape;
 use hoengtila_harness::patterns::{
-    block, block_about_the_rails, clear_outside, is_kept, keeping_any, line, LAYOUTS, PATTERNS,
-    SIXTEEN_BITS,
+    block, block_about_the_rails, clear_outside, keeping_any, line, LAYOUTS, PATTERNS, SIXTEEN_BITS,
 };
 use hoengtila_harness::random::Random;
 use hoengtila_harness::tally::Tally;
@@ -194,7 +194,7 @@ fn refused_thin_blocks() {
             assert_eq!(found.told.area == 0, found.told.number != 0);
         }
     }
-    c.close(&[0, 1, 2, 3, 4, 5, 6, 8, 19, 20]);
+    c.close(&numbers(&["block_inverse_thin"]));
 }
 
 /// Sides of which the first, the second or neither is refused.

@@ -3,6 +3,7 @@
 
 use crate::calls::{area, KINDS, SIZES};
 use hoengtila_harness::call::{most_kept, Call, What};
+use hoengtila_harness::header::numbers;
 use hoengtila_harness::library::{Parts, Shape};
 use hoengtila_harness::long_call::LongCall;
 use hoengtila_harness::model::long::{ends, reach};
@@ -198,7 +199,7 @@ fn refused_questions() {
         let parts = c.outcome(&call);
         assert!(parts.number == 0 || sum(&parts) == 0);
     }
-    c.close(&[0, 1, 2, 3, 4, 5, 6, 8, 15, 20, 27]);
+    c.close(&numbers(&["block_why", "block_why_long"]));
 }
 
 /// 9 of the other table is 27 here, and 7 is 15.

@@ -3,6 +3,7 @@
 use crate::calls::{wrapped_call, Direction, DIRECTIONS, KINDS, SIZES};
 use hoengtila_harness::call::{Call, What};
 use hoengtila_harness::compare::Comparison;
+use hoengtila_harness::header::numbers;
 use hoengtila_harness::model::wrapped::{adder, products};
 use hoengtila_harness::patterns::{line, PATTERNS, SIXTEEN_BITS};
 use hoengtila_harness::random::Random;
@@ -100,7 +101,7 @@ fn refused_wrapped_lines() {
         }
     }
     let c = c.close();
-    assert!([0, 1, 3, 6, 7, 21].iter().all(|number| c.met[*number] > 0));
+    assert_eq!(c.numbers(), numbers(&["line_forward_wrapped"]));
 }
 
 fn refused(random: &mut Random, wrong: &Wrong, bad: bool) -> Call {

@@ -1,6 +1,7 @@
 //! The library against the model: blocks, headers in many spellings, damaged files, and every refusal.
 
 use crate::subject::{by_model, Call, Library, Outcome};
+use hoengtila_harness::header::{each_set, numbers as numbers_of};
 use hoengtila_harness::random::{seeded, Random};
 use std::collections::BTreeMap;
 
@@ -15,13 +16,13 @@ struct Comparison {
 }
 
 impl Comparison {
-    fn open() -> Option<Comparison> {
-        Some(Comparison {
-            library: Library::open()?,
+    fn open() -> Comparison {
+        Comparison {
+            library: Library::open(),
             random: seeded(),
             calls: 0,
             met: BTreeMap::new(),
-        })
+        }
     }
 
     fn compare(&mut self, call: &Call) -> Outcome {
@@ -30,6 +31,11 @@ impl Comparison {
         self.calls += 1;
         *self.met.entry(outcome.number()).or_default() += 1;
         outcome
+    }
+
+    /// The numbers that were handed back.
+    fn numbers(&self) -> Vec<u32> {
+        self.met.keys().copied().collect()
     }
 
     fn close(self, title: &str) {
@@ -66,9 +72,7 @@ pub fn block(random: &mut Random, count: usize) -> Vec<i32> {
 /// Every size, written and read back.
 #[test]
 fn blocks_come_back() {
-    let Some(mut c) = Comparison::open() else {
-        return;
-    };
+    let mut c = Comparison::open();
     for (width, height) in SIZES.iter().flat_map(|w| SIZES.map(|h| (*w, h))) {
         for _ in 0..40 {
             let count = (width * height) as usize;
@@ -94,9 +98,7 @@ fn blocks_come_back() {
 /// Any mixture of wrong sides, lengths, residuals and outputs.
 #[test]
 fn refused_writings() {
-    let Some(mut c) = Comparison::open() else {
-        return;
-    };
+    let mut c = Comparison::open();
     for _ in 0..20_000 {
         let random = &mut c.random;
         let side = |random: &mut Random| {
@@ -133,7 +135,7 @@ fn refused_writings() {
             held,
         });
     }
-    assert!([0, 1, 2, 6, 7, 23].iter().all(|n| c.met.contains_key(n)));
+    assert_eq!(c.numbers(), numbers_of(&["picture_write"]));
     c.close("writings, refused and not");
 }
 
@@ -181,9 +183,7 @@ pub fn header(random: &mut Random, width: u32, height: u32) -> Vec<u8> {
 /// Headers in any spelling, of all sizes, with the right number of samples.
 #[test]
 fn headers_in_any_spelling() {
-    let Some(mut c) = Comparison::open() else {
-        return;
-    };
+    let mut c = Comparison::open();
     for _ in 0..10_000 {
         let random = &mut c.random;
         let (width, height) = (random.choose(&SIZES), random.choose(&SIZES));
@@ -200,9 +200,7 @@ fn headers_in_any_spelling() {
 /// A byte of a header changed, put in or lost; samples too few or too many; outputs of other lengths.
 #[test]
 fn damaged_files() {
-    let Some(mut c) = Comparison::open() else {
-        return;
-    };
+    let mut c = Comparison::open();
     for _ in 0..40_000 {
         let random = &mut c.random;
         let (width, height) = (random.choose(&[4, 8]), random.choose(&[4, 8]));
@@ -229,6 +227,69 @@ fn damaged_files() {
         let held = numbers(random, length, i32::MIN.into(), i32::MAX.into());
         c.compare(&Call::Read { file, held });
     }
-    assert!([0, 7, 24, 25].iter().all(|n| c.met.contains_key(n)));
+    assert_eq!(c.numbers(), numbers_of(&["picture_read"]));
     c.close("damaged files");
+}
+
+/// Every front of a header, from the empty file on: none is a picture, with no sample behind it.
+#[test]
+fn headers_cut_short() {
+    let mut c = Comparison::open();
+    for (width, height) in SIZES.iter().flat_map(|w| SIZES.map(|h| (*w, h))) {
+        let whole = header(&mut c.random, width, height);
+        for end in 0..=whole.len() {
+            let file = whole[..end].to_vec();
+            let held = numbers(&mut c.random, 16, -9, 9);
+            c.compare(&Call::Read { file, held });
+        }
+    }
+    assert_eq!(c.numbers(), [24, 25]);
+    c.close("headers cut short");
+}
+
+/// Numbers of 12 digits and more: with zeros in front they are what they spell, and those that are 4 or 65535 modulo 2^32 or 2^64 are
+/// not.
+#[test]
+fn long_numbers() {
+    let mut c = Comparison::open();
+    for (spelling, [side, maximum]) in [
+        (0, ["000000000004", "000000065535"]),
+        (24, ["429496729604", "429496795135"]),
+        (24, ["18446744073709551620", "18446744073709617151"]),
+    ] {
+        for place in 0..3 {
+            let mut words = ["4", "4", "65535"];
+            words[place] = [side, side, maximum][place];
+            let mut file = format!("P5\n{}\n", words.join(" ")).into_bytes();
+            file.extend([0; 32]);
+            let held = vec![7; 16];
+            assert_eq!(c.compare(&Call::Read { file, held }).number(), spelling);
+        }
+    }
+    c.close("numbers of 12 digits and more");
+}
+
+/// Every set of refusals, of a block of 4 by 4.
+#[test]
+fn orders() {
+    let mut c = Comparison::open();
+    each_set("picture_write", |set| {
+        let mut residuals = vec![0; set.pick(6, 15, 16)];
+        residuals[3] = set.pick(23, 32768, 32767);
+        let call = Call::Write {
+            width: set.pick(1, 5, 4),
+            height: set.pick(2, 5, 4),
+            residuals,
+            held: vec![9; set.pick(7, 44, 45)],
+        };
+        c.compare(&call).number()
+    });
+    each_set("picture_read", |set| {
+        let mut file = b"P5\n4 4\n65535\n".to_vec();
+        file[1] = set.pick(24, b'2', b'5');
+        file.extend(vec![0; set.pick(25, 31, 32)]);
+        let held = vec![9; set.pick(7, 15, 16)];
+        c.compare(&Call::Read { file, held }).number()
+    });
+    c.close("every set of refusals, in the header's order");
 }

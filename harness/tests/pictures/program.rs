@@ -40,10 +40,7 @@ fn wanted(file: &[u8], n: usize) -> (Vec<u8>, String) {
 
 #[test]
 fn the_program_writes_what_the_model_does() {
-    let Ok(command_line) = std::env::var(VARIABLE) else {
-        println!("pictures: {VARIABLE} is not set, so the program was not run");
-        return;
-    };
+    let command_line = std::env::var(VARIABLE).expect(VARIABLE);
     let mut random = seeded();
     let (mut pictures, mut refused) = (0, 0);
     for _ in 0..200 {

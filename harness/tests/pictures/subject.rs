@@ -71,11 +71,9 @@ pub struct Library {
 }
 
 impl Library {
-    pub fn open() -> Option<Library> {
-        let Ok(command_line) = std::env::var(VARIABLE) else {
-            println!("pictures: {VARIABLE} is not set, so nothing was compared");
-            return None;
-        };
+    /// Fails where no peer is named.
+    pub fn open() -> Library {
+        let command_line = std::env::var(VARIABLE).expect(VARIABLE);
         let mut words = command_line.split_whitespace();
         let peer = Command::new(words.next().expect("a command line"))
             .args(words)
@@ -83,7 +81,7 @@ impl Library {
             .stdout(Stdio::piped())
             .spawn()
             .expect("the peer starts");
-        Some(Library { peer })
+        Library { peer }
     }
 
     /// What the library makes of a call.

@@ -91,9 +91,7 @@ const READERS: [&[&str]; 2] = [
 
 #[test]
 fn tools_read_what_is_written() {
-    let Some(mut library) = Library::open() else {
-        return;
-    };
+    let mut library = Library::open();
     let mut random = seeded();
     for tool in READERS {
         let mut samples = 0;
@@ -104,10 +102,12 @@ fn tools_read_what_is_written() {
             assert_eq!(plain(&text), (width, height, wanted), "{tool:?}");
             samples += residuals.len();
         }
-        println!(
-            "pictures: {} reads {samples} samples as they were written",
-            tool[0]
-        );
+        if samples > 0 {
+            println!(
+                "pictures: {} reads {samples} samples as they were written",
+                tool[0]
+            );
+        }
     }
 }
 
@@ -129,9 +129,7 @@ const WRITERS: [&[&str]; 3] = [
 
 #[test]
 fn what_tools_write_is_read() {
-    let Some(mut library) = Library::open() else {
-        return;
-    };
+    let mut library = Library::open();
     let mut random = seeded();
     for tool in WRITERS {
         let (mut samples, mut comments) = (0, 0);
@@ -150,16 +148,16 @@ fn what_tools_write_is_read() {
             assert_eq!(back, residuals, "{tool:?}");
             samples += residuals.len();
         }
-        println!("pictures: of {tool:?} {samples} samples are read as they were meant, {comments} headers with a comment");
+        if samples > 0 {
+            println!("pictures: of {tool:?} {samples} samples are read as they were meant, {comments} headers with a comment");
+        }
     }
 }
 
 /// Headers in any spelling: what the library reads, Netpbm reads.
 #[test]
 fn netpbm_reads_the_same_headers() {
-    let Some(mut library) = Library::open() else {
-        return;
-    };
+    let mut library = Library::open();
     let mut random = seeded();
     let mut files = 0;
     for _ in 0..300 {

@@ -1,8 +1,10 @@
 //! Calls of the library: any totals, any shape, any residuals.
 
+use hoengtila_harness::header::{each_set, numbers};
 use hoengtila_harness::model::report::{add, Totals, GIVEN, LIMIT, NUMBERS};
 use hoengtila_harness::model::Shape;
 use hoengtila_harness::random::{seeded, Random};
+use std::collections::BTreeSet;
 use std::io::{Read, Write};
 use std::process::{Child, Command, Stdio};
 
@@ -36,11 +38,9 @@ struct Library {
 }
 
 impl Library {
-    fn open() -> Option<Library> {
-        let Ok(command_line) = std::env::var(VARIABLE) else {
-            println!("report: {VARIABLE} is not set, so no call was compared");
-            return None;
-        };
+    /// Fails where no peer is named.
+    fn open() -> Library {
+        let command_line = std::env::var(VARIABLE).expect(VARIABLE);
         let mut words = command_line.split_whitespace();
         let peer = Command::new(words.next().expect("a command line"))
             .args(words)
@@ -48,7 +48,7 @@ impl Library {
             .stdout(Stdio::piped())
             .spawn()
             .expect("the peer starts");
-        Some(Library { peer })
+        Library { peer }
     }
 
     fn ask(&mut self, request: &[u8], reply: &mut [u8]) {
@@ -165,6 +165,14 @@ fn block(random: &mut Random) -> Block {
     Block { shape, residuals }
 }
 
+/// What the library makes of a block, which is the model's.
+fn compared(library: &mut Library, totals: &Totals, block: &Block) -> Outcome {
+    let outcome = library.added(totals, block);
+    let Block { shape, residuals } = block;
+    assert_eq!(outcome, by_model(totals, block), "{shape:?} {residuals:?}");
+    outcome
+}
+
 /// Totals that no run gives.
 fn any_totals(random: &mut Random) -> Totals {
     let mut totals = [0; NUMBERS];
@@ -178,37 +186,53 @@ fn any_totals(random: &mut Random) -> Totals {
 
 #[test]
 fn every_call_is_the_models() {
-    let Some(mut library) = Library::open() else {
-        return;
-    };
+    let mut library = Library::open();
     let mut random = seeded();
     let mut totals = [0; NUMBERS];
-    let (mut taken, mut refused) = (0, 0);
+    let (mut taken, mut refused, mut met) = (0, 0, BTreeSet::new());
     for _ in 0..4000 {
         if random.once_in(10) {
             let any = any_totals(&mut random);
-            let block = block(&mut random);
-            assert_eq!(
-                library.added(&any, &block),
-                by_model(&any, &block),
-                "{:?}",
-                block.shape
-            );
+            let outcome = compared(&mut library, &any, &block(&mut random));
+            met.insert(outcome.0[0]);
             assert_eq!(library.cleared(&any), [0; NUMBERS]);
         }
-        let block = block(&mut random);
-        let outcome = library.added(&totals, &block);
-        assert_eq!(
-            outcome,
-            by_model(&totals, &block),
-            "{:?} {:?}",
-            block.shape,
-            block.residuals
-        );
+        let outcome = compared(&mut library, &totals, &block(&mut random));
+        met.insert(outcome.0[0]);
         taken += u64::from(outcome.0[0] == 0);
         refused += u64::from(outcome.0[0] != 0);
         totals = outcome.1;
     }
     assert!(taken > 1000 && refused > 100);
+    assert_eq!(Vec::from_iter(met), numbers(&["report_add"]));
     println!("report: {taken} blocks taken and {refused} refused, each with all totals as the model has them");
+}
+
+/// Every set of refusals, of a block of 8 by 4.
+#[test]
+fn orders() {
+    let mut library = Library::open();
+    each_set("report_add", |set| {
+        let mut totals = [0; NUMBERS];
+        totals[GIVEN] = set.pick(22, LIMIT, 0);
+        let (width, height) = (set.pick(1, 5, 8), set.pick(2, 5, 4));
+        let kinds = [set.pick(3, 3, 1), set.pick(4, 3, 2)];
+        let depth = set.pick(5, 13, 10);
+        let mut residuals = vec![0; set.pick(6, 31, 32)];
+        residuals[5] = set.pick(9, 1024, 1023);
+        let block = Block {
+            shape: [
+                width,
+                height,
+                kinds[0],
+                kinds[1],
+                depth,
+                8,
+                set.pick(20, 5, 4),
+            ],
+            residuals,
+        };
+        compared(&mut library, &totals, &block).0[0]
+    });
+    println!("report: every set of refusals, in the header's order");
 }

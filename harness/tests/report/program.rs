@@ -64,18 +64,15 @@ struct Run {
 }
 
 impl Run {
-    fn new(name: &str) -> Option<Run> {
-        let Ok(command_line) = std::env::var(VARIABLE) else {
-            println!("report: {VARIABLE} is not set, so the program was not run");
-            return None;
-        };
+    fn new(name: &str) -> Run {
+        let command_line = std::env::var(VARIABLE).expect(VARIABLE);
         let folder =
             std::env::temp_dir().join(format!("hoengtila-report-{name}-{}", std::process::id()));
         std::fs::create_dir_all(&folder).expect("a folder");
-        Some(Run {
+        Run {
             command_line,
             folder,
-        })
+        }
     }
 
     fn put(&self, k: usize, bytes: &[u8]) -> PathBuf {
@@ -106,7 +103,7 @@ impl Drop for Run {
 
 #[test]
 fn the_table_of_many_blocks_is_the_models() {
-    let Some(run) = Run::new("many") else { return };
+    let run = Run::new("many");
     let mut random = seeded();
     let (mut totals, mut said, mut paths) = ([0; NUMBERS], String::new(), Vec::new());
     while totals[GIVEN] < 30_000 {
@@ -132,7 +129,7 @@ fn the_table_of_many_blocks_is_the_models() {
 
 #[test]
 fn one_block_too_many_ends_the_report() {
-    let Some(run) = Run::new("limit") else { return };
+    let run = Run::new("limit");
     let mut bytes = shape(4, 4, 1, 2, 10);
     let mut k = 0;
     while bytes.len() + 35 <= LARGEST_FILE {
@@ -152,7 +149,7 @@ fn one_block_too_many_ends_the_report() {
 
 #[test]
 fn no_files_and_no_blocks() {
-    let Some(run) = Run::new("none") else { return };
+    let run = Run::new("none");
     let empty = run.put(0, &[]);
     let wanted = (table(&[0; NUMBERS]), String::new());
     assert_eq!(run.found(&[]), wanted);

@@ -4,6 +4,7 @@
 use crate::files::{damage, strays, whole, worst};
 use crate::subject::{by_model, Call, Library, Outcome};
 use hoengtila_harness::files::stored;
+use hoengtila_harness::header::each_set;
 use hoengtila_harness::model::Cursor;
 use hoengtila_harness::random::seeded;
 
@@ -60,9 +61,7 @@ fn compare(library: &mut Library, call: &Call) -> Outcome {
 
 #[test]
 fn broken_files() {
-    let Some(mut library) = Library::open() else {
-        return;
-    };
+    let mut library = Library::open();
     let mut random = seeded();
     let (mut dropped, mut bytes) = (0, 0);
     for case in stored() {
@@ -84,9 +83,7 @@ fn broken_files() {
 
 #[test]
 fn refusals() {
-    let Some(mut library) = Library::open() else {
-        return;
-    };
+    let mut library = Library::open();
     let mut number = |call: Call| compare(&mut library, &call).answer[0];
     let with = |file: Vec<u8>, out: usize, list: usize| Call {
         file,
@@ -106,11 +103,26 @@ fn refusals() {
     println!("salvage: 14, 7 and 26 are met where the model meets them");
 }
 
+/// Every set of refusals. For 14 a file goes on with bytes that belong to the last stretch.
+#[test]
+fn orders() {
+    let mut library = Library::open();
+    each_set("salvage", |set| {
+        let mut file = strays(set.pick(26, 1025, 3));
+        file.resize(set.pick(14, 65_537, file.len()), 9);
+        let call = Call {
+            out: vec![0xEE; file.len() - set.pick(7, 1, 0)],
+            list: vec![7; 2048],
+            file,
+        };
+        compare(&mut library, &call).answer[0]
+    });
+    println!("salvage: every set of refusals, in the header's order");
+}
+
 #[test]
 fn worst_files() {
-    let Some(mut library) = Library::open() else {
-        return;
-    };
+    let mut library = Library::open();
     let mut most = (0, "");
     for (name, file) in worst() {
         assert_eq!(file.len(), 65_536);

@@ -10,10 +10,7 @@ const VARIABLE: &str = "HOENGTILA_SALVAGE_PROGRAM";
 
 #[test]
 fn the_program_writes_and_says_what_the_model_does() {
-    let Ok(command_line) = std::env::var(VARIABLE) else {
-        println!("salvage: {VARIABLE} is not set, so the program was not run");
-        return;
-    };
+    let command_line = std::env::var(VARIABLE).expect(VARIABLE);
     let mut random = seeded();
     let mut lines = 0;
     let mut files = vec![vec![], vec![9; 65_536], strays(1024)];

@@ -1,0 +1,213 @@
+//! The order of refusals that the header gives each function: every set of them, on one small call.
+
+use crate::calls::area;
+use hoengtila_harness::call::{Call, Path, What};
+use hoengtila_harness::compare::Comparison;
+use hoengtila_harness::header::{each_set, Set};
+use hoengtila_harness::library::{Answer, Shape};
+use hoengtila_harness::long_call::LongCall;
+use hoengtila_harness::row_call::RowCall;
+use hoengtila_harness::step_call::StepCall;
+use hoengtila_harness::tally::Tally;
+use hoengtila_harness::thin_call::ThinCall;
+use hoengtila_harness::why_call::WhyCall;
+
+/// How many numbers the block of `shape` has.
+const AREA: usize = 32;
+
+/// 8 by 4, of which 4 columns and 2 rows are kept; 1 to 5 and 20 each spoil a number of their own. No call takes a depth of 17.
+fn shape(set: &Set) -> Shape {
+    Shape {
+        width: set.pick(1, 5, 8),
+        height: set.pick(2, 5, 4),
+        horizontal: set.pick(3, 3, 1),
+        vertical: set.pick(4, 3, 2),
+        depth: set.pick(5, 17, 10),
+        columns: 4,
+        rows: set.pick(20, 5, 2),
+    }
+}
+
+/// Zeros, one short for 6; for 8 with a number outside the kept part, and for `large` with such a number inside it.
+fn numbers(set: &Set, large: (u32, i32)) -> Vec<i32> {
+    let mut numbers = vec![0; set.pick(6, AREA - 1, AREA)];
+    numbers[7] = set.pick(8, 1, 0);
+    numbers[0] = set.pick(large.0, large.1, 0);
+    numbers
+}
+
+fn shorts(numbers: Vec<i32>) -> Vec<i16> {
+    numbers.into_iter().map(|z| z as i16).collect()
+}
+
+/// An output, one too long for 7.
+fn held(set: &Set, right: usize) -> Vec<i32> {
+    vec![9; set.pick(7, right + 1, right)]
+}
+
+fn line_call(set: &Set, what: What) -> Call {
+    Call {
+        what,
+        order: vec![3, 1, set.pick(21, 3, 2), 0],
+        input: vec![5; set.pick(6, 3, 4)],
+        held: held(set, 4),
+    }
+}
+
+#[test]
+fn orders_of_lines() {
+    let mut c = Comparison::open("lines, refused in the header's order");
+    let line = |path: Path| {
+        move |set: &Set| {
+            let (n, kind) = (set.pick(1, 5, 4), set.pick(3, 3, 1));
+            Call {
+                order: vec![],
+                ..line_call(set, What::Line { path, n, kind })
+            }
+        }
+    };
+    let wrapped = |forward: bool| {
+        move |set: &Set| {
+            let (n, kind, start) = (set.pick(1, 5, 4), set.pick(3, 3, 1), 7);
+            let what = What::Wrapped {
+                forward,
+                n,
+                kind,
+                start,
+            };
+            line_call(set, what)
+        }
+    };
+    let mut answer = |call: Call| c.outcome(call).answer.number;
+    each_set("line_forward", |set| answer(line(Path::Forward)(set)));
+    each_set("line_inverse", |set| answer(line(Path::Inverse)(set)));
+    each_set("line_forward_product", |set| {
+        answer(line(Path::ForwardProduct)(set))
+    });
+    each_set("line_inverse_product", |set| {
+        answer(line(Path::InverseProduct)(set))
+    });
+    each_set("line_forward_wrapped", |set| answer(wrapped(true)(set)));
+    each_set("line_inverse_wrapped", |set| answer(wrapped(false)(set)));
+    c.close();
+}
+
+#[test]
+fn orders_of_blocks() {
+    let mut c = Comparison::open("blocks, refused in the header's order");
+    let call = |what, input, held| Call {
+        what,
+        order: vec![],
+        input: shorts(input),
+        held,
+    };
+    each_set("block_inverse", |set| {
+        let what = What::Inverse(shape(set));
+        let call = call(what, numbers(set, (0, 0)), held(set, AREA));
+        c.outcome(call).answer.number
+    });
+    each_set("block_forward", |set| {
+        let what = What::Forward(shape(set));
+        let call = call(what, numbers(set, (9, 1024)), held(set, AREA));
+        c.outcome(call).answer.number
+    });
+    c.close();
+}
+
+#[test]
+fn orders_of_other_blocks() {
+    let mut c = Tally::open("long numbers, thin blocks and parts, refused in the header's order");
+    each_set("block_inverse_long", |set| {
+        let call = LongCall {
+            shape: shape(set),
+            extended: 1,
+            input: numbers(set, (27, i32::MIN)),
+            held: held(set, AREA),
+        };
+        c.outcome(&call).answer.number
+    });
+    each_set("block_inverse_thin", |set| {
+        let call = ThinCall {
+            shape: shape(set),
+            input: shorts(numbers(set, (0, 0))),
+            first: vec![9; AREA],
+            second: vec![9; set.pick(19, AREA - 1, AREA)],
+        };
+        c.outcome(&call).told.number
+    });
+    let why = |set: &Set, extended: Option<u32>| WhyCall {
+        shape: shape(set),
+        extended,
+        input: numbers(set, (27, i32::MAX)),
+        place: set.pick(15, AREA as u32, 0),
+    };
+    each_set("block_why", |set| c.outcome(&why(set, None)).number);
+    each_set("block_why_long", |set| c.outcome(&why(set, Some(1))).number);
+    c.close(&[0, 1, 2, 3, 4, 5, 6, 7, 8, 15, 19, 20, 27]);
+}
+
+#[test]
+fn orders_of_rows() {
+    let mut c = Tally::open("rows of blocks, refused in the header's order");
+    each_set("block_row", |set| {
+        let block = Shape {
+            width: 4,
+            height: 4,
+            horizontal: 1,
+            vertical: 1,
+            depth: 8,
+            columns: 4,
+            rows: 4,
+        };
+        let shapes = vec![block; set.pick(16, 65, 2)];
+        let sum = shapes.len() * area(&block);
+        let call = RowCall {
+            answers: vec![Answer::default(); shapes.len()],
+            input: vec![1; set.pick(6, sum - 1, sum)],
+            held: held(set, sum),
+            shapes,
+        };
+        c.outcome(&call).number
+    });
+    c.close(&[0, 6, 7, 16]);
+}
+
+/// A list of one step, which multiplies; or of 2,049 of them.
+#[test]
+fn orders_of_steps() {
+    let mut c = Tally::open("lists of steps, refused in the header's order");
+    each_set("steps_run", |set| {
+        let step = [
+            3,
+            set.pick(28, 2, 1),
+            set.pick(17, 1, 0),
+            set.pick(29, i32::MAX, 2),
+        ];
+        let call = StepCall::Run {
+            inputs: 1,
+            cells: 2,
+            steps: step.repeat(set.pick(18, 2049, 1)),
+            outs: vec![1],
+            x: vec![2; set.pick(6, 2, 1)],
+            held: held(set, 1),
+        };
+        c.outcome(&call).told[0]
+    });
+    each_set("steps_list", |set| {
+        let call = StepCall::List {
+            n: set.pick(1, 8, 4),
+            steps: held(set, 72),
+            outs: vec![9; 4],
+        };
+        c.outcome(&call).told[0]
+    });
+    each_set("steps_forward", |set| {
+        let call = StepCall::Forward {
+            n: set.pick(1, 8, 4),
+            x: vec![2; set.pick(6, 3, 4)],
+            held: held(set, 4),
+        };
+        c.outcome(&call).told[0]
+    });
+    c.close(&[0, 1, 6, 7, 17, 18, 28, 29]);
+}
