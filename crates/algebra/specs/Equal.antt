@@ -1,4 +1,4 @@
--- Document 01, "Blocks": "are 32767 or -32768 after the clip". Whether two integers are equal, as a test.
+-- Document 02, Wish 2: "only where the clip altered it". Whether two integers are equal, as a test.
 use mathlib.Core.Bool.{Bool, false}
 use lib.Dec.{eqb}
 use lib.IntN.{ℤ, pos, negsuc}

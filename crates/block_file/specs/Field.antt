@@ -19,6 +19,10 @@ byteAt file k = getD file k 0
 abbrev pub lengthAt : List ℕ → ℕ → ℕ
 lengthAt file at = byteAt file (at + 1) * 256 + byteAt file (at + 2)
 
+-- where its body starts: "a one-byte tag, a two-byte length of the body, and the body"
+abbrev pub bodyAt : ℕ → ℕ
+bodyAt at = at + 3
+
 -- "width, height, horizontal kind, vertical kind, d", in the body that starts at a place
 abbrev pub shapeAt : List ℕ → ℕ → Shape
 shapeAt file start =
@@ -32,6 +36,10 @@ shapeNumber shape = numberOf (shapeTests shape)
 abbrev pub isNone : Shape → Bool
 isNone shape = not (eqb (shapeNumber shape) 0)
 
+-- "Tag 01, length 5: width, height, horizontal kind, vertical kind, d"
+abbrev pub isShape : ℕ → Bool
+isShape tag = eqb tag 1
+
 -- "Tag 02: coefficients", "Tag 03: residuals"
 abbrev pub isData : ℕ → Bool
 isData tag = eqb tag 2 || eqb tag 3
@@ -44,8 +52,8 @@ isKeeping tag = eqb tag 4
 -- tag 04 before any tag 01"
 abbrev pub headerTests : ℕ → ℕ → Shape → List Refusal
 headerTests tag bytes shape =
-    test (not (eqb tag 1 || (isKeeping tag || isData tag))) 11
-    ∷ test (eqb tag 1 && not (eqb bytes 5)) 12
+    test (not (isShape tag || (isKeeping tag || isData tag))) 11
+    ∷ test (isShape tag && not (eqb bytes 5)) 12
     ∷ test (isKeeping tag && not (eqb bytes 2)) 12
     ∷ test ((isKeeping tag || isData tag) && isNone shape) 13
     ∷ test (isData tag && not (eqb bytes (2 * (shape .width * shape .height)))) 6
@@ -58,16 +66,16 @@ headerNumber tag bytes shape = numberOf (headerTests tag bytes shape)
 -- "holds until the next tag 01 or 04"
 abbrev pub shapeBehind : List ℕ → ℕ → Shape → Shape
 shapeBehind file at shape =
-    cond (eqb (byteAt file at) 1) (shapeAt file (at + 3))
-    (cond (isKeeping (byteAt file at)) (keeping shape (byteAt file (at + 3)) (byteAt file (at + 4))) shape)
+    cond (isShape (byteAt file at)) (shapeAt file (bodyAt at))
+    (cond (isKeeping (byteAt file at)) (keeping shape (byteAt file (bodyAt at)) (byteAt file (bodyAt at + 1))) shape)
 
 -- "header present (10)", what the header decides, "body present (10), then 1 to 5 for tag 01", and 20 for either; the shape behind
 -- a data field is the held one, which 13 let pass
 abbrev pub fieldTests : List ℕ → ℕ → Shape → List Refusal
 fieldTests file at shape =
-    test (ltb (length file) (at + 3)) 10
+    test (ltb (length file) (bodyAt at)) 10
     ∷ headerTests (byteAt file at) (lengthAt file at) shape
-    ++ (test (ltb (length file) (at + 3 + lengthAt file at)) 10
+    ++ (test (ltb (length file) (bodyAt at + lengthAt file at)) 10
     ∷ test (isNone (shapeBehind file at shape)) (shapeNumber (shapeBehind file at shape))
     ∷ [])
 
@@ -84,9 +92,9 @@ whole file at shape =
     record {
       number = 0;
       tag = byteAt file at;
-      start = at + 3;
+      start = bodyAt at;
       bytes = lengthAt file at;
-      next = record { at = at + 3 + lengthAt file at; shape = shapeBehind file at shape };
+      next = record { at = bodyAt at + lengthAt file at; shape = shapeBehind file at shape };
     }
 
 -- "A place past the end counts as the end"

@@ -47,8 +47,7 @@ forwardTurn shape residuals offset next =
     blockTurn (outcome .0) (forwardText (shape .width) (shape .height) (outcome .1)) offset next
 
 -- by the number and the tag: a refusal, a block, or a shape or its kept part, for which nothing is printed, or the end, where the
--- tag is 0. "the offset being that of the field's tag": the
--- cursor's place, "(0 for 14)": 14 is met at the start
+-- tag is 0. "the offset being that of the field's tag": the cursor's place, "(0 for 14)": 14 is met at the start
 unfoldable pub turnAt : List ℕ → Cursor → Turn
 turnAt file cursor =
     let step = stepOf file cursor in

@@ -12,22 +12,26 @@ use Rattle.meaning.specs.Inverse.{columnSum, rounded, middleAt, rowSum, 
 unfoldable pub carried : Plan → ℕ → (ℕ → ℤ) → ℤ
 carried p x f = sum (p .columns) (λ i. weight (p .horizontal) (p .width) i x *ℤ f i)
 
--- "the exact double sum, worked with no rounding"
+-- demand 3: "the exact double sum", with nothing rounded
 unfoldable pub exact : Plan → List ℤ → ℕ → ℕ → ℤ
 exact p c x y = carried p x (λ i. columnSum p c i y)
 
--- "A is the sum of the sizes of the horizontal weights used for that residual's column"
+-- demand 3: A, the sum of the sizes of the horizontal weights used for a residual's column
 unfoldable pub weightSizes : Plan → ℕ → ℕ
 weightSizes p x = sumℕ (p .columns) (λ i. natAbs (weight (p .horizontal) (p .width) i x))
 
+-- document 02, Wish 4: "Put over 2^(27-d)". What stands behind ">>7" stands over 2^(20-d), and 2^7 times it over 2^(27-d)
+abbrev pub scaled : ℤ → ℤ
+scaled z = pos 128 *ℤ z
+
 -- what the middle roundings added
 unfoldable pub middleRoundings : Plan → List ℤ → ℕ → ℕ → ℤ
-middleRoundings p c x y = carried p x (λ i. pos 128 *ℤ rounded (columnSum p c i y) -ℤ columnSum p c i y)
+middleRoundings p c x y = carried p x (λ i. scaled (rounded (columnSum p c i y)) -ℤ columnSum p c i y)
 
 -- what clipping added
 unfoldable pub clippings : Plan → List ℤ → ℕ → ℕ → ℤ
-clippings p c x y = carried p x (λ i. pos 128 *ℤ (middleAt p c i y -ℤ rounded (columnSum p c i y)))
+clippings p c x y = carried p x (λ i. scaled (middleAt p c i y -ℤ rounded (columnSum p c i y)))
 
 -- what the last rounding added
 unfoldable pub lastRounding : Plan → List ℤ → ℕ → ℕ → ℤ
-lastRounding p c x y = pos 128 *ℤ (pos (2 ^ p .last) *ℤ residual p c x y -ℤ rowSum p c x y)
+lastRounding p c x y = scaled (pos (2 ^ p .last) *ℤ residual p c x y -ℤ rowSum p c x y)

@@ -22,7 +22,7 @@ pub record Plan : Type 0 where
 
 -- -2^R .. 2^R - 1
 abbrev pub rangeOf : ℕ → Range
-rangeOf reach = record { low = negsuc (2 ^ reach - 1); high = pos (2 ^ reach - 1) }
+rangeOf r = record { low = negsuc (2 ^ r - 1); high = pos (2 ^ r - 1) }
 
 -- "clipped to -32768..32767"
 unfoldable pub shortRange : Range

@@ -9,7 +9,7 @@ use lib.IntN.{ℤ}
 use lib.ListN.{length, drop, length-append, take-append-drop}
 use Rattle.meaning.specs.Shape.{isSize}
 use Rattle.meaning.proofs.Cases.{size-cases, size-in}
-use Rattle.block_text.specs.Text.{decimal}
+use Rattle.block_text.specs.Text.{digits, decimal}
 use Rattle.block_text.specs.Wrote.{Wrote}
 use Rattle.picture.specs.Picture.{headerText, samples, pictureOf}
 use Rattle.picture.proofs.Samples.{samples-length}
@@ -21,7 +21,7 @@ pub area : (w h : ℕ) → isSize w ≡ true → isSize h ≡ true → (16 ≤ w
 area w h p q = (mul-le-mul (least w p) (least h q), mul-le-mul (size-in w p) (size-in h q))
 
 pub header-length : (w h : ℕ) → length (headerText w h) ≡ length (decimal w) + length (decimal h) + 11
-unfolding headerText
+unfolding digits decimal headerText
 header-length w h = simp length-append (omega arith)
 
 pub picture-length : (w h : ℕ) (zs : List ℤ) → length zs ≡ w * h → length (pictureOf w h zs) ≡ length (decimal w) + length (decimal h) + 11 + 2 * (w * h)

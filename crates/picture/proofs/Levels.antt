@@ -9,6 +9,7 @@ use lib.Dec.{T}
 use lib.IntN.{ℤ, pos, negsuc, natAbs, _+ℤ_, _-ℤ_, +ℤ-negℤ-cancel}
 use lib.Signed.{ltZ, nonNeg, pos-natAbs}
 use Rattle.algebra.proofs.Order.{subℕ-cases}
+use Rattle.meaning.specs.Plan.{shortRange}
 use Rattle.picture.specs.Picture.{outside, level, residual}
 
 pub neither : (a b : Bool) → a || b ≡ false → (a ≡ false) × (b ≡ false)
@@ -21,6 +22,7 @@ pub record Inside (z : ℤ) : Type 0 where
   pub low : level z < 65536
 
 pub inside : (z : ℤ) → outside z ≡ false → Inside z
+unfolding shortRange
 inside (pos n) e =
     let h = ltb-false 32767 n (neither false (ltZ (pos 32767) (pos n)) e .1) in
     record { size = omega arith; whole = tt; low = omega arith }

@@ -3,8 +3,9 @@
 use mathlib.Core.Bool.{Bool, false, _||_}
 use mathlib.Core.List.{List, [], _∷_, _++_}
 use Prim.Native.Nat.{ℕ, _/_, _%_}
-use lib.IntN.{ℤ, pos, negsuc, natAbs, _+ℤ_, _-ℤ_}
-use lib.Signed.{ltZ}
+use lib.IntN.{ℤ, pos, natAbs, _+ℤ_, _-ℤ_}
+use Rattle.meaning.specs.Plan.{shortRange}
+use Rattle.meaning.specs.Long.{beyond}
 use Rattle.block_numbers.specs.Numbers.{pairs}
 use Rattle.block_text.specs.Text.{decimal}
 
@@ -14,11 +15,11 @@ number n end = decimal n ++ (end ∷ [])
 
 -- "The header is written as P5, then w and h, then 65535: lines ended by byte 0A, one space inside"
 unfoldable pub headerText : ℕ → ℕ → List ℕ
-headerText w h = 80 ∷ 53 ∷ 10 ∷ (number w 32 ++ (number h 10 ++ (54 ∷ 53 ∷ 53 ∷ 51 ∷ 53 ∷ 10 ∷ [])))
+headerText w h = 80 ∷ 53 ∷ 10 ∷ (number w 32 ++ (number h 10 ++ number 65535 10))
 
 -- "a residual outside -32768..32767"
 abbrev pub outside : ℤ → Bool
-outside z = ltZ z (negsuc 32767) || ltZ (pos 32767) z
+outside z = beyond shortRange z
 
 unfoldable pub anyOutside : List ℤ → Bool
 anyOutside [] = false

@@ -1,5 +1,5 @@
 -- Document 01, "Lines": "sum over i of T[i][j]*x[i]", two inputs at a time. Inputs 2k and 2k + 1 stand side by side, and so do
--- their weights in each output: "out[j] is nearest(shift, the sum over i of a[i]*B[i][j])".
+-- their weights in each output: output j is nearest(shift, the sum over i of a[i]*B[i][j]).
 use mathlib.Core.Path.{_≡_}
 use mathlib.Core.Logic.{_⊎_}
 use mathlib.Core.List.{List}

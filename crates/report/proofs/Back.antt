@@ -17,7 +17,7 @@ use Rattle.algebra.specs.Lists.{at, block}
 use Rattle.algebra.specs.Refusals.{Refusal, firstOf, numberOf}
 use Rattle.algebra.proofs.Lists.{block-length, block-at, column-of, row-of, every-place, part-same}
 use Rattle.algebra.proofs.First.{first-past}
-use Rattle.algebra.proofs.Refusals.{Clear, clear, clear-split, refused-first, passed-first}
+use Rattle.algebra.proofs.Refusals.{Clear, clear, clear-split, refused-first, passed-first, none-applies}
 use Rattle.meaning.specs.declared.Shape.{Shape}
 use Rattle.meaning.specs.declared.Answer.{Answer}
 use Rattle.meaning.specs.Plan.{planOf}
@@ -69,12 +69,7 @@ module _ (sh : Shape) (r out : List ℤ) (long : length out ≡ min (length r) 1
   forward-is : forwardOutcome sh r out ≡ firstOf (tripTests sh r) (λ number place. (refused number place, out)) (accepted 0, forwardBlock sh r)
   forward-is = same-tests (λ number place. (refused number place, out)) (accepted 0, forwardBlock sh r)
 
--- ---- what a refusal and an acceptance say of tests
-clear-done : {A : Type 0} (f : ℕ → ℕ → A) (d : A) (ts : List Refusal) → Clear ts → firstOf ts f d ≡ d
-clear-done f d [] c = refl
-clear-done f d (t ∷ ts) (e, c) = ap (λ (b : Bool). cond b (f (t .number) (t .place)) (firstOf ts f d)) e ∙ clear-done f d ts c
-
--- two outcomes of one list of tests: where the one is a refusal, so is the other
+-- ---- two outcomes of one list of tests: where the one is a refusal, so is the other
 module _ (out l : List ℤ) (a : Answer) where
   abbrev told : List Refusal → Outcome
   told ts = firstOf ts (λ number place. (refused number place, out)) (accepted 0, l)
@@ -102,10 +97,10 @@ module _ (sh : Shape) (r : List ℤ) where
   took-clear c =
       let parts = clear-split (shapeTests sh) (test (not (eqb (length r) (area sh))) 6 ∷ record { applies = ltb (firstTooLarge sh r) (length r); number = 9; place = firstTooLarge sh r } ∷ []) c in
       record {
-        taken = shape-taken sh (clear-done (λ number place. number) 0 (shapeTests sh) (parts .0));
+        taken = shape-taken sh (none-applies (λ number place. number) 0 (shapeTests sh) (parts .0));
         long = eqb-true (length r) (area sh) (not-false (eqb (length r) (area sh)) (parts .1 .0));
         small = none-too-large sh r (parts .1 .1 .0);
-        answer = clear-done refused (accepted (railCount sh r)) (tripTests sh r) c;
+        answer = none-applies refused (accepted (railCount sh r)) (tripTests sh r) c;
       }
 
   pub took : tripAnswer sh r .number ≡ 0 → Took sh r
@@ -131,7 +126,7 @@ module _ (sh : Shape) (r : List ℤ) where
     pub forward-took : a .number ≡ 0 → Took sh r × (l ≡ forwardBlock sh r)
     forward-took z =
         let c = forward-clear z in
-        (took-clear c, ap (λ (o : Outcome). o .1) (same ∙ clear-done (λ number place. (refused number place, out)) (accepted 0, forwardBlock sh r) (tripTests sh r) c))
+        (took-clear c, ap (λ (o : Outcome). o .1) (same ∙ none-applies (λ number place. (refused number place, out)) (accepted 0, forwardBlock sh r) (tripTests sh r) c))
 
   -- ---- the way back: "Coefficients outside the kept rows and columns are written 0"
   forward-long : length (forwardBlock sh r) ≡ area sh

@@ -14,9 +14,6 @@ use Rattle.meaning.specs.Answer.{test, refused}
 use Rattle.meaning.specs.Forward.{log2}
 use Rattle.report.specs.Trip.{tripAnswer, railCount, largest, squares}
 
-unfoldable pub empty : List ℕ
-empty = replicate 578 0
-
 -- the total that stands at a place
 abbrev pub total : List ℕ → ℕ → ℕ
 total t i = getD t i 0
@@ -38,11 +35,15 @@ class sh = (side (sh .width) * 4 + side (sh .height)) * 9 + (sh .horizontal * 3 
 abbrev pub place : Shape → ℕ
 place sh = class sh * 4
 
+-- behind the four of each width, height and pair of kinds
 abbrev pub refusedPlace : ℕ
-refusedPlace = 576
+refusedPlace = 4 * 4 * 9 * 4
 
 abbrev pub givenPlace : ℕ
-givenPlace = 577
+givenPlace = refusedPlace + 1
+
+unfoldable pub empty : List ℕ
+empty = replicate (givenPlace + 1) 0
 
 -- four numbers of a block, from the place i on
 unfoldable pub entered : ℕ → ℕ → ℕ → ℕ → List ℕ → List ℕ

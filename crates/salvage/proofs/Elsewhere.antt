@@ -11,7 +11,7 @@ use Rattle.meaning.specs.declared.Shape.{Shape}
 use Rattle.meaning.specs.Shape.{shapeOf, keeping}
 use Rattle.block_file.specs.declared.cursor.Cursor.{Cursor}
 use Rattle.block_file.specs.declared.field.Field.{Field}
-use Rattle.block_file.specs.Field.{byteAt, lengthAt, shapeAt, shapeBehind, shapeNumber, isKeeping, headerNumber, fieldNumber, fieldAt, whole, nothing}
+use Rattle.block_file.specs.Field.{byteAt, lengthAt, bodyAt, shapeAt, shapeBehind, shapeNumber, isShape, isKeeping, headerNumber, fieldNumber, fieldAt, whole, nothing}
 use Rattle.block_file.specs.Cursor.{stepOf, foundAt}
 use Rattle.block_file.proofs.Whole.{Whole, whole-field, in-order, ofHeader, ofShape}
 use Rattle.salvage.specs.Pieces.{reads}
@@ -58,18 +58,18 @@ module _ (f : List ℕ) (at : ℕ) (g : List ℕ) (k : ℕ) (sh : Shape) (z : fi
       let q : at + 3 + j ≡ at + (3 + j) = omega arith in
       ap (byteAt g) p ∙ s (3 + j) (omega arith) ∙ ap (byteAt f) (sym q)
 
-  shape-same : 5 ≤ lengthAt f at → shapeAt g (k + 3) ≡ shapeAt f (at + 3)
+  shape-same : 5 ≤ lengthAt f at → shapeAt g (bodyAt k) ≡ shapeAt f (bodyAt at)
   shape-same m = λ i. shapeOf (s 3 (omega arith) i) (in-body 1 (omega arith) i) (in-body 2 (omega arith) i) (in-body 3 (omega arith) i) (in-body 4 (omega arith) i)
 
-  keeping-same : 2 ≤ lengthAt f at → keeping sh (byteAt g (k + 3)) (byteAt g (k + 4)) ≡ keeping sh (byteAt f (at + 3)) (byteAt f (at + 4))
-  keeping-same m = λ i. keeping sh (s 3 (omega arith) i) (s 4 (omega arith) i)
+  keeping-same : 2 ≤ lengthAt f at → keeping sh (byteAt g (bodyAt k)) (byteAt g (bodyAt k + 1)) ≡ keeping sh (byteAt f (bodyAt at)) (byteAt f (bodyAt at + 1))
+  keeping-same m = λ i. keeping sh (s 3 (omega arith) i) (in-body 1 (omega arith) i)
 
   pub behind-same : shapeBehind g k sh ≡ shapeBehind f at sh
   behind-same =
       let t = byteAt f at in
       let w = whole-there in
-      ap (λ (t : ℕ). cond (eqb t 1) (shapeAt g (k + 3)) (cond (isKeeping t) (keeping sh (byteAt g (k + 3)) (byteAt g (k + 4))) sh)) tag-same
-      ∙ either (eqb t 1) (isKeeping t) (shapeAt g (k + 3)) (shapeAt f (at + 3)) (keeping sh (byteAt g (k + 3)) (byteAt g (k + 4))) (keeping sh (byteAt f (at + 3)) (byteAt f (at + 4))) sh
+      ap (λ (t : ℕ). cond (isShape t) (shapeAt g (bodyAt k)) (cond (isKeeping t) (keeping sh (byteAt g (bodyAt k)) (byteAt g (bodyAt k + 1))) sh)) tag-same
+      ∙ either (isShape t) (isKeeping t) (shapeAt g (bodyAt k)) (shapeAt f (bodyAt at)) (keeping sh (byteAt g (bodyAt k)) (byteAt g (bodyAt k + 1))) (keeping sh (byteAt f (bodyAt at)) (byteAt f (bodyAt at + 1))) sh
       (λ b. shape-same (omega (arith, w .five (eqb-true t 1 b)))) (λ b. keeping-same (omega (arith, w .two (eqb-true t 4 b))))
 
   pub number-same : fieldNumber g k sh ≡ 0

@@ -1,7 +1,7 @@
 -- Document 02, Wish 12: "Refusals, with nothing written: 14 as before; 7 for an output shorter than the file or a list of under
--- 1,024 places; 26 for more than 1,024 dropped stretches." A place of the list is two numbers, an offset and a length.
+-- 1,024 places; 26 for more than 1,024 dropped stretches."
 use mathlib.Core.List.{List, [], _∷_, _++_}
-use Prim.Native.Nat.{ℕ, _/_}
+use Prim.Native.Nat.{ℕ, _*_, _/_}
 use lib.Dec.{ltb}
 use lib.ListN.{length, drop}
 use Rattle.algebra.specs.Refusals.{Refusal, firstOf}
@@ -10,12 +10,16 @@ use Rattle.block_file.specs.Cursor.{tooLong}
 use Rattle.salvage.specs.declared.saving.Saved.{Saved}
 use Rattle.salvage.specs.Pieces.{written, dropped}
 
+-- "1,024 places", of two numbers each: "list each dropped stretch by offset and length"
+abbrev pub places : ℕ
+places = 1024
+
 abbrev pub saveTests : List ℕ → List ℕ → List ℕ → List Refusal
 saveTests file out list =
     test (tooLong file) 14
     ∷ test (ltb (length out) (length file)) 7
-    ∷ test (ltb (length list) 2048) 7
-    ∷ test (ltb 2048 (length (dropped file))) 26
+    ∷ test (ltb (length list) (2 * places)) 7
+    ∷ test (ltb (2 * places) (length (dropped file))) 26
     ∷ []
 
 -- a text at the start of an area, the rest of which stays

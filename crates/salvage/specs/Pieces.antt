@@ -7,7 +7,7 @@ use Prim.Native.Nat.{ℕ, zero, suc, _+_, _-_, _<_}
 use lib.Dec.{eqb, ltb}
 use lib.ListN.{length, take, drop}
 use Rattle.block_file.specs.declared.cursor.Cursor.{Cursor}
-use Rattle.block_file.specs.Field.{isData, isKeeping}
+use Rattle.block_file.specs.Field.{isShape, isData, isKeeping}
 use Rattle.block_file.specs.Cursor.{start, stepOf}
 use Rattle.salvage.specs.declared.search.Piece.{Piece}
 
@@ -22,7 +22,7 @@ dataFollows file cursor =
 unfoldable pub goesOn : List ℕ → ℕ → Bool
 goesOn file at =
     let shape = stepOf file (record { at = at; shape = start .shape }) in
-    eqb (shape .tag) 1 && dataFollows file (shape .next)
+    isShape (shape .tag) && dataFollows file (shape .next)
 
 -- the first of the k offsets from `at` on at which reading goes on, or the one behind them
 unfoldable pub goesOnIn : ℕ → List ℕ → ℕ → ℕ

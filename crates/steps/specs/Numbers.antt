@@ -1,5 +1,5 @@
--- A list of steps as numbers, four to a step: the operation, the cell written, the cell read, and the second cell read or the
--- constant. Any numbers are a list.
+-- Document 02, Wish 6: "read our forward DST-VII as data". A list of steps as numbers, four to a step: the operation, the cell
+-- written, the cell read, and the second cell read or the constant. Any numbers are a list.
 use mathlib.Core.Bool.{cond}
 use mathlib.Core.List.{List, [], _∷_, map}
 use Prim.Native.Nat.{ℕ}

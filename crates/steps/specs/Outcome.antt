@@ -1,7 +1,7 @@
 -- Document 02, Wish 6: a run of whole numbers, its refusals, and what comes back.
 use mathlib.Core.Bool.{Bool, not, _||_}
 use mathlib.Core.List.{List, [], _∷_}
-use Prim.Native.Nat.{ℕ, _≤_, _<_}
+use Prim.Native.Nat.{ℕ, _^_, _≤_, _<_}
 use lib.Dec.{ltb, eqb}
 use lib.IntN.{ℤ, pos, negℤ, natAbs, _+ℤ_, _*ℤ_}
 use lib.ListN.{length}
@@ -14,7 +14,7 @@ use Rattle.steps.specs.Steps.{StepList, Carrier, Done, Run, refused, ran
 
 -- "29 for a result outside 32 bits": `mag z` is n both for n and for -(n + 1)
 abbrev pub fits32 : ℤ → Bool
-fits32 z = ltb (mag z) 2147483648
+fits32 z = ltb (mag z) (2 ^ 31)
 
 abbrev pub numbers : Carrier ℤ
 numbers = record { none = pos 0; plus = _+ℤ_; minus = _-ℤ_; less = negℤ; times = _*ℤ_; fits = fits32 }

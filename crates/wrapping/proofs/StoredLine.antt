@@ -14,8 +14,7 @@ use Rattle.product.specs.Product.{Laid}
 use Rattle.tables.specs.Term.{term}
 use Rattle.tables.proofs.Terms.{laid-size}
 use Rattle.wrapping.specs.Order.{Order}
-use Rattle.wrapping.specs.Feed.{productAt, Feed}
-use Rattle.wrapping.specs.Outcome.{sums}
+use Rattle.wrapping.specs.Feed.{productAt, Feed, sums}
 
 -- m is the literal size of a branch, n the caller's number of that size
 module _ {n m : ℕ} (q : n ≡ m) (pairs : ℕ) (two : 2 * pairs ≡ m) (few : m ≤ 32) (kind : ℕ) (forward : Bool) {t : List ℤ}

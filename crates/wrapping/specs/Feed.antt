@@ -1,11 +1,14 @@
 -- Document 02, Wish 9: "with the products in a given order". The products of a line over its stored weights, and what feeding them
--- asks for.
+-- asks for and gives.
+use mathlib.Core.Bool.{Bool}
 use mathlib.Core.List.{List}
 use Prim.Native.Nat.{ℕ, _+_, _*_, _≤_, _<_}
 use lib.IntN.{ℤ, natAbs, _*ℤ_}
 use lib.ListN.{length}
-use Rattle.algebra.specs.Lists.{at}
+use Rattle.algebra.specs.Sum.{sum}
+use Rattle.algebra.specs.Lists.{at, tabulate}
 use Rattle.product.specs.Product.{spot}
+use Rattle.tables.specs.Term.{term}
 use Rattle.wrapping.specs.Order.{Order}
 
 -- the product of input i in output j
@@ -18,3 +21,7 @@ pub record Feed (n apart : ℕ) (t : List ℤ) (order : List ℕ) : Type 0 where
   pub held : (i j : ℕ) → i < n → j < n → 2 * j + spot apart i < length t
   pub light : (i j : ℕ) → i < n → j < n → natAbs (at t (2 * j + spot apart i)) ≤ 90
   pub each : Order n order
+
+-- what they come to: the line in either direction, by its terms
+abbrev pub sums : Bool → ℕ → ℕ → (ℕ → ℤ) → List ℤ
+sums forward kind n x = tabulate n (λ j. sum n (λ i. term forward kind n j i *ℤ x i))

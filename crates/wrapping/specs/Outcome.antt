@@ -1,16 +1,14 @@
 -- Document 02, Wish 9: "for every order of the N products and every 32-bit starting number it ends on the same sums as document 01's
 -- line": neither stands in what is handed back, but that the order is refused where it is none.
-use mathlib.Core.Bool.{Bool, not}
+use mathlib.Core.Bool.{not}
 use mathlib.Core.List.{List, [], _∷_, _++_}
 use Prim.Native.Nat.{ℕ}
-use lib.IntN.{ℤ, _*ℤ_}
+use lib.IntN.{ℤ}
 use lib.ListN.{length}
-use Rattle.algebra.specs.Lists.{at, tabulate}
+use Rattle.algebra.specs.Lists.{at}
 use Rattle.algebra.specs.Refusals.{Refusal}
-use Rattle.algebra.specs.Sum.{sum}
 use Rattle.meaning.specs.Line.{forwardLine, inverseLine}
 use Rattle.meaning.specs.Answer.{Outcome, outcome, accepted, test, lineTests}
-use Rattle.tables.specs.Term.{term}
 use Rattle.wrapping.specs.Order.{isOrder}
 
 -- "those of the line, then 21"
@@ -26,7 +24,3 @@ forwardWrapped n kind order x y = wrappedOutcome n kind order x y (forwardLine k
 
 abbrev pub inverseWrapped : ℕ → ℕ → List ℕ → List ℤ → List ℤ → Outcome
 inverseWrapped n kind order x y = wrappedOutcome n kind order x y (inverseLine kind n n (at x))
-
--- the line in either direction, by its terms
-abbrev pub sums : Bool → ℕ → ℕ → (ℕ → ℤ) → List ℤ
-sums forward kind n x = tabulate n (λ j. sum n (λ i. term forward kind n j i *ℤ x i))

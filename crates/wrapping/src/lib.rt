@@ -15,7 +15,8 @@ ghost use mathlib.Core.Path.{_≡_};
 ghost use Rattle.algebra.specs.Lists.{at};
 ghost use Rattle.algebra.specs.Refusals.{numberOf};
 ghost use Rattle.meaning.specs.Answer.{Outcome};
-ghost use Rattle.wrapping.specs.Outcome.{sums, wrappedTests, wrappedOutcome, forwardWrapped, inverseWrapped};
+ghost use Rattle.wrapping.specs.Feed.{sums};
+ghost use Rattle.wrapping.specs.Outcome.{wrappedTests, wrappedOutcome, forwardWrapped, inverseWrapped};
 
 // 1, 3, 6, 7 and 21, or 0.
 fn wrapped_refusal(n: u32, kind: u32, input: usize, output: usize, order: &[u32]) -> u32

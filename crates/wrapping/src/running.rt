@@ -16,8 +16,7 @@ ghost use Rattle.meaning.specs.Taken.{TakenLine};
 ghost use Rattle.product.specs.Product.{spot};
 ghost use Rattle.wrapping.specs.Order.{Order};
 ghost use Rattle.wrapping.specs.Wrapped.{wrap, adder};
-ghost use Rattle.wrapping.specs.Feed.{productAt, Feed};
-ghost use Rattle.wrapping.specs.Outcome.{sums};
+ghost use Rattle.wrapping.specs.Feed.{productAt, Feed, sums};
 
 // The product of input i in output j.
 fn product_at(t: &[i16], apart: usize, j: usize, x: &[i16], i: usize) -> u32

@@ -9,7 +9,8 @@ use Rattle.algebra.specs.Refusals.{Refusal}
 use Rattle.algebra.proofs.Refusals.{refused-first, passed-first}
 use Rattle.meaning.specs.declared.Answer.{Answer}
 use Rattle.meaning.specs.Answer.{Outcome, refused, accepted}
-use Rattle.wrapping.specs.Outcome.{sums, wrappedTests}
+use Rattle.wrapping.specs.Feed.{sums}
+use Rattle.wrapping.specs.Outcome.{wrappedTests}
 use Rattle.wrapping.proofs.Passed.{passed}
 use Rattle.wrapping.proofs.total.Statement.{statement}
 use Rattle.wrapping.proofs.total.Tie as tie

@@ -1,4 +1,6 @@
 -- `shape_behind` meets its contract. Assumes nothing.
+use mathlib.Core.Path.{_≡_}
+use Prim.Native.Nat.{_+_}
 use native.Mathlib.Omega.{arith}
 use borrow.Author.Tests.{eq-eqb, ne-eqb}
 use borrow.Author.Needs.{needs}
@@ -49,7 +51,8 @@ returns-2 : tie.Need-returns-2
 returns-2 c =
     let s = c .before .before .before .before .before .before .before .before .before .before .args in
     let tag = byteAt (now (s .file)) (s .at) in
-    rw (ne-eqb tag 1 (c .before .before .before .before .before .before .before .if1 .left), eq-eqb tag 4 (c .before .before .before .before .before .if2 .taken), ← c .before .before .before .word .ensures .0, ← c .before .word2 .ensures .0) (c .keeping .ensures)
+    let second : s .at + 3 + 1 ≡ s .at + 4 = omega arith in
+    rw (second, ne-eqb tag 1 (c .before .before .before .before .before .before .before .if1 .left), eq-eqb tag 4 (c .before .before .before .before .before .if2 .taken), ← c .before .before .before .word .ensures .0, ← c .before .word2 .ensures .0) (c .keeping .ensures)
 
 returns-3 : tie.Need-returns-3
 returns-3 c =

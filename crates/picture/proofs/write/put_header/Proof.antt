@@ -1,19 +1,10 @@
 -- `put_header` meets its contract. Assumes nothing.
 use native.Mathlib.Omega.{arith}
-use mathlib.Core.Path.{_≡_, sym, ap}
-use mathlib.Core.List.{List, [], _∷_, _++_}
-use Prim.Native.Nat.{ℕ}
-use Rattle.block_text.specs.Text.{digits, decimal}
-use Rattle.block_text.proofs.Digits.{ten-digits}
-use Rattle.block_text.proofs.Writing.{andThen, retext, within}
+use Rattle.block_text.proofs.Writing.{andThen, within}
 use Rattle.picture.specs.Picture.{headerText}
 use borrow.Author.Needs.{needs}
 use Rattle.picture.proofs.write.put_header.Statement.{statement}
 use Rattle.picture.proofs.write.put_header.Tie as tie
-
-maximum : decimal 65535 ≡ 54 ∷ 53 ∷ 53 ∷ 51 ∷ 53 ∷ []
-unfolding digits
-maximum = sym (ten-digits 65535 (omega arith))
 
 put-requires : tie.Need-put-requires
 put-requires c κs = search needs
@@ -39,8 +30,7 @@ same-length c = search needs
 returns : tie.Need-returns
 unfolding headerText
 returns c =
-    let last = retext (ap (λ (t : List ℕ). t ++ (10 ∷ [])) maximum) (c .before .before .put-number3 .ensures) in
-    within (andThen (c .before .before .before .before .before .before .before .before .before .before .before .before .before .before .before .before .before .before .before .before .before .before .put .ensures) (andThen (c .before .before .before .before .before .before .before .before .before .before .before .before .before .before .before .before .before .before .put2 .ensures) (andThen (c .before .before .before .before .before .before .before .before .before .before .before .before .before .before .put3 .ensures) (andThen (c .before .before .before .before .before .before .before .before .before .before .put-number .ensures) (andThen (c .before .before .before .before .before .before .put-number2 .ensures) last))))) (omega arith)
+    within (andThen (c .before .before .before .before .before .before .before .before .before .before .before .before .before .before .before .before .before .before .before .before .before .before .put .ensures) (andThen (c .before .before .before .before .before .before .before .before .before .before .before .before .before .before .before .before .before .before .put2 .ensures) (andThen (c .before .before .before .before .before .before .before .before .before .before .before .before .before .before .put3 .ensures) (andThen (c .before .before .before .before .before .before .before .before .before .before .put-number .ensures) (andThen (c .before .before .before .before .before .before .put-number2 .ensures) (c .before .before .put-number3 .ensures)))))) (omega arith)
 
 pub put-header-spec : {M : Type 1} → statement M
 put-header-spec =
