@@ -3,7 +3,7 @@ use mathlib.Core.Path.{_≡_, sym, ap}
 use mathlib.Core.List.{[], _∷_}
 use Prim.Native.Nat.{ℕ, zero, suc, _+_, _-_, _*_, _/_, _%_, _^_, _≤_, _<_}
 use native.Mathlib.Omega.{arith}
-use native.Mathlib.Nat.{div-add-mod, mod-lt, pow-succ', div-le-of-le-mul, div-lt-iff-lt-mul, lt-of-mul-lt-mul-left, mul-suc}
+use native.Mathlib.Nat.{div-add-mod, mod-lt, pow-succ', lt-of-mul-lt-mul-left, mul-suc}
 use lib.Pow.{pow-pos}
 use lib.IntN.{ℤ, pos, negsuc, natAbs, _+ℤ_, _-ℤ_, _*ℤ_}
 use lib.Signed.{shrZ}
@@ -38,11 +38,6 @@ round-near z h q =
 
 pub shr-near : (z : ℤ) (k : ℕ) → natAbs (pos (2 ^ suc k) *ℤ shrZ (z +ℤ pos (2 ^ k)) (2 ^ suc k) -ℤ z) ≤ 2 ^ k
 shr-near z k = rw (pow-succ' 2 k) (round-near z (2 ^ k) (pow-pos k))
-
--- the shift makes smaller: |z| ≤ m B gives |⌊z / m⌋| ≤ B
-pub shr-abs : (z : ℤ) (m B : ℕ) → 0 < m → natAbs z ≤ m * B → natAbs (shrZ z m) ≤ B
-shr-abs (pos a) m B h p = div-le-of-le-mul m p
-shr-abs (negsuc a) m B h p = div-lt-iff-lt-mul h .1 (omega arith)
 
 -- ---- the same for `>>`
 -- 2^n (a >> n) ≤ a < 2^n (a >> n) + 2^n: it is the floor

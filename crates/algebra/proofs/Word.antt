@@ -35,10 +35,6 @@ arg≤ {w} {z} f p = record { val = toZ-ofZ w z f; abs = p }
 pub lit : (w : Width) (n : ℕ) → Is w n (toZ w n) (natAbs (toZ w n))
 lit w n = record { val = refl; abs = le-refl (natAbs (toZ w n)) }
 
--- bits that fit, of which nothing else is known
-pub bits : (w : Width) (n : ℕ) {B : ℕ} → natAbs (toZ w n) ≤ B → Is w n (toZ w n) B
-bits w n p = record { val = refl; abs = p }
-
 -- ---- what the machine writes, where it fits
 pub put : {w : Width} {y z : ℤ} {B : ℕ} → y ≡ z → SFits w z → natAbs z ≤ B → Is w (ofZ w y) z B
 put {w} {y} {z} e f p = record { val = ap (λ (x : ℤ). toZ w (ofZ w x)) e ∙ toZ-ofZ w z f; abs = p }

@@ -1,21 +1,20 @@
 -- How large the numbers of an inverse block can be, over any plan: of coefficients of size at most B, where the sizes of the
 -- weights of a sum add up to at most W and no number of the range is above M. Assumes nothing.
---   column-part, row-part:         every partial sum of either stage: its first k terms, for every k
---   column-rounding, row-rounding: what the two roundings are put to: e + 64, and r + 2^(s-1) for the last shift s
+--   column-part, row-part: every partial sum of either stage: its first k terms, for every k
 --   columnSum-size, rounded-size, middle-size, rowSum-size, residual-size: the sums and the values that come of them
 -- `Sized` gives W (`down-sizes`, `along-sizes`), `Around` is what is asked of the range.
 use mathlib.Core.List.{List}
-use Prim.Native.Nat.{ℕ, _+_, _*_, _-_, _^_, _≤_, _<_}
+use Prim.Native.Nat.{ℕ, _+_, _*_, _^_, _≤_, _<_}
 use native.Mathlib.Nat.{le-refl, le-trans}
 use native.Mathlib.Omega.{arith}
 use lib.Dec.{ltb}
-use lib.IntN.{ℤ, pos, natAbs, _+ℤ_}
+use lib.IntN.{ℤ, pos, natAbs}
 use lib.Signed.{_≤ℤ_}
 use Rattle.algebra.specs.Clip.{Range}
 use Rattle.algebra.specs.Lists.{at}
 use Rattle.algebra.proofs.Order.{abs-parts, parts-le, parts-abs, le-parts}
 use Rattle.algebra.proofs.Clip.{clip-low, clip-high}
-use Rattle.algebra.proofs.Shift.{shift-in, rounding-in, nearest-in}
+use Rattle.algebra.proofs.Shift.{shift-in, nearest-in}
 use Rattle.meaning.specs.Line.{inverseSum}
 use Rattle.meaning.specs.Plan.{Plan}
 use Rattle.meaning.specs.Taken.{Sized, NoneAbove}
@@ -41,9 +40,6 @@ module _ (p : Plan) (c : List ℤ) {B W : ℕ} (small : NoneAbove B c) (x y : �
   pub columnSum-size : natAbs (columnSum p c x y) ≤ W * B
   unfolding columnSum
   columnSum-size = column-part (p .rows) (le-refl (p .rows))
-
-  pub column-rounding : natAbs (columnSum p c x y +ℤ pos 64) ≤ W * B + 64
-  column-rounding = rounding-in 7 (columnSum p c x y) (W * B) columnSum-size
 
   -- before the clip
   pub rounded-size : (R : ℕ) → W * B ≤ 128 * R → natAbs (rounded (columnSum p c x y)) ≤ R
@@ -85,9 +81,6 @@ module _ (p : Plan) (c : List ℤ) {M : ℕ} (around : Around M (p .range)) wher
     pub rowSum-size : natAbs (rowSum p c x y) ≤ W * M
     unfolding rowSum
     rowSum-size = row-part (p .columns) (le-refl (p .columns))
-
-    pub row-rounding : natAbs (rowSum p c x y +ℤ pos (2 ^ (p .last - 1))) ≤ W * M + 2 ^ (p .last - 1)
-    row-rounding = rounding-in (p .last) (rowSum p c x y) (W * M) rowSum-size
 
     pub residual-size : (R : ℕ) → 1 ≤ p .last → W * M ≤ 2 ^ p .last * R → natAbs (residual p c x y) ≤ R
     unfolding residual

@@ -27,12 +27,12 @@ use Rattle.meaning.specs.Line.{forwardSum, inverseSum}
 use Rattle.meaning.specs.Shape.{isSize}
 use Rattle.meaning.specs.Plan.{shortRange, planBy, planOf}
 use Rattle.meaning.specs.Taken.{TakenBy, Taken, Sized, NoneAbove}
-use Rattle.meaning.specs.Inverse.{columnSum, rounded, middleAt, rowSum, residual}
+use Rattle.meaning.specs.Inverse.{columnSum, middleAt, rowSum, residual}
 use Rattle.meaning.specs.Forward.{log2, rowShift, columnShift, rowValue, columnValue, coefficient}
 use Rattle.meaning.proofs.Cases.{size-cases, size-in, depth-cases, pick}
 use Rattle.meaning.proofs.KeptPart.{columns-kept, rows-kept}
 use Rattle.meaning.proofs.Sizes.{short, forwardSum-in, forwardSum-short, forward-part-fits}
-use Rattle.meaning.proofs.PlanSizes.{Around, down-sizes, along-sizes, column-part, columnSum-size, rounded-size, middle-within, middle-size, row-part, rowSum-size, residual-size}
+use Rattle.meaning.proofs.PlanSizes.{Around, down-sizes, along-sizes, column-part, columnSum-size, middle-within, row-part, rowSum-size, residual-size}
 
 -- ---- the inverse
 -- by any range and any last shift
@@ -54,9 +54,6 @@ module _ (sh : Shape) (c : List ℤ) (x y : ℕ) where
   middle-fits =
       let w = middle-within (planOf sh) c short-around x y in
       parts-fit w16 (middleAt (planOf sh) c x y) (omega (arith, le-parts (w .0), le-parts (w .1))) (omega (arith, le-parts (w .0), le-parts (w .1)))
-
-  pub middle-in : natAbs (middleAt (planOf sh) c x y) ≤ 32768
-  middle-in = middle-size (planOf sh) c short-around x y
 
 -- a rounding adds at most 2^11 to a sum of at most 2^26
 rounding-fits : (z : ℤ) (s : ℕ) → natAbs z ≤ 67108864 → s ≤ 12 → SFits w32 (z +ℤ pos (2 ^ (s - 1)))
@@ -82,10 +79,6 @@ module _ (sh : Shape) (t : Taken sh) (c : List ℤ) where
     -- "e+64"
     pub column-rounding-fits : SFits w32 (columnSum (planOf sh) c x y +ℤ pos 64)
     column-rounding-fits = rounding-fits (columnSum (planOf sh) c x y) 7 columnSum-in (omega arith)
-
-    -- before the clip
-    pub rounded-in : natAbs (rounded (columnSum (planOf sh) c x y)) ≤ 524288
-    rounded-in = rounded-size (planOf sh) c small x y (down-sizes (taken-sized sh t) y h) 524288 (omega (arith, size-in (sh .height) (t .height)))
 
   -- ---- rows, whatever the coefficients are
   last-in : (8 ≤ 20 - sh .depth) × (20 - sh .depth ≤ 12)

@@ -2,7 +2,7 @@
 -- block's (`forward-refused`, `forward-taken`); the forward writes nothing outside the kept part, so the inverse refuses nothing
 -- (`back`). Assumes nothing.
 use mathlib.Core.Path.{_≡_, refl, sym, ap, _∙_, subst}
-use mathlib.Core.Bool.{Bool, true, false, cond, not, _&&_}
+use mathlib.Core.Bool.{Bool, true, false, cond, not, _&&_, and-false}
 use mathlib.Core.List.{List, [], _∷_, _++_}
 use Prim.Native.Nat.{ℕ, _+_, _*_, _-_, _^_, _≤_, _<_, min}
 use native.Mathlib.Nat.{mul-comm, mul-le-mul}
@@ -13,7 +13,7 @@ use lib.Dec.{eqb, ltb}
 use lib.IntN.{ℤ, pos, natAbs}
 use lib.ListN.{length, take, length-append}
 use Rattle.algebra.specs.Sum.{sumℕ}
-use Rattle.algebra.specs.Lists.{at, block}
+use Rattle.algebra.specs.Lists.{at}
 use Rattle.algebra.specs.Refusals.{Refusal, firstOf, numberOf}
 use Rattle.algebra.proofs.Lists.{block-length, block-at, column-of, row-of, every-place, part-same}
 use Rattle.algebra.proofs.First.{first-past}
@@ -27,7 +27,7 @@ use Rattle.meaning.specs.Inverse.{residual, inverseBlock, outside, firstOutside
 use Rattle.meaning.specs.Forward.{columnValue, coefficient, forwardBlock, firstTooLarge, forwardOutcome}
 use Rattle.meaning.proofs.Cases.{size-in}
 use Rattle.meaning.proofs.Accepted.{shape-taken, inverse-done}
-use Rattle.meaning.proofs.Small.{none-too-large, within-places}
+use Rattle.meaning.proofs.Small.{block-in, none-too-large}
 use Rattle.meaning.proofs.Stages.{residual-in}
 use Rattle.report.specs.Trip.{area, tripTests, tripAnswer, railCount, returned, apart, greatest, largest, squares}
 
@@ -137,12 +137,8 @@ module _ (sh : Shape) (r : List ℤ) where
   unfolding returned inverseBlock
   returned-long = block-length (sh .width) (sh .height) (residual (planOf sh) (forwardBlock sh r)) ∙ mul-comm (sh .height) (sh .width)
 
-  and-no : (b : Bool) → b && false ≡ false
-  and-no true = refl
-  and-no false = refl
-
   kept-or-zero : (z : ℤ) (b : Bool) → not (eqb (natAbs (cond b z (pos 0))) 0) && not b ≡ false
-  kept-or-zero z true = and-no (not (eqb (natAbs z) 0))
+  kept-or-zero z true = and-false (not (eqb (natAbs z) 0))
   kept-or-zero z false = refl
 
   inside : (x y : ℕ) → x < sh .width → y < sh .height → outside (planOf sh) (x + y * sh .width) (at (forwardBlock sh r) (x + y * sh .width)) ≡ false
@@ -170,13 +166,7 @@ module _ (sh : Shape) (r : List ℤ) where
   -- "No sum leaves 32 bits": a returned residual is at most 2^18 in size
   pub returned-in : Taken sh → NoneAbove 262144 (returned sh r)
   unfolding returned inverseBlock
-  returned-in t =
-      let p = planOf sh in
-      let c = forwardBlock sh r in
-      within-places 262144 (block (sh .width) (sh .height) (residual p c))
-      (λ k h. every-place (sh .width) (sh .height) (λ k. natAbs (at (block (sh .width) (sh .height) (residual p c)) k) ≤ 262144)
-      (λ x y h l. subst (λ (z : ℤ). natAbs z ≤ 262144) (sym (block-at (sh .width) (sh .height) (residual p c) x y h l)) (residual-in sh t c x y h))
-      k (omega (arith, block-length (sh .width) (sh .height) (residual p c), h)))
+  returned-in t = block-in (sh .width) (sh .height) (residual (planOf sh) (forwardBlock sh r)) 262144 (λ x y h l. residual-in sh t (forwardBlock sh r) x y h)
 
 pub few : (sh : Shape) (r : List ℤ) → Took sh r → length r ≤ 1024
 few sh r t = omega (arith, t .long, area-in sh (t .taken))

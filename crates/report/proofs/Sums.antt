@@ -68,11 +68,6 @@ module _ (test : Given → Bool) (f : Given → ℕ) (B : ℕ) (small : (b : Giv
       let e : suc (length bs) * B ≡ B + length bs * B = omega arith in
       omega (arith, one-small b, sum-small bs, e)
 
-  pub max-small : (bs : List Given) → maxOver test f bs ≤ B
-  unfolding maxOver
-  max-small [] = omega arith
-  max-small (b ∷ bs) = omega (arith, one-small b, max-small bs)
-
 -- ---- "The order of the blocks changes no total"
 module _ (test : Given → Bool) (f : Given → ℕ) where
   pub sum-order : {bs cs : List Given} → Reordered bs cs → sumOver test f bs ≡ sumOver test f cs
