@@ -401,11 +401,11 @@ pub fn block_inverse(shape: Shape, coefficients: &[i16], residuals: &mut [i32]) 
     }
 }
 
-/// The residuals of a block of long coefficients; `extended` is the extended-precision switch, off where it is 0.
+/// The residuals of a block of long coefficients; `extended` is the extended-precision switch.
 #[inline]
 pub fn block_inverse_long(
     shape: Shape,
-    extended: u32,
+    extended: bool,
     coefficients: &[i32],
     residuals: &mut [i32],
 ) -> Answer {
@@ -413,7 +413,7 @@ pub fn block_inverse_long(
     unsafe {
         c::hoengtila_block_inverse_long(
             shape,
-            extended,
+            u32::from(extended),
             input.as_ptr(),
             input.len(),
             output.as_mut_ptr(),
@@ -513,11 +513,11 @@ pub fn block_why(shape: Shape, coefficients: &[i16], place: u32) -> Parts {
     unsafe { c::hoengtila_block_why(shape, input.as_ptr(), input.len(), place) }
 }
 
-/// The same of a block of long coefficients; `extended` is the extended-precision switch, off where it is 0.
+/// The same of a block of long coefficients; `extended` is the extended-precision switch.
 #[inline]
-pub fn block_why_long(shape: Shape, extended: u32, coefficients: &[i32], place: u32) -> Parts {
-    let input = coefficients;
-    unsafe { c::hoengtila_block_why_long(shape, extended, input.as_ptr(), input.len(), place) }
+pub fn block_why_long(shape: Shape, extended: bool, coefficients: &[i32], place: u32) -> Parts {
+    let (input, switch) = (coefficients, u32::from(extended));
+    unsafe { c::hoengtila_block_why_long(shape, switch, input.as_ptr(), input.len(), place) }
 }
 
 /// Runs a list of steps on `x`: four numbers to a step in `steps`, the output cells in `outs`.

@@ -34,8 +34,8 @@ impl Asked for LongCall {
     #[cfg(hoengtila_linked)]
     fn by_library(&self) -> Outcome {
         let mut output = self.held.clone();
-        let answer =
-            crate::library::block_inverse_long(self.shape, self.extended, &self.input, &mut output);
+        let (shape, extended) = (self.shape, self.extended != 0);
+        let answer = crate::library::block_inverse_long(shape, extended, &self.input, &mut output);
         Outcome { answer, output }
     }
 

@@ -55,7 +55,9 @@ impl Asked for WhyCall {
         use crate::library;
         match self.extended {
             None => library::block_why(self.shape, &self.shorts(), self.place),
-            Some(switch) => library::block_why_long(self.shape, switch, &self.input, self.place),
+            Some(switch) => {
+                library::block_why_long(self.shape, switch != 0, &self.input, self.place)
+            }
         }
     }
 
