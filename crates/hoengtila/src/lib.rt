@@ -2,8 +2,8 @@
 // `step_run`, `step_lists`, `picture` and `salvage` under the names and with the arguments that include/hoengtila.h declares, and the one
 // that makes a shape. A wrapper is one call and has the contract of what it calls; none has a `requires`, so whatever numbers and lengths
 // a caller hands over, the contract says what comes back. For Rattle callers alone are the 4 by 4 block by value (`small` of `transform`),
-// the calls that run two ways side by side (`forward_both`, `inverse_both`) and the thin block that hands a part of an area back
-// (`inverse` of `thin_block`; `work` is here). Read it beside the header.
+// the calls that run two ways side by side (`forward_both`, `inverse_both`), the thin block that hands a part of an area back (`inverse`
+// of `thin_block`; `work` is here), `empty` of `report` and `is_listed` of `step_lists`. Read it beside the header.
 use meaning::Answer;
 use meaning::Shape;
 use picture::read::Picture;

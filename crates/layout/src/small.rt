@@ -1,4 +1,5 @@
-// Blocks of up to 8 by 8, in either direction: rooms that every size shares take longer to clear than these take to work.
+// Blocks of up to 8 by 8, in either direction: rooms that every size shares take longer to clear than these take to
+// work, and looking for a live part takes as long as it saves.
 use meaning::Shape;
 ghost use mathlib.Core.Path.{_≡_};
 ghost use mathlib.Core.Bool.{true};

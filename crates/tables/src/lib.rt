@@ -1,8 +1,8 @@
 // The weights as data. Here are those of DST-VII, stored whole and row by row; zipped has those of every kind in the order in which
-// lines read them, and stage puts these into rooms of one length for the stages of a block. A `const` array is built anew at each use,
-// so each is handed out by value once for a line or a block and lent from there. Read specs/Table, then the functions at the end of
-// this file, whose proofs have the checker test the fold rule over the whole table (proofs/Stored); specs/Term with zipped, specs/Stage
-// with stage; of proofs/, Unique.
+// lines read them, and stage puts these into rooms of one length for the stages of a block and for lines of 32 points. A `const` array is
+// built anew at each use, so those of up to 16 points are handed out by value and lent from there, and those of 32 are written into a
+// lent room. Read specs/Table, then the functions at the end of this file, whose proofs have the checker test the fold rule over the
+// whole table (proofs/Stored); specs/Term with zipped, specs/Stage with stage; of proofs/, Unique.
 pub mod stage;
 pub mod zipped;
 

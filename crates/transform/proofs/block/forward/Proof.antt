@@ -1,4 +1,4 @@
--- `block::forward` meets its contract: a call that tests 1 to 7 turn down, one that test 9 does, and one that is accepted.
+-- `block::forward` meets its contract: a call that tests 1 to 5, 20, 6 and 7 turn down, one that test 9 does, and one that is accepted.
 -- Assumes nothing.
 use borrow.Author.Needs.{needs}
 use native.Mathlib.Omega.{arith}
@@ -21,7 +21,7 @@ use Rattle.meaning.proofs.Small.{none-too-large}
 use Rattle.transform.proofs.block.forward.Statement.{statement}
 use Rattle.transform.proofs.block.forward.Tie as tie
 
--- 1 to 7, and 9
+-- 1 to 5, 20, 6 and 7, and 9
 abbrev first : tie.Start → List Refusal
 first s =
     let h = s .args .shape in
@@ -42,7 +42,7 @@ done s = (accepted 0, forwardBlock (s .args .shape) (s .args .residuals .now))
 abbrev expected : tie.Start → Outcome
 expected s = forwardOutcome (s .args .shape) (s .args .residuals .now) (s .args .coefficients .now)
 
--- past 1 to 7, test 9 decides
+-- past 1 to 5, 20, 6 and 7, test 9 decides
 past : (c : tie.Else1) → let s = c .before .before in expected s ≡ cond (ltb (place s) (length (s .args .residuals .now))) (refusal s 9 (place s)) (done s)
 past c =
     let s = c .before .before in

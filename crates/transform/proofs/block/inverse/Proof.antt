@@ -25,7 +25,7 @@ use Rattle.layout.proofs.Inside.{live-part, kept-part}
 use Rattle.transform.proofs.block.inverse.Statement.{statement}
 use Rattle.transform.proofs.block.inverse.Tie as tie
 
--- 1 to 7, 8, and what a call hands back at either end
+-- 1 to 5, 20, 6 and 7, 8, and what a call hands back at either end
 abbrev seven : tie.Start → List Refusal
 seven s = shapeTests (s .args .shape) ++ lengthTests (s .args .shape .width * s .args .shape .height) (length (s .args .coefficients .now)) (length (s .args .residuals .now))
 

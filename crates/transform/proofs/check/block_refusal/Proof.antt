@@ -14,7 +14,7 @@ use Rattle.transform.proofs.check.block_refusal.Tie as tie
 abbrev lengths : tie.Start → List Refusal
 lengths s = lengthTests (s .args .shape .width * s .args .shape .height) (s .args .input) (s .args .output)
 
--- past 1 to 5, the lengths decide
+-- past 1 to 5 and 20, the lengths decide
 past : (c : tie.Else1) → numberOf (shapeTests (c .before .before .args .shape) ++ lengths (c .before .before)) ≡ numberOf (lengths (c .before .before))
 past c = passed-first (lengths (c .before .before)) (λ number place. number) 0 (shapeTests (c .before .before .args .shape)) tt (sym (c .before .refusal .ensures) ∙ c .if1 .left)
 
