@@ -5,6 +5,15 @@
 #                      to run what comes of it, and the words load to run a program that the kit linked; where something
 #                      is missing it says so in a line that starts with NAME, and fails
 #   find_load          sets load alone, for which no compiler is needed; fails where there is no emulator
+#   build_archive      has the kit prove the library and write target/staticlib/libhoengtila.a, where that is missing or older than its
+#                      sources or the kit; what the kit says goes to standard output
+
+# `rt staticlib` proves the library's crate anew each time. One at a time in target/, as in `blocks`.
+build_archive() {
+    local archive=target/staticlib/libhoengtila.a
+    [ -e "$archive" ] && [ -z "$(find crates.txt crates "$(readlink -f "$(command -v rt)")" -newer "$archive" -print -quit)" ] ||
+        flock crates.txt rt staticlib hoengtila
+}
 
 # The kit has an emulator beside its other tools.
 find_emulator() {
