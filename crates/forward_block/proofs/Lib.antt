@@ -2,5 +2,4 @@ pub mod Places
 pub mod OneLine
 pub mod TwoStages
 pub mod RoomsFor
-pub mod Ends
 pub mod Turning

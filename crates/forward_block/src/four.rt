@@ -1,8 +1,8 @@
 // A block of 4 by 4 of which all is kept. Rooms and loops that every size shares would take longer than its products do, so it has
 // code of its own, and one function for both stages: each line of four is written as a column, and the lines of the second stage are
 // the columns of the first.
-use crate::shift::column_shift;
-use crate::shift::row_shift;
+use forward_stage::shift::column_shift;
+use forward_stage::shift::row_shift;
 use meaning::Shape;
 use meaning::kept_columns;
 use meaning::kept_rows;

@@ -3,10 +3,10 @@
 // written where the coefficients will stand.
 use crate::four::four;
 use crate::four::is_four;
-use crate::place::clear_beyond;
-use crate::place::narrow;
-use crate::shift::column_shift;
-use crate::shift::row_shift;
+use forward_stage::place::clear_beyond;
+use forward_stage::place::narrow;
+use forward_stage::shift::column_shift;
+use forward_stage::shift::row_shift;
 use layout::small::is_small;
 use layout::zip::zip;
 use meaning::Shape;

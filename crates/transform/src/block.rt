@@ -34,7 +34,7 @@ pub fn forward(shape: Shape, residuals: &[i16], coefficients: &mut [i16]) -> Ans
     if number != 0 {
         return refusal(number, 0);
     }
-    let place = forward_block::hunt::first_too_large(shape, residuals);
+    let place = forward_hunt::hunt::first_too_large(shape, residuals);
     if place < residuals.len() {
         return refusal(9, place as u32);
     }
