@@ -30,12 +30,12 @@ ghost use Rattle.block_row.specs.Numbers.{shapesOf};
 ghost use Rattle.block_row.specs.Row.{RowOutcome, rowOutcome};
 ghost use Rattle.steps.specs.Numbers.{listOf};
 ghost use Rattle.thin_block.specs.Thin.{Areas, thinOutcome};
-ghost use Rattle.steps.specs.Outcome.{Result, runOutcome};
+ghost use Rattle.steps.specs.Outcome.{Result, stepsOutcome};
 ghost use Rattle.wrapping.specs.Outcome.{forwardWrapped, inverseWrapped};
 ghost use Rattle.picture.specs.Outcomes.{writeOutcome, readOutcome};
 ghost use Rattle.salvage.specs.Outcomes.{savedOutcome};
 ghost use Rattle.report.specs.Totals.{empty, addOutcome};
-ghost use Rattle.step_lists.specs.Listed.{Handed, listOutcome, lineOutcome};
+ghost use Rattle.step_lists.specs.Listed.{HandedList, listOutcome, stepLineOutcome};
 ghost use Rattle.why.specs.Why.{whyOutcome, longWhyOutcome};
 
 #[no_mangle]
@@ -218,21 +218,21 @@ pub extern "C" fn hoengtila_steps_run(
     x: &[i16],
     y: &mut [i32],
 ) -> Taken
-    ensures { λ r. ⌜ _≡_ {A = Result} (r, now (y .exit)) (runOutcome (listOf inputs cells (now (steps .entry)) (now (outs .entry))) (now (x .entry)) (now (y .entry))) ⌝ }
+    ensures { λ r. ⌜ _≡_ {A = Result} (r, now (y .exit)) (stepsOutcome (listOf inputs cells (now (steps .entry)) (now (outs .entry))) (now (x .entry)) (now (y .entry))) ⌝ }
 {
     step_run::run::run(inputs, cells, steps, outs, x, y)
 }
 
 #[no_mangle]
 pub extern "C" fn hoengtila_steps_list(n: u32, steps: &mut [i32], outs: &mut [i32]) -> Listed
-    ensures { λ r. ⌜ _≡_ {A = Handed} (r, (now (steps .exit), now (outs .exit))) (listOutcome n (now (steps .entry)) (now (outs .entry))) ⌝ }
+    ensures { λ r. ⌜ _≡_ {A = HandedList} (r, (now (steps .exit), now (outs .exit))) (listOutcome n (now (steps .entry)) (now (outs .entry))) ⌝ }
 {
     step_lists::list::list(n, steps, outs)
 }
 
 #[no_mangle]
 pub extern "C" fn hoengtila_steps_forward(n: u32, x: &[i16], y: &mut [i32]) -> Taken
-    ensures { λ r. ⌜ _≡_ {A = Result} (r, now (y .exit)) (lineOutcome n (now (x .entry)) (now (y .entry))) ⌝ }
+    ensures { λ r. ⌜ _≡_ {A = Result} (r, now (y .exit)) (stepLineOutcome n (now (x .entry)) (now (y .entry))) ⌝ }
 {
     step_lists::forward::forward(n, x, y)
 }

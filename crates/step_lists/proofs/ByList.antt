@@ -13,9 +13,9 @@ use Rattle.algebra.specs.Refusals.{numberOf}
 use Rattle.meaning.specs.Line.{forwardLine}
 use Rattle.steps.specs.Steps.{Step, add, sub, neg, mul, products}
 use Rattle.steps.specs.Numbers.{cellOf, decode, encode, listOf}
-use Rattle.steps.specs.Outcome.{Sixteen, runOutcome}
+use Rattle.steps.specs.Outcome.{Sixteen, stepsOutcome}
 use Rattle.steps.proofs.Computed.{Right}
-use Rattle.step_lists.specs.Listed.{isListed, listFor, handed, listOutcome, multiplications, lineTests, line}
+use Rattle.step_lists.specs.Listed.{isListed, listFor, handedList, listOutcome, multiplications, stepLineTests, stepLine}
 
 -- ---- from numbers back to the list
 decode-encode : (ss : List Step) → decode (encode ss) ≡ ss
@@ -35,10 +35,10 @@ module _ (n : ℕ) (s o : List ℤ) (e : s ≡ encode (listFor n .steps)) (f : o
   list-back =
       λ i. record { inputs = listFor n .inputs; cells = listFor n .cells; steps = (ap decode e ∙ decode-encode (listFor n .steps)) i; outs = (ap (map cellOf) f ∙ cells-of (listFor n .outs)) i }
 
-  pub by-list : Right n (listFor n) → products (listFor n .steps) ≡ multiplications n → (x y : List ℤ) → length x ≡ n → length y ≡ n → Sixteen x → runOutcome (listOf (listFor n .inputs) (listFor n .cells) s o) x y ≡ line n x
-  by-list r c x y l m h = ap (λ p. runOutcome p x y) list-back ∙ r .runs x y l m h ∙ (λ i. (record { number = 0; count = c i }, forwardLine 1 n (at x)))
+  pub by-list : Right n (listFor n) → products (listFor n .steps) ≡ multiplications n → (x y : List ℤ) → length x ≡ n → length y ≡ n → Sixteen x → stepsOutcome (listOf (listFor n .inputs) (listFor n .cells) s o) x y ≡ stepLine n x
+  by-list r c x y l m h = ap (λ p. stepsOutcome p x y) list-back ∙ r .runs x y l m h ∙ (λ i. (record { number = 0; count = c i }, forwardLine 1 n (at x)))
 
-  pub handed-list : isListed n ≡ true → (steps outs : List ℤ) → handed (listFor n .inputs) (listFor n .cells) s o steps outs ≡ listOutcome n steps outs
+  pub handed-list : isListed n ≡ true → (steps outs : List ℤ) → handedList (listFor n .inputs) (listFor n .cells) s o steps outs ≡ listOutcome n steps outs
   unfolding listOutcome
   handed-list l steps outs = rw (l, e, f)
 
@@ -52,7 +52,7 @@ is-third n l f g = eqb-true n 32 (sym (third n f g) ∙ l)
 pub not-listed : (n : ℕ) → (n ≡ 4 → ⊥) → (n ≡ 16 → ⊥) → (n ≡ 32 → ⊥) → isListed n ≡ false
 not-listed n f g h = third n f g ∙ ne-eqb n 32 h
 
-pub passed : (n a b : ℕ) → numberOf (lineTests n a b) ≡ 0 → (isListed n ≡ true) × ((a ≡ n) × (b ≡ n))
+pub passed : (n a b : ℕ) → numberOf (stepLineTests n a b) ≡ 0 → (isListed n ≡ true) × ((a ≡ n) × (b ≡ n))
 passed n a b e = let f = go (isListed n) (eqb a n) (eqb b n) e in (f .0, (eqb-true a n (f .1 .0), eqb-true b n (f .1 .1)))
   where
     go : (p q r : Bool) → _≡_ {A = ℕ} (cond (not p) 1 (cond (not q) 6 (cond (not r) 7 0))) 0 → (p ≡ true) × ((q ≡ true) × (r ≡ true))

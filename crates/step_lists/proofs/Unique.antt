@@ -6,15 +6,15 @@ use Prim.Native.Nat.{ℕ}
 use lib.IntN.{ℤ}
 use Rattle.algebra.proofs.Unique.{one}
 use Rattle.steps.specs.Outcome.{Result}
-use Rattle.step_lists.specs.Listed.{Handed, isListed, listOutcome, lineOutcome}
+use Rattle.step_lists.specs.Listed.{HandedList, isListed, listOutcome, stepLineOutcome}
 
 -- `is_listed`, `list`, `forward`
 module _ (n : ℕ) where
   pub listed-one : {r s : Bool} → r ≡ isListed n → s ≡ isListed n → r ≡ s
   listed-one = one
 
-  pub list-one : (steps outs : List ℤ) {r s : Handed} → r ≡ listOutcome n steps outs → s ≡ listOutcome n steps outs → r ≡ s
+  pub list-one : (steps outs : List ℤ) {r s : HandedList} → r ≡ listOutcome n steps outs → s ≡ listOutcome n steps outs → r ≡ s
   list-one steps outs = one
 
-  pub forward-one : (x y : List ℤ) {r s : Result} → r ≡ lineOutcome n x y → s ≡ lineOutcome n x y → r ≡ s
+  pub forward-one : (x y : List ℤ) {r s : Result} → r ≡ stepLineOutcome n x y → s ≡ stepLineOutcome n x y → r ≡ s
   forward-one x y = one

@@ -24,36 +24,36 @@ listFor n = cond (eqb n 4) list4 (cond (eqb n 16) list16 list32)
 
 -- ---- the list as numbers
 -- what is told, and what the two buffers hold then
-abbrev pub Handed : Type 0
-Handed = Listed × (List ℤ × List ℤ)
+abbrev pub HandedList : Type 0
+HandedList = Listed × (List ℤ × List ℤ)
 
 abbrev pub listed : ℕ → ℕ → ℕ → List ℤ → List ℤ → Listed
 listed number inputs cells s o = record { number = number; inputs = inputs; cells = cells; steps = length s / 4; outs = length o }
 
 -- numbers s and output cells o into buffers that hold `steps` and `outs`: 7 for a length other than the list's own
-abbrev pub handed : ℕ → ℕ → List ℤ → List ℤ → List ℤ → List ℤ → Handed
-handed inputs cells s o steps outs =
+abbrev pub handedList : ℕ → ℕ → List ℤ → List ℤ → List ℤ → List ℤ → HandedList
+handedList inputs cells s o steps outs =
     firstOf (test (not (eqb (length steps) (length s))) 7 ∷ test (not (eqb (length outs) (length o))) 7 ∷ [])
     (λ number place. (listed number inputs cells s o, (steps, outs)))
     (listed 0 inputs cells s o, (s, o))
 
 -- 1 where n has no list
-unfoldable pub listOutcome : ℕ → List ℤ → List ℤ → Handed
+unfoldable pub listOutcome : ℕ → List ℤ → List ℤ → HandedList
 listOutcome n steps outs =
     let p = listFor n in
-    cond (isListed n) (handed (p .inputs) (p .cells) (encode (p .steps)) (map pos (p .outs)) steps outs) (listed 1 0 0 [] [], (steps, outs))
+    cond (isListed n) (handedList (p .inputs) (p .cells) (encode (p .steps)) (map pos (p .outs)) steps outs) (listed 1 0 0 [] [], (steps, outs))
 
 -- ---- the forward line by its list
-abbrev pub lineTests : ℕ → ℕ → ℕ → List Refusal
-lineTests n input output = test (not (isListed n)) 1 ∷ lengthTests n input output
+abbrev pub stepLineTests : ℕ → ℕ → ℕ → List Refusal
+stepLineTests n input output = test (not (isListed n)) 1 ∷ lengthTests n input output
 
 -- "The multiplying steps in the lists number at most 8, 127 and 620"
 abbrev pub multiplications : ℕ → ℕ
 multiplications n = cond (eqb n 4) 8 (cond (eqb n 16) 127 620)
 
 -- the full product, and as many multiplying steps as the list has
-abbrev pub line : ℕ → List ℤ → Result
-line n x = (record { number = 0; count = multiplications n }, forwardLine 1 n (at x))
+abbrev pub stepLine : ℕ → List ℤ → Result
+stepLine n x = (record { number = 0; count = multiplications n }, forwardLine 1 n (at x))
 
-unfoldable pub lineOutcome : ℕ → List ℤ → List ℤ → Result
-lineOutcome n x y = firstOf (lineTests n (length x) (length y)) (λ number place. untouched y number) (line n x)
+unfoldable pub stepLineOutcome : ℕ → List ℤ → List ℤ → Result
+stepLineOutcome n x y = firstOf (stepLineTests n (length x) (length y)) (λ number place. untouched y number) (stepLine n x)

@@ -14,7 +14,7 @@ ghost use lib.IntN.{natAbs};
 ghost use lib.ListN.{length};
 ghost use Rattle.algebra.specs.Refusals.{numberOf};
 ghost use Rattle.steps.specs.Outcome.{Result, Sixteen};
-ghost use Rattle.step_lists.specs.Listed.{lineTests, line, lineOutcome};
+ghost use Rattle.step_lists.specs.Listed.{stepLineTests, stepLine, stepLineOutcome};
 
 fn wide(x: i16) -> i32
     ensures { λ r. ⌜ (r ≡ x) × (natAbs r ≤ 32768) ⌝ }
@@ -35,7 +35,7 @@ fn sixteen(x: &[i16])
 
 // 1, 6 and 7, or 0.
 fn refusal(n: u32, input: usize, output: usize) -> u32
-    ensures { λ r. ⌜ r ≡ numberOf (lineTests n input output) ⌝ }
+    ensures { λ r. ⌜ r ≡ numberOf (stepLineTests n input output) ⌝ }
 {
     if !is_listed(n) {
         return 1;
@@ -51,8 +51,8 @@ fn refusal(n: u32, input: usize, output: usize) -> u32
 
 // A line that is not refused.
 fn accepted(n: u32, x: &[i16], y: &mut [i32]) -> Taken
-    requires { ⌜ numberOf (lineTests n (length (now x)) (length (now y))) ≡ 0 ⌝ }
-    ensures { λ r. ⌜ _≡_ {A = Result} (r, now (y .exit)) (line n (now (x .entry))) ⌝ }
+    requires { ⌜ numberOf (stepLineTests n (length (now x)) (length (now y))) ≡ 0 ⌝ }
+    ensures { λ r. ⌜ _≡_ {A = Result} (r, now (y .exit)) (stepLine n (now (x .entry))) ⌝ }
 {
     sixteen(x);
     if n == 4 {
@@ -72,7 +72,7 @@ fn accepted(n: u32, x: &[i16], y: &mut [i32]) -> Taken
 
 /// The forward DST-VII line of n points by its list of steps, n being 4, 16 or 32.
 pub fn forward(n: u32, x: &[i16], y: &mut [i32]) -> Taken
-    ensures { λ r. ⌜ _≡_ {A = Result} (r, now (y .exit)) (lineOutcome n (now (x .entry)) (now (y .entry))) ⌝ }
+    ensures { λ r. ⌜ _≡_ {A = Result} (r, now (y .exit)) (stepLineOutcome n (now (x .entry)) (now (y .entry))) ⌝ }
 {
     let number = refusal(n, x.len(), y.len());
     if number != 0 {

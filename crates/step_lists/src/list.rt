@@ -9,7 +9,7 @@ use crate::stored::steps_32;
 ghost use mathlib.Core.Path.{_≡_};
 ghost use Prim.Native.Nat.{_≤_};
 ghost use lib.ListN.{length};
-ghost use Rattle.step_lists.specs.Listed.{Handed, isListed, listed, handed, listOutcome};
+ghost use Rattle.step_lists.specs.Listed.{HandedList, isListed, listed, handedList, listOutcome};
 
 /// Whether there is a list of n points.
 pub fn is_listed(n: u32) -> bool
@@ -58,7 +58,7 @@ fn hand(
     outs: &mut [i32],
 ) -> Listed
     requires { ⌜ (length (now s) ≤ 8192) × (length (now o) ≤ 2048) ⌝ }
-    ensures { λ r. ⌜ _≡_ {A = Handed} (r, (now (steps .exit), now (outs .exit))) (handed inputs cells (now (s .entry)) (now (o .entry)) (now (steps .entry)) (now (outs .entry))) ⌝ }
+    ensures { λ r. ⌜ _≡_ {A = HandedList} (r, (now (steps .exit), now (outs .exit))) (handedList inputs cells (now (s .entry)) (now (o .entry)) (now (steps .entry)) (now (outs .entry))) ⌝ }
 {
     if steps.len() != s.len() {
         return told(7, inputs, cells, s, o);
@@ -74,7 +74,7 @@ fn hand(
 /// The list of n points: its numbers into `steps`, four to a step, and its output cells into `outs`. 1 where n has no list, 7
 /// where a buffer has another length than the list's; its sizes are told for 7 too.
 pub fn list(n: u32, steps: &mut [i32], outs: &mut [i32]) -> Listed
-    ensures { λ r. ⌜ _≡_ {A = Handed} (r, (now (steps .exit), now (outs .exit))) (listOutcome n (now (steps .entry)) (now (outs .entry))) ⌝ }
+    ensures { λ r. ⌜ _≡_ {A = HandedList} (r, (now (steps .exit), now (outs .exit))) (listOutcome n (now (steps .entry)) (now (outs .entry))) ⌝ }
 {
     if n == 4 {
         let s = steps_4();

@@ -20,8 +20,8 @@ use Rattle.algebra.specs.Lists.{at, tabulate}
 use Rattle.algebra.proofs.Lists.{tabulated}
 use Rattle.algebra.proofs.Table.{eqZ-no}
 use Rattle.steps.specs.Steps.{Step, add, sub, neg, mul, State, Run, refused, ran, andThen, muls, step, run, outputs}
-use Rattle.steps.specs.Outcome.{fits32, numbers}
-use Rattle.steps.specs.Numbers.{cellOf, stepOf, decode}
+use Rattle.steps.specs.Outcome.{fits32, wholeNumbers}
+use Rattle.steps.specs.Numbers.{cellOf, stepFrom, decode}
 use Rattle.step_run.specs.Parts.{stepAt, readsTwo, combined, state, tell, outsRefusal, readings}
 
 -- ---- signed tests
@@ -66,12 +66,12 @@ stepped n v w t a b z c =
     cond (ltb t n && (ltb a n && ltb b n)) (cond (getD w a false && getD w b false) (cond (fits32 z) (ran (state (set v t z) (set w t true) c)) (refused 29)) (refused 17)) (refused 28)
 
 pub step-parts : (o : ℤ) (t a : ℕ) (d : ℤ) (n : ℕ) (v : List ℤ) (w : List Bool) (c : ℕ)
-    → step numbers n (state v w c) (stepOf o t a d)
-    ≡ stepped n v w t a (cond (readsTwo o) (cellOf d) a) (combined o (at v a) (cond (readsTwo o) (at v (cond (readsTwo o) (cellOf d) a)) d)) (c + muls (stepOf o t a d))
+    → step wholeNumbers n (state v w c) (stepFrom o t a d)
+    ≡ stepped n v w t a (cond (readsTwo o) (cellOf d) a) (combined o (at v a) (cond (readsTwo o) (at v (cond (readsTwo o) (cellOf d) a)) d)) (c + muls (stepFrom o t a d))
 step-parts o t a d n v w c = go (eqZ o (pos 0)) (eqZ o (pos 1)) (eqZ o (pos 2))
   where
     go : (x y z : Bool)
-        → step numbers n (state v w c) (cond x (add t a (cellOf d)) (cond y (sub t a (cellOf d)) (cond z (neg t a) (mul t a d))))
+        → step wholeNumbers n (state v w c) (cond x (add t a (cellOf d)) (cond y (sub t a (cellOf d)) (cond z (neg t a) (mul t a d))))
         ≡ stepped n v w t a (cond (x || y) (cellOf d) a)
         (cond x (at v a +ℤ cond (x || y) (at v (cond (x || y) (cellOf d) a)) d)
         (cond y (at v a -ℤ cond (x || y) (at v (cond (x || y) (cellOf d) a)) d) (cond z (negℤ (at v a)) (cond (x || y) (at v (cond (x || y) (cellOf d) a)) d *ℤ at v a))))
@@ -121,32 +121,32 @@ decode-end (o ∷ t ∷ a ∷ d ∷ s) h = absurd (omega arith)
 
 -- ---- the loop: the step at place i is refused, or is taken, or there is none left
 module _ (n : ℕ) (s : List ℤ) (i : ℕ) (st : State ℤ) where
-  ahead : i + 4 ≤ length s → run numbers n (decode (drop i s)) st ≡ andThen (step numbers n st (stepAt s i)) (λ t. run numbers n (decode (drop (i + 4) s)) t)
+  ahead : i + 4 ≤ length s → run wholeNumbers n (decode (drop i s)) st ≡ andThen (step wholeNumbers n st (stepAt s i)) (λ t. run wholeNumbers n (decode (drop (i + 4) s)) t)
   unfolding run
-  ahead h = ap (λ (es : List Step). run numbers n es st) (decode-next s i h)
+  ahead h = ap (λ (es : List Step). run wholeNumbers n es st) (decode-next s i h)
 
-  pub stops : (r : ℕ) (x y : State ℤ) → i + 4 ≤ length s → (r ≡ 0 → ⊥) → tell r x ≡ step numbers n st (stepAt s i) → tell r y ≡ run numbers n (decode (drop i s)) st
+  pub stops : (r : ℕ) (x y : State ℤ) → i + 4 ≤ length s → (r ≡ 0 → ⊥) → tell r x ≡ step wholeNumbers n st (stepAt s i) → tell r y ≡ run wholeNumbers n (decode (drop i s)) st
   stops zero x y h z e = absurd (z refl)
-  stops (suc k) x y h z e = ap (λ (q : Run (State ℤ)). andThen q (λ t. run numbers n (decode (drop (i + 4) s)) t)) e ∙ sym (ahead h)
+  stops (suc k) x y h z e = ap (λ (q : Run (State ℤ)). andThen q (λ t. run wholeNumbers n (decode (drop (i + 4) s)) t)) e ∙ sym (ahead h)
 
-  pub goes-on : (r : ℕ) (x : State ℤ) → i + 4 ≤ length s → r ≡ 0 → tell r x ≡ step numbers n st (stepAt s i) → run numbers n (decode (drop (i + 4) s)) x ≡ run numbers n (decode (drop i s)) st
-  goes-on zero x h z e = ap (λ (q : Run (State ℤ)). andThen q (λ t. run numbers n (decode (drop (i + 4) s)) t)) e ∙ sym (ahead h)
+  pub goes-on : (r : ℕ) (x : State ℤ) → i + 4 ≤ length s → r ≡ 0 → tell r x ≡ step wholeNumbers n st (stepAt s i) → run wholeNumbers n (decode (drop (i + 4) s)) x ≡ run wholeNumbers n (decode (drop i s)) st
+  goes-on zero x h z e = ap (λ (q : Run (State ℤ)). andThen q (λ t. run wholeNumbers n (decode (drop (i + 4) s)) t)) e ∙ sym (ahead h)
   goes-on (suc k) x h z e = absurd (omega arith)
 
-  pub ends : length s < i + 4 → ran st ≡ run numbers n (decode (drop i s)) st
+  pub ends : length s < i + 4 → ran st ≡ run wholeNumbers n (decode (drop i s)) st
   unfolding run
-  ends h = sym (ap (λ (es : List Step). run numbers n es st) (decode-end (drop i s) (omega (arith, length-drop i s))))
+  ends h = sym (ap (λ (es : List Step). run wholeNumbers n es st) (decode-end (drop i s) (omega (arith, length-drop i s))))
 
   -- the same, with the count as the code has it
   pub goes-counted : (r : ℕ) (v : List ℤ) (w : List Bool) (c m : ℕ) → i + 4 ≤ length s → r ≡ 0 → m ≡ muls (stepAt s i)
-      → tell r (state v w (c + muls (stepAt s i))) ≡ step numbers n st (stepAt s i) → run numbers n (decode (drop (i + 4) s)) (state v w (c + m)) ≡ run numbers n (decode (drop i s)) st
+      → tell r (state v w (c + muls (stepAt s i))) ≡ step wholeNumbers n st (stepAt s i) → run wholeNumbers n (decode (drop (i + 4) s)) (state v w (c + m)) ≡ run wholeNumbers n (decode (drop i s)) st
   goes-counted r v w c m h z q e =
-      ap (λ (k : ℕ). run numbers n (decode (drop (i + 4) s)) (state v w (c + k))) q ∙ goes-on r (state v w (c + muls (stepAt s i))) h z e
+      ap (λ (k : ℕ). run wholeNumbers n (decode (drop (i + 4) s)) (state v w (c + k))) q ∙ goes-on r (state v w (c + muls (stepAt s i))) h z e
 
 -- a step that is written in two ways
-pub step-moved : (n : ℕ) (v v′ : List ℤ) (w w′ : List Bool) (r : ℕ) (e f : Step) → e ≡ f → ((k : ℕ) → tell r (state v′ w′ (k + muls e)) ≡ step numbers n (state v w k) e)
-    → (k : ℕ) → tell r (state v′ w′ (k + muls f)) ≡ step numbers n (state v w k) f
-step-moved n v v′ w w′ r e f p h k = subst (λ (g : Step). tell r (state v′ w′ (k + muls g)) ≡ step numbers n (state v w k) g) p (h k)
+pub step-moved : (n : ℕ) (v v′ : List ℤ) (w w′ : List Bool) (r : ℕ) (e f : Step) → e ≡ f → ((k : ℕ) → tell r (state v′ w′ (k + muls e)) ≡ step wholeNumbers n (state v w k) e)
+    → (k : ℕ) → tell r (state v′ w′ (k + muls f)) ≡ step wholeNumbers n (state v w k) f
+step-moved n v v′ w w′ r e f p h k = subst (λ (g : Step). tell r (state v′ w′ (k + muls g)) ≡ step wholeNumbers n (state v w k) g) p (h k)
 
 -- ---- the output cells
 pub unread-next : (n : ℕ) (w : List Bool) (os : List ℤ) (i : ℕ) → i < length os
@@ -158,10 +158,10 @@ pub unread-end : (n : ℕ) (w : List Bool) (os : List ℤ) (i : ℕ) → length 
 unfolding outsRefusal
 unread-end n w os i h = ap (outsRefusal n w) (drop-of-length-le os h)
 
-pub read-outs : (n : ℕ) (v : List ℤ) (w : List Bool) (c : ℕ) (os : List ℤ) → tell (outsRefusal n w os) (readings v os) ≡ outputs numbers n (map cellOf os) (state v w c)
+pub read-outs : (n : ℕ) (v : List ℤ) (w : List Bool) (c : ℕ) (os : List ℤ) → tell (outsRefusal n w os) (readings v os) ≡ outputs wholeNumbers n (map cellOf os) (state v w c)
 unfolding outsRefusal readings outputs
 read-outs n v w c [] = refl
-read-outs n v w c (o ∷ os) = go (ltb (cellOf o) n) (getD w (cellOf o) false) (outsRefusal n w os) (outputs numbers n (map cellOf os) (state v w c)) (read-outs n v w c os)
+read-outs n v w c (o ∷ os) = go (ltb (cellOf o) n) (getD w (cellOf o) false) (outsRefusal n w os) (outputs wholeNumbers n (map cellOf os) (state v w c)) (read-outs n v w c os)
   where
     go : (x y : Bool) (r : ℕ) (q : Run (List ℤ)) → tell r (readings v os) ≡ q
         → tell (cond x (cond y r 17) 28) (at v (cellOf o) ∷ readings v os) ≡ cond x (cond y (andThen q (λ l. ran (at v (cellOf o) ∷ l))) (refused 17)) (refused 28)

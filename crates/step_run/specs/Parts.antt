@@ -8,7 +8,7 @@ use lib.IntN.{ℤ, pos, negℤ, _+ℤ_, _-ℤ_, _*ℤ_}
 use Rattle.algebra.specs.Equal.{eqZ}
 use Rattle.algebra.specs.Lists.{at}
 use Rattle.steps.specs.Steps.{Step, State, Run, refused, ran}
-use Rattle.steps.specs.Numbers.{cellOf, stepOf}
+use Rattle.steps.specs.Numbers.{cellOf, stepFrom}
 
 abbrev pub readsTwo : ℤ → Bool
 readsTwo o = eqZ o (pos 0) || eqZ o (pos 1)
@@ -19,7 +19,7 @@ combined o x y = cond (eqZ o (pos 0)) (x +ℤ y) (cond (eqZ o (pos 1)) (x -ℤ y
 
 -- the step that starts at place i
 abbrev pub stepAt : List ℤ → ℕ → Step
-stepAt s i = stepOf (at s i) (cellOf (at s (i + 1))) (cellOf (at s (i + 2))) (at s (i + 3))
+stepAt s i = stepFrom (at s i) (cellOf (at s (i + 1))) (cellOf (at s (i + 2))) (at s (i + 3))
 
 abbrev pub state : List ℤ → List Bool → ℕ → State ℤ
 state v w c = record { values = v; written = w; count = c }

@@ -12,7 +12,7 @@ ghost use Rattle.algebra.specs.Lists.{at};
 ghost use Rattle.algebra.specs.Refusals.{numberOf};
 ghost use Rattle.steps.specs.Steps.{run, finished, whole};
 ghost use Rattle.steps.specs.Numbers.{cellOf, decode, listOf};
-ghost use Rattle.steps.specs.Outcome.{Result, numbers, listTests, given, runOutcome};
+ghost use Rattle.steps.specs.Outcome.{Result, wholeNumbers, listTests, given, stepsOutcome};
 ghost use Rattle.step_run.specs.Parts.{state, tell, outsRefusal, readings};
 
 // 18, 6, 7 and 28 of a list, before any step, or 0.
@@ -60,7 +60,7 @@ fn load(x: &[i16], values: &mut [i32], written: &mut [bool])
 // Every step, to the first that is refused.
 fn follow(steps: &[i32], n: usize, values: &mut [i32], written: &mut [bool]) -> Taken
     requires { ⌜ (length (now steps) < 8196) × ((n ≤ length (now values)) × (n ≤ length (now written))) ⌝ }
-    ensures { λ r. ⌜ tell (r .number) (state (now (values .exit)) (now (written .exit)) (r .count)) ≡ run numbers n (decode (now (steps .entry))) (state (now (values .entry)) (now (written .entry)) 0) ⌝ }
+    ensures { λ r. ⌜ tell (r .number) (state (now (values .exit)) (now (written .exit)) (r .count)) ≡ run wholeNumbers n (decode (now (steps .entry))) (state (now (values .entry)) (now (written .entry)) 0) ⌝ }
 {
     let mut count: u32 = 0;
     let mut i = 0;
@@ -127,7 +127,7 @@ fn finish(
     y: &mut [i32],
 ) -> Taken
     requires { ⌜ (n ≤ length (now written)) × (length (now y) ≡ length (now outs)) ⌝ }
-    ensures { λ r. ⌜ _≡_ {A = Result} (r, now (y .exit)) (given (now (y .entry)) (finished numbers n (map cellOf (now (outs .entry))) (state (now (values .entry)) (now (written .entry)) count))) ⌝ }
+    ensures { λ r. ⌜ _≡_ {A = Result} (r, now (y .exit)) (given (now (y .entry)) (finished wholeNumbers n (map cellOf (now (outs .entry))) (state (now (values .entry)) (now (written .entry)) count))) ⌝ }
 {
     let number = unread(outs, n, written);
     if number != 0 {
@@ -140,7 +140,7 @@ fn finish(
 // A list that is not refused before its first step.
 fn accepted(n: usize, steps: &[i32], outs: &[i32], x: &[i16], y: &mut [i32]) -> Taken
     requires { ⌜ ((length (now steps) < 8196) × (n ≤ 2048)) × ((length (now x) ≤ n) × (length (now y) ≡ length (now outs))) ⌝ }
-    ensures { λ r. ⌜ _≡_ {A = Result} (r, now (y .exit)) (given (now (y .entry)) (whole numbers (listOf (length (now (x .entry))) n (now (steps .entry)) (now (outs .entry))) (now (x .entry)))) ⌝ }
+    ensures { λ r. ⌜ _≡_ {A = Result} (r, now (y .exit)) (given (now (y .entry)) (whole wholeNumbers (listOf (length (now (x .entry))) n (now (steps .entry)) (now (outs .entry))) (now (x .entry)))) ⌝ }
 {
     let mut values: [i32; 2048] = [0; 2048];
     let mut written: [bool; 2048] = [false; 2048];
@@ -156,7 +156,7 @@ fn accepted(n: usize, steps: &[i32], outs: &[i32], x: &[i16], y: &mut [i32]) -> 
 
 /// Runs a list of steps: four numbers to a step in `steps`, the output cells in `outs`.
 pub fn run(inputs: u32, cells: u32, steps: &[i32], outs: &[i32], x: &[i16], y: &mut [i32]) -> Taken
-    ensures { λ r. ⌜ _≡_ {A = Result} (r, now (y .exit)) (runOutcome (listOf inputs cells (now (steps .entry)) (now (outs .entry))) (now (x .entry)) (now (y .entry))) ⌝ }
+    ensures { λ r. ⌜ _≡_ {A = Result} (r, now (y .exit)) (stepsOutcome (listOf inputs cells (now (steps .entry)) (now (outs .entry))) (now (x .entry)) (now (y .entry))) ⌝ }
 {
     let number = refusal(
         steps.len() / 4,

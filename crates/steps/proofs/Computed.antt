@@ -9,7 +9,7 @@ use Rattle.algebra.specs.Lists.{at}
 use Rattle.meaning.specs.Line.{forwardLine, forwardSum}
 use Rattle.meaning.specs.Weights.{S, fold, first, weight}
 use Rattle.steps.specs.Steps.{Step, StepList, run, start, outputs, products}
-use Rattle.steps.specs.Outcome.{numbers, runOutcome, Sixteen}
+use Rattle.steps.specs.Outcome.{wholeNumbers, stepsOutcome, Sixteen}
 use Rattle.steps.proofs.Forms.{gives, rowsAre}
 use Rattle.steps.specs.Lists.{list4, steps4, list16, steps16, list32, steps32}
 use Rattle.steps.proofs.Inside.{Ran, Fit}
@@ -48,8 +48,8 @@ is-line n xs = refl
 -- what is shown of the list p of n points: on every 16-bit input a run is accepted, is the forward line, takes the multiplying steps in the
 -- list, and has every cell inside 32 bits after each of its steps
 pub record Right (n : ℕ) (p : StepList) : Type 0 where
-  pub runs : (xs out : List ℤ) → length xs ≡ n → length out ≡ n → Sixteen xs → runOutcome p xs out ≡ (record { number = 0; count = products (p .steps) }, forwardLine 1 n (at xs))
-  pub within : (xs : List ℤ) → length xs ≡ n → Sixteen xs → (es fs : List Step) → p .steps ≡ es ++ fs → Ran (Fit numbers (p .cells)) (run numbers (p .cells) es (start numbers xs))
+  pub runs : (xs out : List ℤ) → length xs ≡ n → length out ≡ n → Sixteen xs → stepsOutcome p xs out ≡ (record { number = 0; count = products (p .steps) }, forwardLine 1 n (at xs))
+  pub within : (xs : List ℤ) → length xs ≡ n → Sixteen xs → (es fs : List Step) → p .steps ≡ es ++ fs → Ran (Fit wholeNumbers (p .cells)) (run wholeNumbers (p .cells) es (start wholeNumbers xs))
 
 right : (n : ℕ) (p : StepList) → T (gives (S n) n p) → Right n p
 right n p t =

@@ -6,7 +6,7 @@ use Prim.Native.Nat.{ℕ, zero, suc, _+_, _-_}
 use lib.Dec.{T, ltb}
 use lib.IntN.{ℤ}
 use lib.ListN.{length, getD, set, replicate}
-use Rattle.steps.specs.Steps.{Step, add, sub, neg, mul, StepList, Carrier, State, Done, Run, refused, ran, andThen, target, inside, known, result, wrote, step, run, outputs, start, finished, whole, most}
+use Rattle.steps.specs.Steps.{Step, add, sub, neg, mul, StepList, Carrier, State, Done, Run, refused, ran, andThen, target, inside, known, result, wrote, step, run, outputs, start, finished, whole, limit}
 
 module _ {A B : Type 0} (K : Carrier A) (L : Carrier B) (R : A → B → Type 0) where
   -- the operations keep the relation, and what fits over K fits over L
@@ -115,8 +115,8 @@ module _ {A B : Type 0} (K : Carrier A) (L : Carrier B) (R : A → B → Type 0)
     start-like : {u : List A} {v : List B} → Alike u v → Like (start K u) (start L v)
     start-like {u} {v} p =
         record {
-          alike = rw (alike-length p) (alike-more p (most - length v));
-          written = ap (λ n. replicate n true ++ replicate (most - n) false) (alike-length p);
+          alike = rw (alike-length p) (alike-more p (limit - length v));
+          written = ap (λ n. replicate n true ++ replicate (limit - n) false) (alike-length p);
         }
 
     -- the theorem: a list that is not refused over K is not refused over L, and its outputs are related

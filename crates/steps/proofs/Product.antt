@@ -19,8 +19,8 @@ use Rattle.algebra.proofs.Order.{mag-abs}
 use Rattle.algebra.proofs.Sum.{sum-cong}
 use Rattle.algebra.proofs.Lists.{tabulated, zeros-at}
 use Rattle.algebra.proofs.Table.{and-left, and-right, eqZ→eq, allTo, allTo-at}
-use Rattle.steps.specs.Steps.{Step, StepList, Done, Run, refused, ran, products, run, start, finished, whole, most}
-use Rattle.steps.specs.Outcome.{Result, numbers, untouched, listTests, given, runOutcome, fits32, Sixteen}
+use Rattle.steps.specs.Steps.{Step, StepList, Done, Run, refused, ran, products, run, start, finished, whole, limit}
+use Rattle.steps.specs.Outcome.{Result, wholeNumbers, untouched, listTests, given, stepsOutcome, fits32, Sixteen}
 use Rattle.steps.proofs.Forms.{Form, forms, bound, sizes, units, worth, rowsAre, isProduct, gives}
 use Rattle.steps.proofs.Worth.{worth-plus, worth-less, worth-times, worth-size, worth-sum, worth-unit}
 use Rattle.steps.proofs.Follow.{Keeps, Alike, nil, cons, Same, Follows, alike-length, alike-at, whole-like}
@@ -38,7 +38,7 @@ module _ (xs : List ℤ) (small : Sixteen xs) where
       let q : sizes u < bound = ltb→lt (sizes u) bound t in
       subst (λ (y : ℤ). T (fits32 y)) e (lt→ltb (mag (worth u xs)) 2147483648 (omega (arith, mag-abs (worth u xs))))
 
-  keeps : Keeps forms numbers Worth
+  keeps : Keeps forms wholeNumbers Worth
   keeps =
       record {
         none = refl;
@@ -49,13 +49,13 @@ module _ (xs : List ℤ) (small : Sixteen xs) where
         fits = λ {a} {b} p t. fits a b p t;
       }
 
-  units-are : (i : ℕ) (ys : List ℤ) → ((k : ℕ) → at xs (i + k) ≡ at ys k) → Alike forms numbers Worth (units i (length ys)) ys
+  units-are : (i : ℕ) (ys : List ℤ) → ((k : ℕ) → at xs (i + k) ≡ at ys k) → Alike forms wholeNumbers Worth (units i (length ys)) ys
   units-are i [] e = nil
   units-are i (y ∷ ys) e = cons (worth-unit i xs ∙ ap (at xs) (sym (add-zero i)) ∙ e 0) (units-are (suc i) ys (λ k. ap (at xs) (suc-add i k ∙ sym (add-suc i k)) ∙ e (suc k)))
 
   -- THE GENERAL THEOREM: a list that followed by forms is not refused is not refused on these inputs, and each output is what its form is worth
-  pub worth-run : (p : StepList) → Follows forms numbers Worth (Same forms numbers Worth) (whole forms p (units 0 (length xs))) (whole numbers p xs)
-  worth-run p = whole-like forms numbers Worth keeps p (units-are 0 xs (λ k. ap (at xs) (zero-add k)))
+  pub worth-run : (p : StepList) → Follows forms wholeNumbers Worth (Same forms wholeNumbers Worth) (whole forms p (units 0 (length xs))) (whole wholeNumbers p xs)
+  worth-run p = whole-like forms wholeNumbers Worth keeps p (units-are 0 xs (λ k. ap (at xs) (zero-add k)))
 
 -- ---- rows that the test compared
 rows-at : (W : ℕ → ℕ → ℤ) (n i : ℕ) (us : List Form) → T (rowsAre W n i us) → (k : ℕ) → k < length us → (j : ℕ) → j < n → at (getD us k []) j ≡ W (i + k) j
@@ -69,8 +69,8 @@ rows-at W n i (u ∷ us) t (suc k) h j l =
     ∙ ap (λ (m : ℕ). W m j) (suc-add i k ∙ sym (add-suc i k))
 
 -- the cells that a run starts from fit
-started : (xs : List ℤ) → Sixteen xs → (k : ℕ) → T (fits32 (at (start numbers xs .values) k))
-started xs h = behind (most - length xs) xs h
+started : (xs : List ℤ) → Sixteen xs → (k : ℕ) → T (fits32 (at (start wholeNumbers xs .values) k))
+started xs h = behind (limit - length xs) xs h
   where
     zeros : (m k : ℕ) → T (fits32 (at (replicate m (pos 0)) k))
     zeros m k = subst (λ (z : ℤ). T (fits32 z)) (sym (zeros-at m k)) tt
@@ -85,20 +85,20 @@ abbrev pub product : (ℕ → ℕ → ℤ) → ℕ → List ℤ → List ℤ
 product W n xs = tabulate n (λ i. sum n (λ j. W i j *ℤ at xs j))
 
 module _ (W : ℕ → ℕ → ℤ) (n : ℕ) (p : StepList) (xs out : List ℤ) (long : length xs ≡ n) (room : length out ≡ n) (small : Sixteen xs) where
-  outs-are : (us : List Form) (zs : List ℤ) → T (eqb (length us) n && rowsAre W n 0 us) → Alike forms numbers (λ u z. worth u xs ≡ z) us zs → zs ≡ product W n xs
+  outs-are : (us : List Form) (zs : List ℤ) → T (eqb (length us) n && rowsAre W n 0 us) → Alike forms wholeNumbers (λ u z. worth u xs ≡ z) us zs → zs ≡ product W n xs
   outs-are us zs t a =
       let e : length us ≡ n = eqb→eq (length us) n (and-left (eqb (length us) n) (rowsAre W n 0 us) t) in
       let r = and-right (eqb (length us) n) (rowsAre W n 0 us) t in
-      tabulated n zs (λ i. sum n (λ j. W i j *ℤ at xs j)) (sym (alike-length forms numbers (λ u z. worth u xs ≡ z) (keeps xs small) a) ∙ e)
+      tabulated n zs (λ i. sum n (λ j. W i j *ℤ at xs j)) (sym (alike-length forms wholeNumbers (λ u z. worth u xs ≡ z) (keeps xs small) a) ∙ e)
       (λ k h.
-      sym (alike-at forms numbers (λ u z. worth u xs ≡ z) (keeps xs small) a k)
+      sym (alike-at forms wholeNumbers (λ u z. worth u xs ≡ z) (keeps xs small) a k)
       ∙ worth-sum (getD us k []) xs
       ∙ ap (λ (m : ℕ). sum m (λ j. at (getD us k []) j *ℤ at xs j)) long
       ∙ sum-cong n (λ j. at (getD us k []) j *ℤ at xs j) (λ j. W k j *ℤ at xs j)
       (λ j l. ap (λ (z : ℤ). z *ℤ at xs j) (rows-at W n 0 us r k (subst (λ (m : ℕ). k < m) (sym e) h) j l ∙ ap (λ (m : ℕ). W m j) (zero-add k))))
 
   -- the run by forms goes through, so the run by numbers does, and ends on the rows
-  finish : (r : Run (Done Form)) (s : Run (Done ℤ)) → T (isProduct W n r) → Follows forms numbers (λ u z. worth u xs ≡ z) (Same forms numbers (λ u z. worth u xs ≡ z)) r s
+  finish : (r : Run (Done Form)) (s : Run (Done ℤ)) → T (isProduct W n r) → Follows forms wholeNumbers (λ u z. worth u xs ≡ z) (Same forms wholeNumbers (λ u z. worth u xs ≡ z)) r s
       → Holds (λ d. d .took ≡ products (p .steps)) s → Ran (λ d. given out (ran d) ≡ (record { number = 0; count = products (p .steps) }, product W n xs)) s
   finish (refused k) s t f c = absurd t
   finish (ran d) (refused k) t f c = absurd f
@@ -108,32 +108,32 @@ module _ (W : ℕ → ℕ → ℤ) (n : ℕ) (p : StepList) (xs out : List ℤ) 
     abbrev tests : ℕ → ℕ → List Refusal
     tests input output = listTests (length (p .steps)) (p .cells) (p .inputs) (length (p .outs)) input output
 
-    runs : Ran (λ d. given out (ran d) ≡ (record { number = 0; count = products (p .steps) }, product W n xs)) (whole numbers p xs)
+    runs : Ran (λ d. given out (ran d) ≡ (record { number = 0; count = products (p .steps) }, product W n xs)) (whole wholeNumbers p xs)
     unfolding gives
     runs =
-        finish (whole forms p (units 0 n)) (whole numbers p xs) (and-right (eqb (numberOf (tests n n)) 0) (isProduct W n (whole forms p (units 0 n))) passes)
-        (subst (λ (m : ℕ). Follows forms numbers (λ u z. worth u xs ≡ z) (Same forms numbers (λ u z. worth u xs ≡ z)) (whole forms p (units 0 m)) (whole numbers p xs)) long (worth-run xs small p))
-        (whole-count numbers p xs)
+        finish (whole forms p (units 0 n)) (whole wholeNumbers p xs) (and-right (eqb (numberOf (tests n n)) 0) (isProduct W n (whole forms p (units 0 n))) passes)
+        (subst (λ (m : ℕ). Follows forms wholeNumbers (λ u z. worth u xs ≡ z) (Same forms wholeNumbers (λ u z. worth u xs ≡ z)) (whole forms p (units 0 m)) (whole wholeNumbers p xs)) long (worth-run xs small p))
+        (whole-count wholeNumbers p xs)
 
     not-refused : numberOf (tests (length xs) (length out)) ≡ 0
     unfolding gives
     not-refused = rw (long, room) (eqb→eq (numberOf (tests n n)) 0 (and-left (eqb (numberOf (tests n n)) 0) (isProduct W n (whole forms p (units 0 n))) passes))
 
     -- "a run equals the full product on every 16-bit input", and its count is the number in the list
-    pub gives-product : runOutcome p xs out ≡ (record { number = 0; count = products (p .steps) }, product W n xs)
-    unfolding runOutcome
+    pub gives-product : stepsOutcome p xs out ≡ (record { number = 0; count = products (p .steps) }, product W n xs)
+    unfolding stepsOutcome
     gives-product =
-        passed-first [] (λ number place. untouched out number) (given out (whole numbers p xs)) (tests (length xs) (length out)) tt not-refused
-        ∙ ended (whole numbers p xs) runs
+        passed-first [] (λ number place. untouched out number) (given out (whole wholeNumbers p xs)) (tests (length xs) (length out)) tt not-refused
+        ∙ ended (whole wholeNumbers p xs) runs
       where
         ended : (r : Run (Done ℤ)) {o : Result} → Ran (λ d. given out (ran d) ≡ o) r → given out r ≡ o
         ended (refused k) h = absurd h
         ended (ran d) h = h
 
     -- "with every cell inside 32 bits": after each of the steps, es being those that were taken
-    pub gives-inside : (es fs : List Step) → p .steps ≡ es ++ fs → Ran (Fit numbers (p .cells)) (run numbers (p .cells) es (start numbers xs))
+    pub gives-inside : (es fs : List Step) → p .steps ≡ es ++ fs → Ran (Fit wholeNumbers (p .cells)) (run wholeNumbers (p .cells) es (start wholeNumbers xs))
     gives-inside es fs e =
-        each-moment numbers (p .cells) es fs (start numbers xs) (record { fit = started xs small })
-        (subst (λ (ss : List Step). Ran (λ t. Unit {0}) (run numbers (p .cells) ss (start numbers xs))) e
+        each-moment wholeNumbers (p .cells) es fs (start wholeNumbers xs) (record { fit = started xs small })
+        (subst (λ (ss : List Step). Ran (λ t. Unit {0}) (run wholeNumbers (p .cells) ss (start wholeNumbers xs))) e
         (ran-first (λ t. Unit {0}) (λ d. given out (ran d) ≡ (record { number = 0; count = products (p .steps) }, product W n xs))
-        (run numbers (p .cells) (p .steps) (start numbers xs)) (λ st. finished numbers (p .cells) (p .outs) st) (any (run numbers (p .cells) (p .steps) (start numbers xs))) runs))
+        (run wholeNumbers (p .cells) (p .steps) (start wholeNumbers xs)) (λ st. finished wholeNumbers (p .cells) (p .outs) st) (any (run wholeNumbers (p .cells) (p .steps) (start wholeNumbers xs))) runs))

@@ -4,8 +4,8 @@ use mathlib.Core.List.{List}
 use lib.IntN.{ℤ}
 use Rattle.algebra.proofs.Unique.{one}
 use Rattle.steps.specs.Steps.{StepList}
-use Rattle.steps.specs.Outcome.{Result, runOutcome}
+use Rattle.steps.specs.Outcome.{Result, stepsOutcome}
 
 -- `run`
-pub run-one : (p : StepList) (xs out : List ℤ) {r s : Result} → r ≡ runOutcome p xs out → s ≡ runOutcome p xs out → r ≡ s
+pub run-one : (p : StepList) (xs out : List ℤ) {r s : Result} → r ≡ stepsOutcome p xs out → s ≡ stepsOutcome p xs out → r ≡ s
 run-one p xs out = one

@@ -5,16 +5,16 @@ use mathlib.Core.List.{List, [], _∷_, map}
 use Prim.Native.Nat.{ℕ}
 use lib.IntN.{ℤ, pos, negsuc}
 use Rattle.algebra.specs.Equal.{eqZ}
-use Rattle.steps.specs.Steps.{Step, add, sub, neg, mul, StepList, most}
+use Rattle.steps.specs.Steps.{Step, add, sub, neg, mul, StepList, limit}
 
 -- a negative number names no cell
 abbrev pub cellOf : ℤ → ℕ
 cellOf (pos k) = k
-cellOf (negsuc k) = most
+cellOf (negsuc k) = limit
 
 -- 0 adds, 1 subtracts, 2 negates, any other operation multiplies
-abbrev pub stepOf : ℤ → ℕ → ℕ → ℤ → Step
-stepOf o t a d =
+abbrev pub stepFrom : ℤ → ℕ → ℕ → ℤ → Step
+stepFrom o t a d =
     cond (eqZ o (pos 0)) (add t a (cellOf d)) (cond (eqZ o (pos 1)) (sub t a (cellOf d)) (cond (eqZ o (pos 2)) (neg t a) (mul t a d)))
 
 -- fewer than four numbers at the end are no step
@@ -23,7 +23,7 @@ decode [] = []
 decode (o ∷ []) = []
 decode (o ∷ t ∷ []) = []
 decode (o ∷ t ∷ a ∷ []) = []
-decode (o ∷ t ∷ a ∷ d ∷ s) = stepOf o (cellOf t) (cellOf a) d ∷ decode s
+decode (o ∷ t ∷ a ∷ d ∷ s) = stepFrom o (cellOf t) (cellOf a) d ∷ decode s
 
 abbrev pub listOf : ℕ → ℕ → List ℤ → List ℤ → StepList
 listOf inputs cells s outs = record { inputs = inputs; cells = cells; steps = decode s; outs = map cellOf outs }

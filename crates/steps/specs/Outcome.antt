@@ -10,14 +10,14 @@ use Rattle.algebra.specs.Lists.{at}
 use Rattle.algebra.specs.Refusals.{Refusal, firstOf}
 use Rattle.meaning.specs.Answer.{test}
 use Rattle.steps.specs.declared.Taken.{Taken}
-use Rattle.steps.specs.Steps.{StepList, Carrier, Done, Run, refused, ran, whole, most}
+use Rattle.steps.specs.Steps.{StepList, Carrier, Done, Run, refused, ran, whole, limit}
 
 -- "29 for a result outside 32 bits": `mag z` is n both for n and for -(n + 1)
 abbrev pub fits32 : ℤ → Bool
 fits32 z = ltb (mag z) (2 ^ 31)
 
-abbrev pub numbers : Carrier ℤ
-numbers = record { none = pos 0; plus = _+ℤ_; minus = _-ℤ_; less = negℤ; times = _*ℤ_; fits = fits32 }
+abbrev pub wholeNumbers : Carrier ℤ
+wholeNumbers = record { none = pos 0; plus = _+ℤ_; minus = _-ℤ_; less = negℤ; times = _*ℤ_; fits = fits32 }
 
 -- "every 16-bit input"
 abbrev pub Sixteen : List ℤ → Type 0
@@ -35,7 +35,7 @@ untouched out number = (record { number = number; count = 0 }, out)
 -- step"
 abbrev pub listTests : (steps cells inputs outs input output : ℕ) → List Refusal
 listTests steps cells inputs outs input output =
-    test (ltb most steps || ltb most cells) 18
+    test (ltb limit steps || ltb limit cells) 18
     ∷ test (not (eqb input inputs)) 6
     ∷ test (not (eqb output outs)) 7
     ∷ test (ltb cells inputs) 28
@@ -45,8 +45,8 @@ abbrev pub given : List ℤ → Run (Done ℤ) → Result
 given out (refused number) = untouched out number
 given out (ran d) = (record { number = 0; count = d .took }, d .outs)
 
-unfoldable pub runOutcome : StepList → List ℤ → List ℤ → Result
-runOutcome p xs out =
+unfoldable pub stepsOutcome : StepList → List ℤ → List ℤ → Result
+stepsOutcome p xs out =
     firstOf (listTests (length (p .steps)) (p .cells) (p .inputs) (length (p .outs)) (length xs) (length out))
     (λ number place. untouched out number)
-    (given out (whole numbers p xs))
+    (given out (whole wholeNumbers p xs))

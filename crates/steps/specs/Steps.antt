@@ -106,13 +106,13 @@ module _ {A : Type 0} (K : Carrier A) (n : ℕ) where
       (refused 17)) (refused 28)
 
 -- "18 for more than 2,048 steps or cells": no list uses a cell from here on
-abbrev pub most : ℕ
-most = 2048
+abbrev pub limit : ℕ
+limit = 2048
 
 -- "The inputs stand in the first cells"; the others hold nothing yet
 abbrev pub start : {A : Type 0} → Carrier A → List A → State A
 start K xs =
-    record { values = xs ++ replicate (most - length xs) (K .none); written = replicate (length xs) true ++ replicate (most - length xs) false; count = 0 }
+    record { values = xs ++ replicate (limit - length xs) (K .none); written = replicate (length xs) true ++ replicate (limit - length xs) false; count = 0 }
 
 -- the outputs, and how many multiplying steps were taken
 pub record Done (A : Type 0) : Type 0 where

@@ -3,7 +3,7 @@ use borrow.Author.Needs.{needs}
 use borrow.Author.Tests.{eq-eqb, ne-eqb}
 use mathlib.Core.Path.{ap, _∙_}
 use Rattle.step_lists.specs.declared.Listed.{Listed}
-use Rattle.step_lists.specs.Listed.{Handed}
+use Rattle.step_lists.specs.Listed.{HandedList}
 use Rattle.step_lists.proofs.list.hand.Statement.{statement}
 use Rattle.step_lists.proofs.list.hand.Tie as tie
 
@@ -35,7 +35,7 @@ same-length-2 : tie.Need-same-length-2
 same-length-2 c = search needs
 
 returns-3 : tie.Need-returns-3
-returns-3 c = _∙_ {A = Handed} (λ i. (c .told3 .ensures i, (c .before .before .before .before .before .copy .ensures i, c .before .before .copy2 .ensures i))) (rw (eq-eqb _ _ (c .before .before .before .before .before .before .before .before .if1 .left), eq-eqb _ _ (c .before .before .before .before .before .before .before .if2 .left)))
+returns-3 c = _∙_ {A = HandedList} (λ i. (c .told3 .ensures i, (c .before .before .before .before .before .copy .ensures i, c .before .before .copy2 .ensures i))) (rw (eq-eqb _ _ (c .before .before .before .before .before .before .before .before .if1 .left), eq-eqb _ _ (c .before .before .before .before .before .before .before .if2 .left)))
 
 pub hand-spec : {M : Type 1} → statement M
 hand-spec =

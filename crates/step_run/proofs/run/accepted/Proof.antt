@@ -3,7 +3,7 @@ use borrow.Author.Needs.{needs}
 use mathlib.Core.Path.{_≡_, ap, _∙_}
 use Rattle.steps.specs.Steps.{run, start}
 use Rattle.steps.specs.Numbers.{decode}
-use Rattle.steps.specs.Outcome.{numbers}
+use Rattle.steps.specs.Outcome.{wholeNumbers}
 use Rattle.step_run.specs.Parts.{state, tell}
 use Rattle.step_run.proofs.Ends.{started, stopped, went-on}
 use Rattle.step_run.proofs.run.accepted.Statement.{statement}
@@ -29,11 +29,11 @@ follow-requires c κs = search needs
 
 -- the steps were followed from the cells that a run starts from
 followed : (c : tie.After-follow) → let s = c .before .before .before .before .before .before .before .before .args in
-    tell (c .follow .result .number) (state (c .follow .last .1 .1 .0) (c .follow .last .1 .1 .1 .0) (c .follow .result .count)) ≡ run numbers (s .n) (decode (s .steps .now)) (start numbers (s .x .now))
+    tell (c .follow .result .number) (state (c .follow .last .1 .1 .0) (c .follow .last .1 .1 .1 .0) (c .follow .result .count)) ≡ run wholeNumbers (s .n) (decode (s .steps .now)) (start wholeNumbers (s .x .now))
 followed c =
     let s = c .before .before .before .before .before .before .before .before .args in
     let l = c .before .before .before .before .before .load in
-    c .follow .ensures ∙ ap (λ t. run numbers (s .n) (decode (s .steps .now)) t) (started (s .x .now) (l .last .1 .0) (l .last .1 .1 .0) (l .ensures .0) (l .ensures .1))
+    c .follow .ensures ∙ ap (λ t. run wholeNumbers (s .n) (decode (s .steps .now)) t) (started (s .x .now) (l .last .1 .0) (l .last .1 .1 .0) (l .ensures .0) (l .ensures .1))
 
 returns : tie.Need-returns
 returns c =

@@ -2,7 +2,7 @@
 use Rattle.step_run.proofs.Laws.{stops, goes-counted, ends}
 use Rattle.steps.specs.Numbers.{decode}
 use Rattle.step_run.specs.Parts.{state}
-use Rattle.steps.specs.Outcome.{numbers}
+use Rattle.steps.specs.Outcome.{wholeNumbers}
 use Rattle.steps.specs.Steps.{run}
 use lib.ListN.{length, drop}
 use Prim.Native.Nat.{_-_, _≤_}
@@ -14,7 +14,7 @@ use Rattle.step_run.proofs.run.follow.Tie as tie
 
 abbrev Inv-loop : tie.InvT-loop
 Inv-loop s n v₀ w₀ c₀ i₀ v w c i =
-    (i ≤ length s) × ((c ≤ i) × ((length v ≡ length v₀) × ((length w ≡ length w₀) × (run numbers n (decode (drop i s)) (state v w c) ≡ run numbers n (decode s) (state v₀ w₀ 0)))))
+    (i ≤ length s) × ((c ≤ i) × ((length v ≡ length v₀) × ((length w ≡ length w₀) × (run wholeNumbers n (decode (drop i s)) (state v w c) ≡ run wholeNumbers n (decode s) (state v₀ w₀ 0)))))
 
 abbrev μ-loop : tie.MeasureT-loop
 μ-loop s n v₀ w₀ c₀ i₀ v w c i = length s - i

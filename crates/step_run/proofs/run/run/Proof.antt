@@ -9,7 +9,7 @@ use Rattle.algebra.specs.Refusals.{Refusal, numberOf}
 use Rattle.algebra.proofs.Refusals.{refused-first, passed-first}
 use Rattle.steps.specs.Steps.{StepList, whole}
 use Rattle.steps.specs.Numbers.{listOf}
-use Rattle.steps.specs.Outcome.{Result, untouched, listTests, given, numbers, runOutcome}
+use Rattle.steps.specs.Outcome.{Result, untouched, listTests, given, wholeNumbers, stepsOutcome}
 use Rattle.step_run.proofs.Ends.{tests-are, passed}
 use Rattle.step_run.proofs.run.run.Statement.{statement}
 use Rattle.step_run.proofs.run.run.Tie as tie
@@ -21,7 +21,7 @@ abbrev tests : tie.Start → List Refusal
 tests s = listTests (length (list s .steps)) (s .args .cells) (s .args .inputs) (length (list s .outs)) (length (s .args .x .now)) (length (s .args .y .now))
 
 abbrev done : tie.Start → Result
-done s = given (s .args .y .now) (whole numbers (list s) (s .args .x .now))
+done s = given (s .args .y .now) (whole wholeNumbers (list s) (s .args .x .now))
 
 refusal-requires : tie.Need-refusal-requires
 refusal-requires c κs = search needs
@@ -33,7 +33,7 @@ number-is c =
     c .refusal .ensures ∙ ap numberOf (tests-are (s .inputs) (s .cells) (s .steps .now) (s .outs .now) (length (s .x .now)) (length (s .y .now)))
 
 returns : tie.Need-returns
-unfolding runOutcome
+unfolding stepsOutcome
 returns c =
     let s = c .before .before in
     ap (untouched (s .args .y .now)) (number-is (c .before))
@@ -49,7 +49,7 @@ same-length : tie.Need-same-length
 same-length c = search needs
 
 returns-2 : tie.Need-returns-2
-unfolding runOutcome
+unfolding stepsOutcome
 returns-2 c =
     let p = c .before .before .before .before in
     let s = p .before in

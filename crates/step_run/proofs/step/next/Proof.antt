@@ -1,6 +1,6 @@
 -- `step::next`: the four numbers of a step. Assumes nothing.
 use Rattle.step_run.proofs.Laws.{step-moved}
-use Rattle.steps.specs.Numbers.{cellOf, stepOf}
+use Rattle.steps.specs.Numbers.{cellOf, stepFrom}
 use Rattle.step_run.specs.Parts.{stepAt}
 use Rattle.algebra.specs.Lists.{at}
 use mir.ValLaws.{toZ-ofZ}
@@ -67,7 +67,7 @@ returns c =
     let t = c .before .before .before .before .before .before .before .before .before .before .cell .ensures ∙ ap cellOf (toZ-ofZ w32 (at l (s .i + 1)) (record { sfits = c .before .before .before .before .before .before .before .before .before .before .before .cell-arg .given })) in
     let a = c .before .before .before .before .before .before .before .before .cell2 .ensures ∙ ap cellOf (toZ-ofZ w32 (at l (s .i + 2)) (record { sfits = c .before .before .before .before .before .before .before .before .before .cell-arg2 .given })) in
     let d = toZ-ofZ w32 (at l (s .i + 3)) (record { sfits = c .before .before .before .before .before .before .one-arg2 .given }) in
-    step-moved (s .n) (s .values .now) _ (s .written .now) _ (c .before .before .before .one .result) _ (stepAt l (s .i)) (λ j. stepOf (o j) (t j) (a j) (d j)) (c .before .before .before .one .ensures)
+    step-moved (s .n) (s .values .now) _ (s .written .now) _ (c .before .before .before .one .result) _ (stepAt l (s .i)) (λ j. stepFrom (o j) (t j) (a j) (d j)) (c .before .before .before .one .ensures)
 
 pub next-spec : {M : Type 1} → statement M
 next-spec =
