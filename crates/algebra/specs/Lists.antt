@@ -2,7 +2,7 @@
 -- list of n values, a block of h rows of w values, and rows joined.
 use mathlib.Core.List.{List, [], _∷_, _++_}
 use Prim.Native.Nat.{ℕ, zero, suc}
-use lib.ListN.{getD}
+use lib.ListN.{getD, length, drop}
 use lib.IntN.{ℤ, pos}
 
 -- what stands at place k, and 0 past the end
@@ -18,6 +18,10 @@ tabulate (suc n) f = tabulate n f ++ (f n ∷ [])
 unfoldable pub block : ℕ → ℕ → (ℕ → ℕ → ℤ) → List ℤ
 block w zero f = []
 block w (suc h) f = block w h f ++ tabulate w (λ x. f x h)
+
+-- what is written at the start of an area; what it held behind that stays
+abbrev pub over : {A : Type 0} → List A → List A → List A
+over l held = l ++ drop (length l) held
 
 -- rows, one after the other
 unfoldable pub flat : List (List ℤ) → List ℤ

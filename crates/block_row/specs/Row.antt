@@ -39,7 +39,7 @@ Answered = List ℕ × List ℤ
 unfoldable pub answered : List Shape → List ℕ → List ℤ → List ℤ → Answered
 answered shapes answers c out = let made = blocks shapes c out in (putAll (made .0) 0 answers, made .1)
 
--- "Refusals, for the whole call and in this order: .. 16 above 64 blocks; 6, then 7, where the buffers differ from the sum of
+-- "Refusals, for the whole call and in this order, .. : 16 above 64 blocks; 6, then 7, where the buffers differ from the sum of
 -- w*h over the list"
 abbrev pub rowTests : List Shape → ℕ → ℕ → List Refusal
 rowTests shapes input output = test (ltb 64 (length shapes)) 16 ∷ lengthTests (spans shapes) input output

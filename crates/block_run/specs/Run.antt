@@ -4,8 +4,8 @@ use mathlib.Core.List.{List, [], _++_}
 use Prim.Native.Nat.{ℕ, zero, suc, _*_}
 use lib.Dec.{eqb}
 use lib.IntN.{ℤ, pos}
-use lib.ListN.{length, drop}
-use Rattle.algebra.specs.Lists.{tabulate}
+use lib.ListN.{length}
+use Rattle.algebra.specs.Lists.{tabulate, over}
 use Rattle.meaning.specs.declared.Shape.{Shape}
 use Rattle.meaning.specs.declared.Answer.{Answer}
 use Rattle.meaning.specs.Inverse.{inverseOutcome}
@@ -69,4 +69,4 @@ printed file = printedFrom (length file) file start
 
 -- what the run hands back, and what its buffer holds then: "lines printed" and, behind them, what it held
 abbrev pub runOutcome : List ℕ → List ℕ → ℕ × List ℕ
-runOutcome file text = (length (printed file), printed file ++ drop (length (printed file)) text)
+runOutcome file text = (length (printed file), over (printed file) text)

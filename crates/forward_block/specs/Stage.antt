@@ -1,7 +1,7 @@
 -- Document 01, "Blocks", "Forward": what the stages are given, and rows of rounded sums in the first places of the rows of a buffer.
 use mathlib.Core.Path.{_≡_}
 use mathlib.Core.List.{List}
-use Prim.Native.Nat.{ℕ, _+_, _*_, _-_, _/_, _^_, _<_, _≤_}
+use Prim.Native.Nat.{ℕ, _+_, _*_, _-_, _/_, _<_, _≤_}
 use lib.ListN.{length}
 use lib.IntN.{ℤ}
 use mir.Syntax.{w16}
@@ -11,13 +11,14 @@ use Rattle.algebra.specs.Lists.{at}
 use Rattle.meaning.specs.declared.Shape.{Shape}
 use Rattle.meaning.specs.Weights.{weight}
 use Rattle.meaning.specs.Taken.{Taken, NoneAbove}
+use Rattle.meaning.specs.Forward.{mostResidual}
 use Rattle.product.specs.Product.{Laid, lineSum, Lines}
 
--- residuals that tests 1 to 6 and 9 let pass
+-- residuals that tests 1 to 5, 20, 6 and 9 let pass
 pub record Residuals (sh : Shape) (r : List ℤ) : Type 0 where
   pub taken : Taken sh
   pub long : length r ≡ sh .width * sh .height
-  pub small : NoneAbove (2 ^ sh .depth - 1) r
+  pub small : NoneAbove (mostResidual sh) r
 
 -- output x of line y, rounded
 abbrev pub lineValue : ℕ → List ℤ → ℕ → ℕ → List ℤ → ℕ → ℕ → ℕ → ℕ → ℤ

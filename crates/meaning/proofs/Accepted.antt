@@ -16,7 +16,7 @@ use Rattle.meaning.specs.Plan.{planOf}
 use Rattle.meaning.specs.Taken.{TakenBy, Taken, TakenBlockBy, TakenBlock, TakenLine, NoneAbove}
 use Rattle.meaning.specs.Answer.{Outcome, outcome, accepted, refused, test, shapeTestsBy, shapeTests, lengthTests, lineTests}
 use Rattle.meaning.specs.Inverse.{rails, inverseBlock, firstOutside, inverseTests, inverseOutcome}
-use Rattle.meaning.specs.Forward.{firstTooLarge, forwardBlock, forwardTests, forwardOutcome}
+use Rattle.meaning.specs.Forward.{mostResidual, firstTooLarge, forwardBlock, forwardTests, forwardOutcome}
 use Rattle.meaning.proofs.Small.{none-too-large}
 
 -- by the number alone, and by the outcome of a call
@@ -85,7 +85,7 @@ module _ (sh : Shape) (input output : List ℤ) where
       (c .0, c .1 .0)
 
   -- .. and no residual is too large
-  pub forward-accepted : forwardOutcome sh input output .0 .number ≡ 0 → TakenBlock sh input output × NoneAbove (2 ^ sh .depth - 1) input
+  pub forward-accepted : forwardOutcome sh input output .0 .number ≡ 0 → TakenBlock sh input output × NoneAbove (mostResidual sh) input
   forward-accepted e =
       let c = block-clear (isDepth (sh .depth)) (test (ltb (firstTooLarge sh input) (length input)) 9 ∷ []) (no-refusal (forwardTests sh input output) output (accepted 0, forwardBlock sh input) tt e) in
       (c .0, none-too-large sh input (c .1 .0))

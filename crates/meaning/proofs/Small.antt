@@ -13,7 +13,7 @@ use Rattle.algebra.proofs.Lists.{block-at, block-length, every-place}
 use Rattle.algebra.proofs.First.{first-before}
 use Rattle.meaning.specs.declared.Shape.{Shape}
 use Rattle.meaning.specs.Taken.{NoneAbove}
-use Rattle.meaning.specs.Forward.{tooLarge, firstTooLarge}
+use Rattle.meaning.specs.Forward.{mostResidual, tooLarge, firstTooLarge}
 
 -- it is enough to look at the places of a list, since past the end `at` gives 0
 pub within-places : (M : ℕ) (l : List ℤ) → ((k : ℕ) → k < length l → natAbs (at l k) ≤ M) → NoneAbove M l
@@ -29,9 +29,9 @@ block-in w h f M b =
     (λ x y p q. subst (λ (z : ℤ). natAbs z ≤ M) (sym (block-at w h f x y p q)) (b x y p q)) k (omega (arith, block-length w h f)))
 
 -- "a residual of size above 2^d-1": none
-pub none-too-large : (sh : Shape) (r : List ℤ) → ltb (firstTooLarge sh r) (length r) ≡ false → NoneAbove (2 ^ sh .depth - 1) r
+pub none-too-large : (sh : Shape) (r : List ℤ) → ltb (firstTooLarge sh r) (length r) ≡ false → NoneAbove (mostResidual sh) r
 none-too-large sh r e =
-    within-places (2 ^ sh .depth - 1) r
+    within-places (mostResidual sh) r
     (λ k h.
     let b : 0 + k < firstTooLarge sh r = omega (arith, ltb-false (firstTooLarge sh r) (length r) e) in
-    ltb-false (2 ^ sh .depth - 1) (natAbs (at r k)) (first-before (tooLarge sh) r 0 k h b))
+    ltb-false (mostResidual sh) (natAbs (at r k)) (first-before (tooLarge sh) r 0 k h b))

@@ -28,7 +28,7 @@ use Rattle.meaning.specs.Shape.{isSize}
 use Rattle.meaning.specs.Plan.{shortRange, planBy, planOf}
 use Rattle.meaning.specs.Taken.{TakenBy, Taken, Sized, NoneAbove}
 use Rattle.meaning.specs.Inverse.{columnSum, middleAt, rowSum, residual}
-use Rattle.meaning.specs.Forward.{log2, rowShift, columnShift, rowValue, columnValue, coefficient}
+use Rattle.meaning.specs.Forward.{log2, rowShift, columnShift, rowStage, rowValue, columnStage, columnValue, coefficient, mostResidual}
 use Rattle.meaning.proofs.Cases.{size-cases, size-in, depth-cases, pick}
 use Rattle.meaning.proofs.KeptPart.{columns-kept, rows-kept}
 use Rattle.meaning.proofs.Sizes.{short, forwardSum-in, forwardSum-short, forward-part-fits}
@@ -122,19 +122,9 @@ log-in n =
     let In : ℕ → Type 0 = λ k. (2 ≤ k) × (k ≤ 5) in
     pick In (eqb n 4) (omega arith, omega arith) (pick In (eqb n 8) (omega arith, omega arith) (pick In (eqb n 16) (omega arith, omega arith) (omega arith, omega arith)))
 
--- the largest residual, 2^d-1, and what the row stage makes of it: the largest value after either stage
-abbrev pub mostResidual : Shape → ℕ
-mostResidual sh = 2 ^ sh .depth - 1
-
+-- what the row stage makes of the largest residual: the largest value after either stage
 abbrev pub mostValue : Shape → ℕ
 mostValue sh = 2 ^ (15 - sh .depth) * mostResidual sh
-
--- the sums that the shifts are put to
-abbrev pub rowStage : Shape → List ℤ → ℕ → ℕ → ℤ
-rowStage sh r x y = forwardSum (sh .horizontal) (sh .width) (λ j. at r (j + y * sh .width)) x
-
-abbrev pub columnStage : Shape → List ℤ → ℕ → ℕ → ℤ
-columnStage sh r x y = forwardSum (sh .vertical) (sh .height) (λ j. rowValue sh r x j) y
 
 module _ (sh : Shape) (t : Taken sh) where
   row-power : 64 * sh .width ≡ 2 ^ rowShift sh * 2 ^ (15 - sh .depth)

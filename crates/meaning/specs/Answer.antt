@@ -54,8 +54,11 @@ shapeTests sh = shapeTestsBy (isSize (sh .width)) (isSize (sh .height)) (isDepth
 abbrev pub inputTest : ℕ → ℕ → Refusal
 inputTest n input = test (not (eqb input n)) 6
 
+abbrev pub outputTest : ℕ → ℕ → Refusal
+outputTest n output = test (not (eqb output n)) 7
+
 abbrev pub lengthTests : ℕ → ℕ → ℕ → List Refusal
-lengthTests n input output = inputTest n input ∷ test (not (eqb output n)) 7 ∷ []
+lengthTests n input output = inputTest n input ∷ outputTest n output ∷ []
 
 -- "Lines can meet 1, 3, 6, 7"
 abbrev pub lineTests : ℕ → ℕ → ℕ → ℕ → List Refusal

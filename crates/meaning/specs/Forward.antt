@@ -25,13 +25,21 @@ rowShift sh = log2 (sh .width) + sh .depth - 9
 abbrev pub columnShift : Shape → ℕ
 columnShift sh = log2 (sh .height) + 6
 
--- "Rows first: (y + 2^(p-1)) >> p": the number in column x of row y between the stages
-unfoldable pub rowValue : Shape → List ℤ → ℕ → ℕ → ℤ
-rowValue sh r x y = nearest (rowShift sh) (forwardSum (sh .horizontal) (sh .width) (λ j. at r (j + y * sh .width)) x)
+-- "Rows first": the sum in column x of row y
+abbrev pub rowStage : Shape → List ℤ → ℕ → ℕ → ℤ
+rowStage sh r x y = forwardSum (sh .horizontal) (sh .width) (λ j. at r (j + y * sh .width)) x
 
--- "Then columns: (y + 2^(q-1)) >> q"
+-- "(y + 2^(p-1)) >> p": the number between the stages
+unfoldable pub rowValue : Shape → List ℤ → ℕ → ℕ → ℤ
+rowValue sh r x y = nearest (rowShift sh) (rowStage sh r x y)
+
+-- "Then columns"
+abbrev pub columnStage : Shape → List ℤ → ℕ → ℕ → ℤ
+columnStage sh r x y = forwardSum (sh .vertical) (sh .height) (λ j. rowValue sh r x j) y
+
+-- "(y + 2^(q-1)) >> q"
 unfoldable pub columnValue : Shape → List ℤ → ℕ → ℕ → ℤ
-columnValue sh r x y = nearest (columnShift sh) (forwardSum (sh .vertical) (sh .height) (λ j. rowValue sh r x j) y)
+columnValue sh r x y = nearest (columnShift sh) (columnStage sh r x y)
 
 -- "Coefficients outside the kept rows and columns are written 0"
 unfoldable pub coefficient : Shape → List ℤ → ℕ → ℕ → ℤ
@@ -40,9 +48,13 @@ coefficient sh r x y = cond (ltb x (sh .columns) && ltb y (sh .rows)) (columnVal
 unfoldable pub forwardBlock : Shape → List ℤ → List ℤ
 forwardBlock sh r = block (sh .width) (sh .height) (coefficient sh r)
 
+-- "residuals of size at most 2^d-1"
+abbrev pub mostResidual : Shape → ℕ
+mostResidual sh = 2 ^ sh .depth - 1
+
 -- "a residual of size above 2^d-1"
 abbrev pub tooLarge : Shape → ℕ → ℤ → Bool
-tooLarge sh k z = ltb (2 ^ sh .depth - 1) (natAbs z)
+tooLarge sh k z = ltb (mostResidual sh) (natAbs z)
 
 -- "place of the first"
 abbrev pub firstTooLarge : Shape → List ℤ → ℕ

@@ -12,6 +12,7 @@ isSize n = eqb n 4 || (eqb n 8 || (eqb n 16 || eqb n 32))
 unfoldable pub isKind : ℕ → Bool
 isKind kind = eqb kind 1 || (eqb kind 2 || eqb kind 0)
 
+-- 8 to a deepest one
 abbrev pub isDepthTo : ℕ → ℕ → Bool
 isDepthTo deepest d = leb 8 d && leb d deepest
 

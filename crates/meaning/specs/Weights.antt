@@ -17,6 +17,7 @@ first n =
     (0 ∷ 4 ∷ 9 ∷ 13 ∷ 17 ∷ 21 ∷ 26 ∷ 30 ∷ 34 ∷ 38 ∷ 42 ∷ 46 ∷ 50 ∷ 53 ∷ 56 ∷ 60 ∷ 63 ∷ 66 ∷ 68 ∷ 72 ∷ 74 ∷ 77 ∷ 78 ∷ 80 ∷ 82 ∷ 84 ∷ 85 ∷ 86 ∷ 87 ∷ 88 ∷ 89 ∷ 90 ∷ 90 ∷ [])
     [])))
 
+-- "The sign is minus where": the test, and the number
 abbrev pub signed : Bool → ℤ → ℤ
 signed true z = negℤ z
 signed false z = z

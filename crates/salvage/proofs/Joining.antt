@@ -13,7 +13,7 @@ use Rattle.block_text.specs.Wrote.{Wrote}
 use Rattle.block_text.proofs.Writing.{andThen, retext, later}
 use Rattle.salvage.specs.declared.search.Piece.{Piece}
 use Rattle.salvage.specs.Pieces.{onward, pieceAt, pieces, joined, keptOf, droppedOf}
-use Rattle.salvage.specs.Outcomes.{over}
+use Rattle.algebra.specs.Lists.{over}
 use Rattle.salvage.proofs.Moves.{moves}
 use Rattle.salvage.proofs.Fuel.{no-piece, one-piece}
 

@@ -6,7 +6,8 @@ use borrow.Author.Tests.{le-ltb, lt-ltb}
 use lib.ListN.{length}
 use Rattle.salvage.specs.declared.saving.Saved.{Saved}
 use Rattle.salvage.specs.Pieces.{written, dropped}
-use Rattle.salvage.specs.Outcomes.{savedOutcome, over}
+use Rattle.algebra.specs.Lists.{over}
+use Rattle.salvage.specs.Outcomes.{savedOutcome}
 
 abbrev no : ℕ → Saved
 no number = record { number = number; bytes = 0; stretches = 0 }

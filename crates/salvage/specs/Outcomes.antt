@@ -1,9 +1,10 @@
 -- Document 02, Wish 12: "Refusals, with nothing written: 14 as before; 7 for an output shorter than the file or a list of under
 -- 1,024 places; 26 for more than 1,024 dropped stretches."
-use mathlib.Core.List.{List, [], _∷_, _++_}
+use mathlib.Core.List.{List, [], _∷_}
 use Prim.Native.Nat.{ℕ, _*_, _/_}
 use lib.Dec.{ltb}
-use lib.ListN.{length, drop}
+use lib.ListN.{length}
+use Rattle.algebra.specs.Lists.{over}
 use Rattle.algebra.specs.Refusals.{Refusal, firstOf}
 use Rattle.meaning.specs.Answer.{test}
 use Rattle.block_file.specs.Cursor.{tooLong}
@@ -21,10 +22,6 @@ saveTests file out list =
     ∷ test (ltb (length list) (2 * places)) 7
     ∷ test (ltb (2 * places) (length (dropped file))) 26
     ∷ []
-
--- a text at the start of an area, the rest of which stays
-abbrev pub over : List ℕ → List ℕ → List ℕ
-over text area = text ++ drop (length text) area
 
 -- what is handed back, and what the two areas hold then
 abbrev pub savedOutcome : List ℕ → List ℕ → List ℕ → Saved × List ℕ × List ℕ

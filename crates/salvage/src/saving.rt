@@ -7,9 +7,10 @@ ghost use mathlib.Core.Path.{_≡_};
 ghost use mathlib.Core.List.{List};
 ghost use Prim.Native.Nat.{ℕ, _+_, _≤_};
 ghost use lib.ListN.{length};
+ghost use Rattle.algebra.specs.Lists.{over};
 ghost use Rattle.block_text.specs.Wrote.{Wrote};
 ghost use Rattle.salvage.specs.Pieces.{keptOf, written, droppedOf, dropped};
-ghost use Rattle.salvage.specs.Outcomes.{over, savedOutcome};
+ghost use Rattle.salvage.specs.Outcomes.{savedOutcome};
 
 /// The number of the refusal or 0, how many bytes the new file has, and how many stretches were dropped.
 #[repr(C)]

@@ -8,7 +8,7 @@ use lib.IntN.{ℤ, pos}
 use lib.ListN.{length}
 use Rattle.algebra.specs.Lists.{at}
 use Rattle.algebra.specs.Refusals.{Refusal, firstOf}
-use Rattle.meaning.specs.Answer.{test, lengthTests}
+use Rattle.meaning.specs.Answer.{test, outputTest, lengthTests}
 use Rattle.meaning.specs.Line.{forwardLine}
 use Rattle.steps.specs.Steps.{StepList}
 use Rattle.steps.specs.Numbers.{encode}
@@ -16,6 +16,7 @@ use Rattle.steps.specs.Outcome.{Result, untouched}
 use Rattle.steps.specs.Lists.{list4, list16, list32}
 use Rattle.step_lists.specs.declared.Listed.{Listed}
 
+-- "for 4, 16 and 32 points"
 abbrev pub isListed : ℕ → Bool
 isListed n = eqb n 4 || (eqb n 16 || eqb n 32)
 
@@ -33,7 +34,7 @@ listed number inputs cells s o = record { number = number; inputs = inputs; cell
 -- numbers s and output cells o into buffers that hold `steps` and `outs`: 7 for a length other than the list's own
 abbrev pub handedList : ℕ → ℕ → List ℤ → List ℤ → List ℤ → List ℤ → HandedList
 handedList inputs cells s o steps outs =
-    firstOf (test (not (eqb (length steps) (length s))) 7 ∷ test (not (eqb (length outs) (length o))) 7 ∷ [])
+    firstOf (outputTest (length s) (length steps) ∷ outputTest (length o) (length outs) ∷ [])
     (λ number place. (listed number inputs cells s o, (steps, outs)))
     (listed 0 inputs cells s o, (s, o))
 

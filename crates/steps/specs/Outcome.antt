@@ -1,14 +1,14 @@
 -- Document 02, Wish 6: a run of whole numbers, its refusals, and what comes back.
-use mathlib.Core.Bool.{Bool, not, _||_}
+use mathlib.Core.Bool.{Bool, _||_}
 use mathlib.Core.List.{List, [], _∷_}
 use Prim.Native.Nat.{ℕ, _^_, _≤_, _<_}
-use lib.Dec.{ltb, eqb}
+use lib.Dec.{ltb}
 use lib.IntN.{ℤ, pos, negℤ, natAbs, _+ℤ_, _-ℤ_, _*ℤ_}
 use lib.ListN.{length}
 use lib.Signed.{mag}
 use Rattle.algebra.specs.Lists.{at}
 use Rattle.algebra.specs.Refusals.{Refusal, firstOf}
-use Rattle.meaning.specs.Answer.{test}
+use Rattle.meaning.specs.Answer.{test, inputTest, outputTest}
 use Rattle.steps.specs.declared.Taken.{Taken}
 use Rattle.steps.specs.Steps.{StepList, Carrier, Done, Run, refused, ran, whole, limit}
 
@@ -36,8 +36,8 @@ untouched out number = (record { number = number; count = 0 }, out)
 abbrev pub listTests : (steps cells inputs outs input output : ℕ) → List Refusal
 listTests steps cells inputs outs input output =
     test (ltb limit steps || ltb limit cells) 18
-    ∷ test (not (eqb input inputs)) 6
-    ∷ test (not (eqb output outs)) 7
+    ∷ inputTest inputs input
+    ∷ outputTest outs output
     ∷ test (ltb cells inputs) 28
     ∷ []
 

@@ -1,15 +1,16 @@
 -- Document 02, Wish 9: "where the order isn't each of 0..N-1 once".
 use mathlib.Core.Path.{_≡_}
-use mathlib.Core.Bool.{Bool, true, cond, _&&_}
+use mathlib.Core.Bool.{Bool, true, _&&_}
 use mathlib.Core.List.{List, [], _∷_}
 use Prim.Native.Nat.{ℕ, zero, suc, _+_, _<_}
 use lib.Dec.{eqb}
 use lib.ListN.{length}
+use Rattle.meaning.specs.Inverse.{count}
 
 -- how often k stands in the list
 unfoldable pub times : ℕ → List ℕ → ℕ
 times k [] = 0
-times k (x ∷ l) = cond (eqb x k) 1 0 + times k l
+times k (x ∷ l) = count (eqb x k) + times k l
 
 -- each number below n once
 unfoldable pub onceTo : ℕ → List ℕ → Bool
