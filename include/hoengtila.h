@@ -7,7 +7,7 @@
  *
  * A call that is turned down hands back one of the numbers below, the first that applies in the order that stands beside the
  * function. Its outputs hold what they held and the other numbers that it hands back are 0, where nothing else is said; but 8, 9
- * and 27 have the place of the first number that they refuse, column + row * width. A call that is taken hands back number 0 and
+ * and 27 have the place of the first number that they refuse, column + row * width. A call that is accepted hands back number 0 and
  * place 0.
  *
  *   1  the width, or a line's length, is not 4, 8, 16 or 32 (thin blocks: or 1); steps: there is no list of n points
@@ -77,8 +77,8 @@ typedef struct {
     uint32_t rails;  /* inverse block: middle values that the clip altered */
 } hoengtila_answer;
 
-/* The shape that keeps the most columns and rows that it can. For less, set `columns` and `rows` after it: the inverse then skips
- * what is dropped, and the forward writes 0 there. Nothing is refused. */
+/* The shape that keeps the most columns and rows that it can. For less, set `columns` and `rows` after it: what lies beyond them has to
+ * be 0 in the inverse (8), and the forward writes 0 there. Nothing is refused. */
 hoengtila_shape hoengtila_shape_of(uint32_t width, uint32_t height, uint32_t horizontal, uint32_t vertical, uint32_t depth);
 
 /* ---- Lines: n numbers of 16 bits in, n exact sums of 32 bits out, with no shift ---- */

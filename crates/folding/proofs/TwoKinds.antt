@@ -16,7 +16,7 @@ use Rattle.algebra.proofs.Lists.{tabulated}
 use Rattle.meaning.specs.Weights.{S, C, weight, signed}
 use Rattle.meaning.specs.Line.{forwardSum, inverseSum, forwardLine, inverseLine}
 use Rattle.folding.specs.Folds.{odd}
-use Rattle.folding.specs.Lines.{turned, alternated, reading, used, isSine, isShared, kindOf}
+use Rattle.folding.specs.Lines.{turned, alternated, reading, used, isFolded, isShared, kindOf}
 use Rattle.folding.specs.Steps.{Front}
 use Rattle.folding.proofs.Reading.{turned-in, turned-twice}
 
@@ -75,14 +75,14 @@ unfolding forwardLine
 forward-whole back n x {y} l e = tabulated n y (forwardSum (kindOf back) n (at x)) l (λ i h. e i h ∙ output-is back n x i)
 
 -- a kind that was tested
-pub sine : (P : ℕ → Type 0) → P 1 → P 2 → (kind : ℕ) → isSine kind ≡ true → P kind
+pub sine : (P : ℕ → Type 0) → P 1 → P 2 → (kind : ℕ) → isFolded kind ≡ true → P kind
 sine P one two kind = either (eqb kind 1) (eqb kind 2) (λ e. subst P (sym (eqb-true kind 1 e)) one) (λ e. subst P (sym (eqb-true kind 2 e)) two)
   where
     either : (a b : Bool) → (a ≡ true → P kind) → (b ≡ true → P kind) → a || b ≡ true → P kind
     either true b f g h = f h
     either false b f g h = g h
 
-pub kind-back : (kind : ℕ) → isSine kind ≡ true → kindOf (eqb kind 2) ≡ kind
+pub kind-back : (kind : ℕ) → isFolded kind ≡ true → kindOf (eqb kind 2) ≡ kind
 kind-back = sine (λ k. kindOf (eqb k 2) ≡ k) refl refl
 
 -- a size that is neither of the two others

@@ -31,8 +31,8 @@ abbrev pub isShared : ℕ → Bool
 isShared n = eqb n 4 || (eqb n 16 || eqb n 32)
 
 -- "1 (DST-VII) or 2 (DCT-VIII)": the kinds of these rows
-abbrev pub isSine : ℕ → Bool
-isSine kind = eqb kind 1 || eqb kind 2
+abbrev pub isFolded : ℕ → Bool
+isFolded kind = eqb kind 1 || eqb kind 2
 
 -- DCT-VIII where the inputs are read backwards, or the sums written so
 abbrev pub kindOf : Bool → ℕ
@@ -41,6 +41,6 @@ kindOf back = cond {A = ℕ} back 2 1
 -- what a line is given
 pub record Given (n kind : ℕ) (x y : List ℤ) : Type 0 where
   pub size : isShared n ≡ true
-  pub known : isSine kind ≡ true
+  pub known : isFolded kind ≡ true
   pub inputs : length x ≡ n
   pub outputs : length y ≡ n

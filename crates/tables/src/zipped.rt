@@ -8,7 +8,7 @@ ghost use Rattle.product.specs.Product.{Laid};
 ghost use Rattle.tables.specs.Term.{term};
 
 // DST-VII, inverse.
-const INVERSE_4: [i16; 16] = [
+const INVERSE_1_4: [i16; 16] = [
     29, // inputs 0 and 1 of 4
     74,
     55,
@@ -28,7 +28,7 @@ const INVERSE_4: [i16; 16] = [
 ];
 
 // DST-VII, forward.
-const FORWARD_4: [i16; 16] = [
+const FORWARD_1_4: [i16; 16] = [
     29, // inputs 0 and 1 of 4
     55,
     74,
@@ -48,7 +48,7 @@ const FORWARD_4: [i16; 16] = [
 ];
 
 // DCT-VIII, in both directions.
-const COSINE_4: [i16; 16] = [
+const BOTH_2_4: [i16; 16] = [
     84, // inputs 0 and 1 of 4
     74,
     74,
@@ -108,7 +108,7 @@ const FORWARD_0_4: [i16; 16] = [
 ];
 
 // DST-VII, inverse.
-const INVERSE_8: [i16; 64] = [
+const INVERSE_1_8: [i16; 64] = [
     17, // inputs 0 and 1 of 8
     46,
     32,
@@ -176,7 +176,7 @@ const INVERSE_8: [i16; 64] = [
 ];
 
 // DST-VII, forward.
-const FORWARD_8: [i16; 64] = [
+const FORWARD_1_8: [i16; 64] = [
     17, // inputs 0 and 1 of 8
     32,
     46,
@@ -244,7 +244,7 @@ const FORWARD_8: [i16; 64] = [
 ];
 
 // DCT-VIII, in both directions.
-const COSINE_8: [i16; 64] = [
+const BOTH_2_8: [i16; 64] = [
     86, // inputs 0 and 1 of 8
     85,
     85,
@@ -448,7 +448,7 @@ const FORWARD_0_8: [i16; 64] = [
 ];
 
 // DST-VII, inverse.
-const INVERSE_16: [i16; 256] = [
+const INVERSE_1_16: [i16; 256] = [
     8, // inputs 0 and 1 of 16
     25,
     17,
@@ -708,7 +708,7 @@ const INVERSE_16: [i16; 256] = [
 ];
 
 // DST-VII, forward.
-const FORWARD_16: [i16; 256] = [
+const FORWARD_1_16: [i16; 256] = [
     8, // inputs 0 and 1 of 16
     17,
     25,
@@ -968,7 +968,7 @@ const FORWARD_16: [i16; 256] = [
 ];
 
 // DCT-VIII, in both directions.
-const COSINE_16: [i16; 256] = [
+const BOTH_2_16: [i16; 256] = [
     88, // inputs 0 and 1 of 16
     88,
     88,
@@ -1748,7 +1748,7 @@ const FORWARD_0_16: [i16; 256] = [
 ];
 
 // DST-VII, inverse.
-const INVERSE_32: [i16; 1024] = [
+const INVERSE_1_32: [i16; 1024] = [
     4, // inputs 0 and 1 of 32
     13,
     9,
@@ -2776,7 +2776,7 @@ const INVERSE_32: [i16; 1024] = [
 ];
 
 // DST-VII, forward.
-const FORWARD_32: [i16; 1024] = [
+const FORWARD_1_32: [i16; 1024] = [
     4, // inputs 0 and 1 of 32
     9,
     13,
@@ -3804,7 +3804,7 @@ const FORWARD_32: [i16; 1024] = [
 ];
 
 // DCT-VIII, in both directions.
-const COSINE_32: [i16; 1024] = [
+const BOTH_2_32: [i16; 1024] = [
     90, // inputs 0 and 1 of 32
     90,
     90,
@@ -6892,12 +6892,12 @@ pub fn zipped_4(kind: u32, forward: bool) -> [i16; 16]
 {
     if kind == 1 {
         if forward {
-            return FORWARD_4;
+            return FORWARD_1_4;
         }
-        return INVERSE_4;
+        return INVERSE_1_4;
     }
     if kind == 2 {
-        return COSINE_4;
+        return BOTH_2_4;
     }
     if kind == 0 {
         if forward {
@@ -6913,12 +6913,12 @@ pub fn zipped_8(kind: u32, forward: bool) -> [i16; 64]
 {
     if kind == 1 {
         if forward {
-            return FORWARD_8;
+            return FORWARD_1_8;
         }
-        return INVERSE_8;
+        return INVERSE_1_8;
     }
     if kind == 2 {
-        return COSINE_8;
+        return BOTH_2_8;
     }
     if kind == 0 {
         if forward {
@@ -6934,12 +6934,12 @@ pub fn zipped_16(kind: u32, forward: bool) -> [i16; 256]
 {
     if kind == 1 {
         if forward {
-            return FORWARD_16;
+            return FORWARD_1_16;
         }
-        return INVERSE_16;
+        return INVERSE_1_16;
     }
     if kind == 2 {
-        return COSINE_16;
+        return BOTH_2_16;
     }
     if kind == 0 {
         if forward {
@@ -6959,14 +6959,14 @@ pub fn put_32(kind: u32, forward: bool, u: &mut [i16; 1024])
 {
     if kind == 1 {
         if forward {
-            *u = FORWARD_32;
+            *u = FORWARD_1_32;
             return;
         }
-        *u = INVERSE_32;
+        *u = INVERSE_1_32;
         return;
     }
     if kind == 2 {
-        *u = COSINE_32;
+        *u = BOTH_2_32;
         return;
     }
     if kind == 0 {

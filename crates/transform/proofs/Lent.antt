@@ -12,7 +12,7 @@ use Rattle.meaning.specs.Taken.{TakenLine}
 use Rattle.meaning.proofs.Cases.{and-cases, size-cases, kind-cases}
 use Rattle.engine.specs.Lines.{Place}
 use Rattle.folding.specs.Lines as Folded
-use Rattle.folding.specs.Lines.{isShared, isSine}
+use Rattle.folding.specs.Lines.{isShared, isFolded}
 use Rattle.transform.specs.Line.{isPlace}
 
 -- a place of a matrix
@@ -36,7 +36,7 @@ pub folded-given : {n kind : ℕ} {x y : List ℤ} → TakenLine n kind (length 
 folded-given {n} {kind} p k d =
     record {
       size = size-cases (λ n. (n ≡ 8 → ⊥) → isShared n ≡ true) (λ d. refl) (λ d. absurd (d refl)) (λ d. refl) (λ d. refl) n (p .size) d;
-      known = kind-cases (λ k. (k ≡ 0 → ⊥) → isSine k ≡ true) (λ k. refl) (λ k. refl) (λ k. absurd (k refl)) kind (p .known) k;
+      known = kind-cases (λ k. (k ≡ 0 → ⊥) → isFolded k ≡ true) (λ k. refl) (λ k. refl) (λ k. absurd (k refl)) kind (p .known) k;
       inputs = p .long;
       outputs = p .room;
     }
