@@ -3,7 +3,6 @@ use crate::numbers::wide;
 use crate::print::answer;
 use crate::print::every;
 use crate::print::text;
-use transform::small;
 
 fn lines(even: i16, odd: i16) -> [[i16; 4]; 4] {
     [
@@ -36,7 +35,7 @@ fn wide_16(c: [i16; 16]) -> [i32; 16] {
 }
 
 fn inverse(even: i16, odd: i16, r: [u32; 3]) {
-    let both = small::inverse_both(lines(even, odd), r[0], r[1], r[2]);
+    let both = small_block::inverse_both(lines(even, odd), r[0], r[1], r[2]);
     let by_value = both.by_value_block;
     let lent = both.lent_block;
     answer(b"by value: inverse", r, both.by_value);
@@ -47,7 +46,7 @@ fn inverse(even: i16, odd: i16, r: [u32; 3]) {
 }
 
 fn forward(even: i16, odd: i16, r: [u32; 3]) {
-    let both = small::forward_both(lines(even, odd), r[0], r[1], r[2]);
+    let both = small_block::forward_both(lines(even, odd), r[0], r[1], r[2]);
     let by_value_block = both.by_value_block;
     let lent_block = both.lent_block;
     let by_value = wide_16(by_value_block);

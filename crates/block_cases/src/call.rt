@@ -11,7 +11,7 @@ fn inverse(shape: Shape, numbers: [i16; 1024], input: usize, output: usize)
 {
     text(b": inverse");
     let mut out = widened(marks());
-    let answer = transform::block::inverse(shape, &numbers[0..input], &mut out[0..output]);
+    let answer = block::inverse(shape, &numbers[0..input], &mut out[0..output]);
     end(shape, input, answer, out, output);
 }
 
@@ -20,7 +20,7 @@ fn forward(shape: Shape, numbers: [i16; 1024], input: usize, output: usize)
 {
     text(b": forward");
     let mut out = marks();
-    let answer = transform::block::forward(shape, &numbers[0..input], &mut out[0..output]);
+    let answer = block::forward(shape, &numbers[0..input], &mut out[0..output]);
     end(shape, input, answer, widened(out), output);
 }
 

@@ -57,7 +57,7 @@ fn inverse_drawn(
     requires { ⌜ now residuals ≡ blank shape ⌝ }
     ensures { λ r. ⌜ _≡_ {A = View × List ℕ} (r, now (picture .exit)) (inverseShown shape (now (coefficients .entry)) offset (now (picture .entry))) ⌝ }
 {
-    let answer = transform::block::inverse(shape, coefficients, residuals);
+    let answer = block::inverse(shape, coefficients, residuals);
     let number = answer.number;
     if number != 0 {
         return refused(number, offset);

@@ -70,11 +70,7 @@ fn each(
     while k < count {
         let shape = shape_at(shapes, k);
         let end = start + span_of(shape);
-        let answer = transform::block::inverse(
-            shape,
-            &coefficients[start..end],
-            &mut residuals[start..end],
-        );
+        let answer = block::inverse(shape, &coefficients[start..end], &mut residuals[start..end]);
         put(answers, k, answer);
         start = end;
         k += 1;

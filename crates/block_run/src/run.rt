@@ -48,7 +48,7 @@ fn inverse_line(
     requires { ⌜ (now residuals ≡ blank shape) × (offset ≤ 65536) × (at + (35 + 12 * length (now residuals)) ≤ length (now text)) ⌝ }
     ensures { λ r. ⌜ Does (inverseTurn shape (now (coefficients .entry)) offset next) (35 + 12 * length (now (residuals .entry))) at (now (text .entry)) (now (text .exit)) r ⌝ }
 {
-    let answer = transform::block::inverse(shape, coefficients, residuals);
+    let answer = block::inverse(shape, coefficients, residuals);
     let number = answer.number;
     if number != 0 {
         return refused(number, offset, next, text, at);
@@ -77,7 +77,7 @@ fn forward_line(
     requires { ⌜ (now coefficients ≡ blank shape) × (offset ≤ 65536) × (at + (24 + 12 * length (now coefficients)) ≤ length (now text)) ⌝ }
     ensures { λ r. ⌜ Does (forwardTurn shape (now (residuals .entry)) offset next) (24 + 12 * length (now (coefficients .entry))) at (now (text .entry)) (now (text .exit)) r ⌝ }
 {
-    let answer = transform::block::forward(shape, residuals, coefficients);
+    let answer = block::forward(shape, residuals, coefficients);
     let number = answer.number;
     if number != 0 {
         return refused(number, offset, next, text, at);

@@ -1,6 +1,6 @@
 // Internal: a line of any kind in either direction as the full matrix product, and single weights, from the stored weights. The
 // functions ask that sizes and lengths were tested before, so they have a `requires`; every function that a user calls stands in
-// `transform` and has none. Read specs/Lines.
+// `line` and has none. Read specs/Lines.
 use product::line;
 use tables::stage::put_1024;
 use tables::zipped::zipped_4;

@@ -1,7 +1,7 @@
-// The library for C and Rust: the calls of `transform`, `long_block`, `thin_block`, `why`, `wrapping`, `block_row`, `round_trip`, `report`,
+// The library for C and Rust: the calls of `line`, `block`, `long_block`, `thin_block`, `why`, `wrapping`, `block_row`, `round_trip`, `report`,
 // `step_run`, `step_lists`, `picture` and `salvage` under the names and with the arguments that include/hoengtila.h declares, and the one
 // that makes a shape. A wrapper is one call and has the contract of what it calls; none has a `requires`, so whatever numbers and lengths
-// a caller hands over, the contract says what comes back. For Rattle callers alone are the 4 by 4 block by value (`small` of `transform`),
+// a caller hands over, the contract says what comes back. For Rattle callers alone are the 4 by 4 block by value (`small_block`),
 // the calls that run two ways side by side (`forward_both`, `inverse_both`), the thin block that hands a part of an area back (`inverse`
 // of `thin_block`; `work` is here), `empty` of `report` and `is_listed` of `step_lists`. Read it beside the header.
 use meaning::Answer;
@@ -24,7 +24,7 @@ ghost use Rattle.meaning.specs.Answer.{Outcome, forwardLineOutcome, inverseLine
 ghost use Rattle.meaning.specs.Inverse.{inverseOutcome};
 ghost use Rattle.meaning.specs.Long.{longOutcome};
 ghost use Rattle.meaning.specs.Forward.{forwardOutcome};
-ghost use Rattle.transform.specs.Line.{weightOrZero};
+ghost use Rattle.line.specs.Line.{weightOrZero};
 ghost use Rattle.round_trip.specs.RoundTrip.{strayOrZero};
 ghost use Rattle.block_row.specs.Numbers.{shapesOf};
 ghost use Rattle.block_row.specs.Row.{RowOutcome, rowOutcome};
@@ -55,7 +55,7 @@ pub extern "C" fn hoengtila_shape_of(
 pub extern "C" fn hoengtila_weight(kind: u32, n: u32, i: u32, j: u32) -> i32
     ensures { λ r. ⌜ r ≡ weightOrZero kind n i j ⌝ }
 {
-    transform::line::weight(kind, n, i, j)
+    line::weight(kind, n, i, j)
 }
 
 #[no_mangle]
@@ -69,14 +69,14 @@ pub extern "C" fn hoengtila_stray(kind: u32, n: u32, j: u32) -> u32
 pub extern "C" fn hoengtila_line_forward(n: u32, kind: u32, x: &[i16], y: &mut [i32]) -> Answer
     ensures { λ r. ⌜ _≡_ {A = Outcome} (r, now (y .exit)) (forwardLineOutcome n kind (now (x .entry)) (now (y .entry))) ⌝ }
 {
-    transform::line::forward(n, kind, x, y)
+    line::forward(n, kind, x, y)
 }
 
 #[no_mangle]
 pub extern "C" fn hoengtila_line_inverse(n: u32, kind: u32, x: &[i16], y: &mut [i32]) -> Answer
     ensures { λ r. ⌜ _≡_ {A = Outcome} (r, now (y .exit)) (inverseLineOutcome n kind (now (x .entry)) (now (y .entry))) ⌝ }
 {
-    transform::line::inverse(n, kind, x, y)
+    line::inverse(n, kind, x, y)
 }
 
 #[no_mangle]
@@ -88,7 +88,7 @@ pub extern "C" fn hoengtila_line_forward_product(
 ) -> Answer
     ensures { λ r. ⌜ _≡_ {A = Outcome} (r, now (y .exit)) (forwardLineOutcome n kind (now (x .entry)) (now (y .entry))) ⌝ }
 {
-    transform::line::forward_product(n, kind, x, y)
+    line::forward_product(n, kind, x, y)
 }
 
 #[no_mangle]
@@ -100,7 +100,7 @@ pub extern "C" fn hoengtila_line_inverse_product(
 ) -> Answer
     ensures { λ r. ⌜ _≡_ {A = Outcome} (r, now (y .exit)) (inverseLineOutcome n kind (now (x .entry)) (now (y .entry))) ⌝ }
 {
-    transform::line::inverse_product(n, kind, x, y)
+    line::inverse_product(n, kind, x, y)
 }
 
 #[no_mangle]
@@ -139,7 +139,7 @@ pub extern "C" fn hoengtila_block_inverse(
 ) -> Answer
     ensures { λ r. ⌜ _≡_ {A = Outcome} (r, now (residuals .exit)) (inverseOutcome shape (now (coefficients .entry)) (now (residuals .entry))) ⌝ }
 {
-    transform::block::inverse(shape, coefficients, residuals)
+    block::inverse(shape, coefficients, residuals)
 }
 
 #[no_mangle]
@@ -174,7 +174,7 @@ pub extern "C" fn hoengtila_block_forward(
 ) -> Answer
     ensures { λ r. ⌜ _≡_ {A = Outcome} (r, now (coefficients .exit)) (forwardOutcome shape (now (residuals .entry)) (now (coefficients .entry))) ⌝ }
 {
-    transform::block::forward(shape, residuals, coefficients)
+    block::forward(shape, residuals, coefficients)
 }
 
 #[no_mangle]

@@ -1,5 +1,5 @@
 // The 16-point DST-VII matrix by the letters of documents 000 and 004: sign, letter, sign, letter, ..
-use transform::line::weight;
+use line::weight;
 ghost use mathlib.Core.Path.{_≡_};
 ghost use Prim.Native.Nat.{_*_, _≤_};
 ghost use lib.ListN.{length};

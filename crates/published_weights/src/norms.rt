@@ -2,7 +2,7 @@
 // sign counts, and d_i is row i. In whole numbers: the largest distance of d_i·d_i from d_0·d_0, of d_0·d_0.
 use crate::numbers;
 use crate::print;
-use transform::line::weight;
+use line::weight;
 ghost use Prim.Native.Nat.{_+_, _≤_, _<_};
 ghost use lib.ListN.{length};
 

@@ -1,5 +1,5 @@
 // Rows and matrices that are published as numbers.
-use transform::line::weight;
+use line::weight;
 ghost use Prim.Native.Nat.{_≤_, _<_};
 ghost use lib.ListN.{length};
 

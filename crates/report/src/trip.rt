@@ -61,12 +61,12 @@ fn there_and_back(
     requires { ⌜ (length (now coefficients) ≡ min (length (now residuals)) 1024) × (length (now back) ≡ min (length (now residuals)) 1024) ⌝ }
     ensures { λ r. ⌜ (r ≡ tripAnswer shape (now (residuals .entry))) × (r .number ≡ 0 → now (back .exit) ≡ returned shape (now (residuals .entry))) ⌝ }
 {
-    let forward = transform::block::forward(shape, residuals, coefficients);
+    let forward = block::forward(shape, residuals, coefficients);
     let number = forward.number;
     if number != 0 {
         return forward;
     }
-    transform::block::inverse(shape, coefficients, back)
+    block::inverse(shape, coefficients, back)
 }
 
 // What a block adds to the totals, beside its answer.

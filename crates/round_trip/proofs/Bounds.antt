@@ -18,7 +18,7 @@ use Rattle.meaning.specs.Weights.{weight}
 use Rattle.meaning.specs.Shape.{isSize, isKind}
 use Rattle.meaning.proofs.Cases.{and-cases, size-in, pick}
 use Rattle.meaning.proofs.Sizes.{weightSize}
-use Rattle.transform.specs.Line.{isPlace, weightOrZero}
+use Rattle.line.specs.Line.{isPlace, weightOrZero}
 use Rattle.round_trip.specs.RoundTrip.{G, less, isColumn}
 
 -- the first i products of columns j and k

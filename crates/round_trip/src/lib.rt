@@ -1,14 +1,14 @@
 // How far a round trip can stray: D of a column, and (proofs/) that no line of numbers of size at most M comes back further
 // from 4096*N times itself than M*D, and that some line comes back as far. Read specs/RoundTrip, then proofs/Furthest.
+use line::weight;
 use meaning::is_kind;
 use meaning::is_size;
-use transform::line::weight;
 ghost use mathlib.Core.Path.{_≡_};
 ghost use mathlib.Core.Bool.{true, cond};
 ghost use Prim.Native.Nat.{_≤_, _*_};
 ghost use lib.Dec.{eqb};
 ghost use lib.IntN.{pos, _+ℤ_, _-ℤ_, _*ℤ_, natAbs};
-ghost use Rattle.transform.specs.Line.{isPlace};
+ghost use Rattle.line.specs.Line.{isPlace};
 ghost use Rattle.round_trip.specs.RoundTrip.{G, less, isColumn, strayOrZero};
 
 // a + w * v, of weights

@@ -1,7 +1,6 @@
 // One stage: "with no middle rounding and no middle clip".
 use long_stages::arith::round_last;
 use meaning::Shape;
-use transform::line;
 ghost use mathlib.Core.Path.{_≡_};
 ghost use Prim.Native.Nat.{_≤_, _<_};
 ghost use lib.ListN.{length};

@@ -1,0 +1,155 @@
+-- `inverse` meets its contract: the refusals in their order, then the stages. Assumes nothing.
+use borrow.Author.Needs.{needs}
+use native.Mathlib.Omega.{arith}
+use mathlib.Core.Path.{_≡_, sym, ap, _∙_}
+use mathlib.Core.Bool.{true, false}
+use mathlib.Core.List.{List, [], _∷_, _++_}
+use Prim.Native.Nat.{ℕ, _*_, _≤_}
+use native.Mathlib.Nat.{mul-comm, mul-le-mul, mul-le-mul-right}
+use borrow.Author.Tests.{lt-ltb, le-ltb}
+use lib.Dec.{ltb}
+use lib.ListN.{length}
+use Rattle.algebra.specs.Refusals.{Refusal, firstOf, numberOf}
+use Rattle.algebra.proofs.Refusals.{refused-first, passed-first}
+use Rattle.meaning.specs.declared.Answer.{Answer}
+use Rattle.meaning.specs.Answer.{Outcome, refused, accepted, shapeTests, lengthTests}
+use Rattle.meaning.specs.Plan.{planOf}
+use Rattle.meaning.specs.Inverse.{rails, inverseBlock, firstOutside, inverseOutcome}
+use Rattle.meaning.proofs.Cases.{size-in}
+use Rattle.meaning.specs.Taken.{TakenBlock}
+use Rattle.meaning.proofs.Accepted.{block-taken}
+use Rattle.meaning.proofs.KeptPart.{columns-kept, rows-kept}
+use Rattle.layout.specs.Live.{Live}
+use Rattle.layout.specs.Part.{Part}
+use Rattle.layout.proofs.Inside.{live-part, kept-part}
+use Rattle.block.proofs.inverse.Statement.{statement}
+use Rattle.block.proofs.inverse.Tie as tie
+
+-- 1 to 5, 20, 6 and 7, 8, and what a call hands back at either end
+abbrev seven : tie.Start → List Refusal
+seven s = shapeTests (s .args .shape) ++ lengthTests (s .args .shape .width * s .args .shape .height) (length (s .args .coefficients .now)) (length (s .args .residuals .now))
+
+abbrev place : tie.Start → ℕ
+place s = firstOutside (planOf (s .args .shape)) (s .args .coefficients .now)
+
+abbrev eight : tie.Start → List Refusal
+eight s = record { applies = ltb (place s) (length (s .args .coefficients .now)); number = 8; place = place s } ∷ []
+
+abbrev refuse : tie.Start → ℕ → ℕ → Outcome
+refuse s number place = (refused number place, s .args .residuals .now)
+
+abbrev done : tie.Start → Outcome
+done s = (accepted (rails (planOf (s .args .shape)) (s .args .coefficients .now)), inverseBlock (planOf (s .args .shape)) (s .args .coefficients .now))
+
+passed : (c : tie.Else1) → numberOf (seven (c .before .before)) ≡ 0
+passed c = sym (c .before .block-refusal .ensures) ∙ c .if1 .left
+
+past : (c : tie.Else1) → let s = c .before .before in inverseOutcome (s .args .shape) (s .args .coefficients .now) (s .args .residuals .now) ≡ firstOf (eight s) (refuse s) (done s)
+past c = let s = c .before .before in passed-first (eight s) (refuse s) (done s) (seven s) tt (passed c)
+
+taken : (c : tie.Else1) → let s = c .before .before in TakenBlock (s .args .shape) (s .args .coefficients .now) (s .args .residuals .now)
+taken c = let s = c .before .before in block-taken (s .args .shape) (s .args .coefficients .now) (s .args .residuals .now) (passed c)
+
+block-refusal-requires : tie.Need-block-refusal-requires
+block-refusal-requires c κs = search needs
+
+refusal-requires : tie.Need-refusal-requires
+refusal-requires c κs = search needs
+
+returns : tie.Need-returns
+returns c =
+    let s = c .before .before .before in
+    let n = c .before .before .block-refusal .ensures in
+    ap (λ (a : Answer). (a, s .args .residuals .now)) (c .refusal .ensures) ∙ ap (λ (n : ℕ). refuse s n 0) n
+    ∙ sym (refused-first (eight s) (refuse s) (done s) (seven s) tt (λ e. c .before .if1 .taken (n ∙ e)))
+
+-- how much of the block is not zero
+live-rows : (c : tie.After-rows) → let s = c .before .before .before in Live (s .args .coefficients .now) (s .args .shape .width) (s .args .shape .height) (c .rows .result)
+live-rows c = c .rows .ensures
+
+turned : (c : tie.Else1) → let s = c .before .before in length (s .args .coefficients .now) ≡ s .args .shape .height * s .args .shape .width
+turned c = let s = c .before .before in taken c .long ∙ mul-comm (s .args .shape .width) (s .args .shape .height)
+
+live : (c : tie.After-columns) → let s = c .before .before .before .before in Part (s .args .shape .width) (s .args .shape .height) (c .columns .result) (c .before .rows .result) (s .args .coefficients .now)
+live c =
+    let s = c .before .before .before .before in
+    live-part (s .args .shape .width) (s .args .shape .height) (c .columns .result) (c .before .rows .result) (s .args .coefficients .now)
+    (c .columns .ensures .within) (c .before .rows .ensures .within) (c .before .rows .ensures .clear) (c .columns .ensures .clear)
+
+rows-requires : tie.Need-rows-requires
+rows-requires c κs = (taken c .taken .height, turned c)
+
+columns-requires : tie.Need-columns-requires
+columns-requires c κs =
+    let s = c .before .before .before in
+    (taken (c .before) .taken .width, omega (arith, turned (c .before), mul-le-mul-right (s .args .shape .width) (live-rows c .within)))
+
+hunt-requires : tie.Need-hunt-requires
+hunt-requires c κs =
+    let s = c .before .before .before .before in
+    let t = taken (c .before .before) in
+    ((t .long, columns-kept (s .args .shape) (t .taken) .within), live c)
+
+cast-refusal : tie.Need-cast-refusal
+cast-refusal c =
+    let s = c .before .before .before .before .before .before in
+    let w = taken (c .before .before .before .before) in
+    let m : s .args .shape .width * s .args .shape .height ≤ 32 * 32 = mul-le-mul (size-in (s .args .shape .width) (w .taken .width)) (size-in (s .args .shape .height) (w .taken .height)) in
+    omega (arith, c .if2 .taken, w .long)
+
+refusal-requires-2 : tie.Need-refusal-requires-2
+refusal-requires-2 c κs = search needs
+
+returns-2 : tie.Need-returns-2
+returns-2 c =
+    let s = c .before .before .before .before .before .before .before in
+    let h = c .before .before .hunt .ensures in
+    let l : ltb (place s) (length (s .args .coefficients .now)) ≡ true = lt-ltb (place s) (length (s .args .coefficients .now)) (omega (arith, h, c .before .if2 .taken)) in
+    ap (λ (a : Answer). (a, s .args .residuals .now)) (c .refusal2 .ensures) ∙ ap (λ (n : ℕ). refuse s 8 n) h
+    ∙ sym (past (c .before .before .before .before .before) ∙ rw l)
+
+stages-requires : tie.Need-stages-requires
+stages-requires c κs =
+    let C = c .before .before .before in
+    let s = C .before .before .before .before in
+    let w = taken (C .before .before) in
+    record {
+      block = w;
+      size-rows = C .before .rows .ensures .size;
+      size-columns = C .columns .ensures .size;
+      live = live C;
+      kept = kept-part (planOf (s .args .shape)) (s .args .coefficients .now) (w .long) (columns-kept (s .args .shape) (w .taken) .within) (rows-kept (s .args .shape) (w .taken) .within) (omega (arith, c .before .before .hunt .ensures, c .before .if2 .left));
+    }
+
+acceptance-requires : tie.Need-acceptance-requires
+acceptance-requires c κs = search needs
+
+same-length : tie.Need-same-length
+same-length c = search needs
+
+returns-3 : tie.Need-returns-3
+returns-3 c =
+    let s = c .before .before .before .before .before .before .before .before .before .before in
+    let h = c .before .before .before .before .before .hunt .ensures in
+    let l : ltb (place s) (length (s .args .coefficients .now)) ≡ false = le-ltb (place s) (length (s .args .coefficients .now)) (omega (arith, h, c .before .before .before .before .if2 .left)) in
+    let e = c .before .before .stages .ensures in
+    (λ i. (c .acceptance .ensures i, e .1 i)) ∙ ap (λ (n : ℕ). (accepted n, inverseBlock (planOf (s .args .shape)) (s .args .coefficients .now))) (e .0)
+    ∙ sym (past (c .before .before .before .before .before .before .before .before) ∙ rw l)
+
+pub inverse-spec : {M : Type 1} → statement M
+inverse-spec =
+    tie.close
+    (tie.spec
+    block-refusal-requires
+    refusal-requires
+    returns
+    rows-requires
+    columns-requires
+    hunt-requires
+    cast-refusal
+    refusal-requires-2
+    returns-2
+    stages-requires
+    acceptance-requires
+    same-length
+    returns-3)

@@ -1,0 +1,46 @@
+// Blocks, in both directions, over any numbers and any buffers. What they share to refuse a call stands in check, and the work behind
+// them in `inverse_hunt`, `inverse_block`, `forward_hunt` and `forward_block`.
+mod check;
+
+use crate::check::block_refusal;
+use meaning::Answer;
+use meaning::Shape;
+use meaning::acceptance;
+use meaning::refusal;
+ghost use mathlib.Core.Path.{_≡_};
+ghost use Rattle.meaning.specs.Answer.{Outcome};
+ghost use Rattle.meaning.specs.Forward.{forwardOutcome};
+ghost use Rattle.meaning.specs.Inverse.{inverseOutcome};
+
+/// The inverse of a block: residuals from coefficients, with the rail count. Any numbers, any buffers.
+pub fn inverse(shape: Shape, coefficients: &[i16], residuals: &mut [i32]) -> Answer
+    ensures { λ r. ⌜ _≡_ {A = Outcome} (r, now (residuals .exit)) (inverseOutcome shape (now (coefficients .entry)) (now (residuals .entry))) ⌝ }
+{
+    let number = block_refusal(shape, coefficients.len(), residuals.len());
+    if number != 0 {
+        return refusal(number, 0);
+    }
+    let rows = inverse_hunt::live::rows(shape, coefficients);
+    let columns = inverse_hunt::live::columns(shape, rows, coefficients);
+    let place = inverse_hunt::hunt::hunt(shape, columns, rows, coefficients);
+    if place < coefficients.len() {
+        return refusal(8, place as u32);
+    }
+    acceptance(inverse_block::stages::stages(shape, rows, columns, coefficients, residuals))
+}
+
+/// The forward block: residuals to coefficients. Refusals 1 to 5, 20, 6, 7, then 9.
+pub fn forward(shape: Shape, residuals: &[i16], coefficients: &mut [i16]) -> Answer
+    ensures { λ r. ⌜ _≡_ {A = Outcome} (r, now (coefficients .exit)) (forwardOutcome shape (now (residuals .entry)) (now (coefficients .entry))) ⌝ }
+{
+    let number = block_refusal(shape, residuals.len(), coefficients.len());
+    if number != 0 {
+        return refusal(number, 0);
+    }
+    let place = forward_hunt::hunt::first_too_large(shape, residuals);
+    if place < residuals.len() {
+        return refusal(9, place as u32);
+    }
+    forward_block::stages::stages(shape, residuals, coefficients);
+    acceptance(0)
+}

@@ -1,0 +1,42 @@
+-- What the lines ask for, from what a call has passed. Assumes nothing.
+use mathlib.Core.Path.{_≡_, refl, subst}
+use mathlib.Core.Bool.{true, _&&_}
+use mathlib.Core.List.{List}
+use Prim.Native.Nat.{ℕ}
+use borrow.Author.Tests.{ltb-true}
+use lib.Dec.{ltb}
+use lib.IntN.{ℤ}
+use lib.ListN.{length}
+use Rattle.meaning.specs.Shape.{isSize, isKind}
+use Rattle.meaning.specs.Taken.{TakenLine}
+use Rattle.meaning.proofs.Cases.{and-cases, size-cases, kind-cases}
+use Rattle.engine.specs.Lines.{Place}
+use Rattle.folding.specs.Lines as Folded
+use Rattle.folding.specs.Lines.{isShared, isFolded}
+use Rattle.line.specs.Line.{isPlace}
+
+-- a place of a matrix
+pub place : (kind n i j : ℕ) → isPlace kind n i j ≡ true → Place n i j
+place kind n i j e =
+    let k = and-cases (isKind kind) (isSize n && (ltb i n && ltb j n)) e in
+    let s = and-cases (isSize n) (ltb i n && ltb j n) (k .1) in
+    let r = and-cases (ltb i n) (ltb j n) (s .1) in
+    record { size = s .0; row = ltb-true i n (r .0); column = ltb-true j n (r .1) }
+
+-- the lines by halves, of kind 0
+pub halves-given : {n kind a b : ℕ} → TakenLine n kind a b → kind ≡ 0 → TakenLine n 0 a b
+halves-given {n} {kind} {a} {b} p e = subst (λ (k : ℕ). TakenLine n k a b) e p
+
+-- the product of 8 points
+pub eight : {n kind a b : ℕ} → TakenLine n kind a b → n ≡ 8 → TakenLine 8 kind a b
+eight {n} {kind} {a} {b} p e = subst (λ (m : ℕ). TakenLine m kind a b) e p
+
+-- the folded lines, of the other kinds and sizes
+pub folded-given : {n kind : ℕ} {x y : List ℤ} → TakenLine n kind (length x) (length y) → (kind ≡ 0 → ⊥) → (n ≡ 8 → ⊥) → Folded.Given n kind x y
+folded-given {n} {kind} p k d =
+    record {
+      size = size-cases (λ n. (n ≡ 8 → ⊥) → isShared n ≡ true) (λ d. refl) (λ d. absurd (d refl)) (λ d. refl) (λ d. refl) n (p .size) d;
+      known = kind-cases (λ k. (k ≡ 0 → ⊥) → isFolded k ≡ true) (λ k. refl) (λ k. refl) (λ k. absurd (k refl)) kind (p .known) k;
+      inputs = p .long;
+      outputs = p .room;
+    }

@@ -1,0 +1,4 @@
+pub mod ByValue
+pub mod Sixteen
+pub mod FourByFour
+pub mod Unique
