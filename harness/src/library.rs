@@ -114,187 +114,54 @@ pub struct Saved {
     pub stretches: u32,
 }
 
+// Nothing holds these lines to the header or to the Rattle source but the tests. One line each, as in the header.
+#[rustfmt::skip]
 mod c {
     use super::{Answer, Listed, Parts, Picture, Saved, Shape, Taken, Thin, Written};
 
-    // Nothing holds these lines to the header or to the Rattle source but the tests.
     unsafe extern "C" {
-        pub fn hoengtila_shape_of(
-            width: u32,
-            height: u32,
-            horizontal: u32,
-            vertical: u32,
-            depth: u32,
-        ) -> Shape;
+        pub fn hoengtila_shape_of(width: u32, height: u32, horizontal: u32, vertical: u32, depth: u32) -> Shape;
+        pub fn hoengtila_line_forward(n: u32, kind: u32, x: *const i16, x_len: usize, y: *mut i32, y_len: usize) -> Answer;
+        pub fn hoengtila_line_inverse(n: u32, kind: u32, x: *const i16, x_len: usize, y: *mut i32, y_len: usize) -> Answer;
+        pub fn hoengtila_line_forward_product(n: u32, kind: u32, x: *const i16, x_len: usize, y: *mut i32, y_len: usize) -> Answer;
+        pub fn hoengtila_line_inverse_product(n: u32, kind: u32, x: *const i16, x_len: usize, y: *mut i32, y_len: usize) -> Answer;
+        pub fn hoengtila_line_forward_wrapped(n: u32, kind: u32, start: u32, order: *const u32, order_len: usize, x: *const i16, x_len: usize, y: *mut i32, y_len: usize) -> Answer;
+        pub fn hoengtila_line_inverse_wrapped(n: u32, kind: u32, start: u32, order: *const u32, order_len: usize, x: *const i16, x_len: usize, y: *mut i32, y_len: usize) -> Answer;
         pub fn hoengtila_weight(kind: u32, n: u32, i: u32, j: u32) -> i32;
         pub fn hoengtila_stray(kind: u32, n: u32, j: u32) -> u32;
-        pub fn hoengtila_line_forward(
-            n: u32,
-            kind: u32,
-            x: *const i16,
-            x_len: usize,
-            y: *mut i32,
-            y_len: usize,
-        ) -> Answer;
-        pub fn hoengtila_line_inverse(
-            n: u32,
-            kind: u32,
-            x: *const i16,
-            x_len: usize,
-            y: *mut i32,
-            y_len: usize,
-        ) -> Answer;
-        pub fn hoengtila_line_forward_product(
-            n: u32,
-            kind: u32,
-            x: *const i16,
-            x_len: usize,
-            y: *mut i32,
-            y_len: usize,
-        ) -> Answer;
-        pub fn hoengtila_line_inverse_product(
-            n: u32,
-            kind: u32,
-            x: *const i16,
-            x_len: usize,
-            y: *mut i32,
-            y_len: usize,
-        ) -> Answer;
-        pub fn hoengtila_line_forward_wrapped(
-            n: u32,
-            kind: u32,
-            start: u32,
-            order: *const u32,
-            order_len: usize,
-            x: *const i16,
-            x_len: usize,
-            y: *mut i32,
-            y_len: usize,
-        ) -> Answer;
-        pub fn hoengtila_line_inverse_wrapped(
-            n: u32,
-            kind: u32,
-            start: u32,
-            order: *const u32,
-            order_len: usize,
-            x: *const i16,
-            x_len: usize,
-            y: *mut i32,
-            y_len: usize,
-        ) -> Answer;
-        pub fn hoengtila_block_inverse(
-            shape: Shape,
-            coefficients: *const i16,
-            coefficients_len: usize,
-            residuals: *mut i32,
-            residuals_len: usize,
-        ) -> Answer;
-        pub fn hoengtila_block_inverse_long(
-            shape: Shape,
-            extended: u32,
-            coefficients: *const i32,
-            coefficients_len: usize,
-            residuals: *mut i32,
-            residuals_len: usize,
-        ) -> Answer;
-        pub fn hoengtila_block_inverse_thin(
-            shape: Shape,
-            coefficients: *const i16,
-            coefficients_len: usize,
-            first: *mut i32,
-            first_len: usize,
-            second: *mut i32,
-            second_len: usize,
-        ) -> Thin;
-        pub fn hoengtila_block_forward(
-            shape: Shape,
-            residuals: *const i16,
-            residuals_len: usize,
-            coefficients: *mut i16,
-            coefficients_len: usize,
-        ) -> Answer;
-        pub fn hoengtila_block_row(
-            shapes: *const Shape,
-            count: usize,
-            answers: *mut Answer,
-            coefficients: *const i16,
-            coefficients_len: usize,
-            residuals: *mut i32,
-            residuals_len: usize,
-        ) -> u32;
-        pub fn hoengtila_block_why(
-            shape: Shape,
-            coefficients: *const i16,
-            coefficients_len: usize,
-            place: u32,
-        ) -> Parts;
-        pub fn hoengtila_block_why_long(
-            shape: Shape,
-            extended: u32,
-            coefficients: *const i32,
-            coefficients_len: usize,
-            place: u32,
-        ) -> Parts;
-        pub fn hoengtila_steps_run(
-            inputs: u32,
-            cells: u32,
-            steps: *const i32,
-            steps_len: usize,
-            outs: *const i32,
-            outs_len: usize,
-            x: *const i16,
-            x_len: usize,
-            y: *mut i32,
-            y_len: usize,
-        ) -> Taken;
-        pub fn hoengtila_steps_list(
-            n: u32,
-            steps: *mut i32,
-            steps_len: usize,
-            outs: *mut i32,
-            outs_len: usize,
-        ) -> Listed;
-        pub fn hoengtila_steps_forward(
-            n: u32,
-            x: *const i16,
-            x_len: usize,
-            y: *mut i32,
-            y_len: usize,
-        ) -> Taken;
-        pub fn hoengtila_picture_write(
-            width: u32,
-            height: u32,
-            residuals: *const i32,
-            residuals_len: usize,
-            file: *mut u8,
-            file_len: usize,
-        ) -> Written;
-        pub fn hoengtila_picture_read(
-            file: *const u8,
-            file_len: usize,
-            residuals: *mut i32,
-            residuals_len: usize,
-        ) -> Picture;
-        pub fn hoengtila_salvage(
-            file: *const u8,
-            file_len: usize,
-            out: *mut u8,
-            out_len: usize,
-            list: *mut u32,
-            list_len: usize,
-        ) -> Saved;
+        pub fn hoengtila_block_inverse(shape: Shape, coefficients: *const i16, coefficients_len: usize, residuals: *mut i32, residuals_len: usize) -> Answer;
+        pub fn hoengtila_block_forward(shape: Shape, residuals: *const i16, residuals_len: usize, coefficients: *mut i16, coefficients_len: usize) -> Answer;
+        pub fn hoengtila_block_row(shapes: *const Shape, count: usize, answers: *mut Answer, coefficients: *const i16, coefficients_len: usize, residuals: *mut i32, residuals_len: usize) -> u32;
+        pub fn hoengtila_block_inverse_long(shape: Shape, extended: u32, coefficients: *const i32, coefficients_len: usize, residuals: *mut i32, residuals_len: usize) -> Answer;
+        pub fn hoengtila_block_inverse_thin(shape: Shape, coefficients: *const i16, coefficients_len: usize, first: *mut i32, first_len: usize, second: *mut i32, second_len: usize) -> Thin;
+        pub fn hoengtila_block_why(shape: Shape, coefficients: *const i16, coefficients_len: usize, place: u32) -> Parts;
+        pub fn hoengtila_block_why_long(shape: Shape, extended: u32, coefficients: *const i32, coefficients_len: usize, place: u32) -> Parts;
         pub fn hoengtila_report_clear(totals: *mut [u64; 578]);
-        pub fn hoengtila_report_add(
-            totals: *mut [u64; 578],
-            shape: Shape,
-            residuals: *const i16,
-            residuals_len: usize,
-        ) -> Answer;
+        pub fn hoengtila_report_add(totals: *mut [u64; 578], shape: Shape, residuals: *const i16, residuals_len: usize) -> Answer;
+        pub fn hoengtila_picture_write(width: u32, height: u32, residuals: *const i32, residuals_len: usize, file: *mut u8, file_len: usize) -> Written;
+        pub fn hoengtila_picture_read(file: *const u8, file_len: usize, residuals: *mut i32, residuals_len: usize) -> Picture;
+        pub fn hoengtila_salvage(file: *const u8, file_len: usize, out: *mut u8, out_len: usize, list: *mut u32, list_len: usize) -> Saved;
+        pub fn hoengtila_steps_run(inputs: u32, cells: u32, steps: *const i32, steps_len: usize, outs: *const i32, outs_len: usize, x: *const i16, x_len: usize, y: *mut i32, y_len: usize) -> Taken;
+        pub fn hoengtila_steps_list(n: u32, steps: *mut i32, steps_len: usize, outs: *mut i32, outs_len: usize) -> Listed;
+        pub fn hoengtila_steps_forward(n: u32, x: *const i16, x_len: usize, y: *mut i32, y_len: usize) -> Taken;
     }
 }
 
 // SAFETY, for every call below: a slice's pointer is valid for its length, also where that is 0, and a `&mut` slice
 // overlaps no other. The library owes the rest for any numbers.
+
+/// A call of C: its numbers; then the slices that it reads; then those that it writes. A slice crosses as its pointer and its length.
+macro_rules! call {
+    (c::$function:ident($($number:expr),*; $($read:ident),*; $($written:ident),*)) => {
+        unsafe {
+            c::$function(
+                $($number,)*
+                $($read.as_ptr(), $read.len(),)*
+                $($written.as_mut_ptr(), $written.len(),)*
+            )
+        }
+    };
+}
 
 /// The weight of row `i` in column `j` at `n` points; 0 outside.
 #[inline]
@@ -311,29 +178,25 @@ pub fn stray(kind: u32, n: u32, j: u32) -> u32 {
 /// The forward line of `n` points, by the fast path.
 #[inline]
 pub fn line_forward(n: u32, kind: u32, x: &[i16], y: &mut [i32]) -> Answer {
-    unsafe { c::hoengtila_line_forward(n, kind, x.as_ptr(), x.len(), y.as_mut_ptr(), y.len()) }
+    call!(c::hoengtila_line_forward(n, kind; x; y))
 }
 
 /// The inverse line of `n` points, by the fast path.
 #[inline]
 pub fn line_inverse(n: u32, kind: u32, x: &[i16], y: &mut [i32]) -> Answer {
-    unsafe { c::hoengtila_line_inverse(n, kind, x.as_ptr(), x.len(), y.as_mut_ptr(), y.len()) }
+    call!(c::hoengtila_line_inverse(n, kind; x; y))
 }
 
 /// The forward line of `n` points, by the full matrix product.
 #[inline]
 pub fn line_forward_product(n: u32, kind: u32, x: &[i16], y: &mut [i32]) -> Answer {
-    unsafe {
-        c::hoengtila_line_forward_product(n, kind, x.as_ptr(), x.len(), y.as_mut_ptr(), y.len())
-    }
+    call!(c::hoengtila_line_forward_product(n, kind; x; y))
 }
 
 /// The inverse line of `n` points, by the full matrix product.
 #[inline]
 pub fn line_inverse_product(n: u32, kind: u32, x: &[i16], y: &mut [i32]) -> Answer {
-    unsafe {
-        c::hoengtila_line_inverse_product(n, kind, x.as_ptr(), x.len(), y.as_mut_ptr(), y.len())
-    }
+    call!(c::hoengtila_line_inverse_product(n, kind; x; y))
 }
 
 /// The forward line of `n` points by adders of 32 bits that wrap: its products in the order given, from the number `start`.
@@ -346,19 +209,7 @@ pub fn line_forward_wrapped(
     x: &[i16],
     y: &mut [i32],
 ) -> Answer {
-    unsafe {
-        c::hoengtila_line_forward_wrapped(
-            n,
-            kind,
-            start,
-            order.as_ptr(),
-            order.len(),
-            x.as_ptr(),
-            x.len(),
-            y.as_mut_ptr(),
-            y.len(),
-        )
-    }
+    call!(c::hoengtila_line_forward_wrapped(n, kind, start; order, x; y))
 }
 
 /// The inverse line of `n` points by adders of 32 bits that wrap: its products in the order given, from the number `start`.
@@ -371,34 +222,13 @@ pub fn line_inverse_wrapped(
     x: &[i16],
     y: &mut [i32],
 ) -> Answer {
-    unsafe {
-        c::hoengtila_line_inverse_wrapped(
-            n,
-            kind,
-            start,
-            order.as_ptr(),
-            order.len(),
-            x.as_ptr(),
-            x.len(),
-            y.as_mut_ptr(),
-            y.len(),
-        )
-    }
+    call!(c::hoengtila_line_inverse_wrapped(n, kind, start; order, x; y))
 }
 
 /// The residuals of a block of coefficients, which stand row by row.
 #[inline]
 pub fn block_inverse(shape: Shape, coefficients: &[i16], residuals: &mut [i32]) -> Answer {
-    let (input, output) = (coefficients, residuals);
-    unsafe {
-        c::hoengtila_block_inverse(
-            shape,
-            input.as_ptr(),
-            input.len(),
-            output.as_mut_ptr(),
-            output.len(),
-        )
-    }
+    call!(c::hoengtila_block_inverse(shape; coefficients; residuals))
 }
 
 /// The residuals of a block of long coefficients; `extended` is the extended-precision switch.
@@ -409,17 +239,7 @@ pub fn block_inverse_long(
     coefficients: &[i32],
     residuals: &mut [i32],
 ) -> Answer {
-    let (input, output) = (coefficients, residuals);
-    unsafe {
-        c::hoengtila_block_inverse_long(
-            shape,
-            u32::from(extended),
-            input.as_ptr(),
-            input.len(),
-            output.as_mut_ptr(),
-            output.len(),
-        )
-    }
+    call!(c::hoengtila_block_inverse_long(shape, u32::from(extended); coefficients; residuals))
 }
 
 /// The residuals of a block of coefficients of which one side may be 1: at the start of the area that is told, of two.
@@ -430,33 +250,13 @@ pub fn block_inverse_thin(
     first: &mut [i32],
     second: &mut [i32],
 ) -> Thin {
-    let input = coefficients;
-    unsafe {
-        c::hoengtila_block_inverse_thin(
-            shape,
-            input.as_ptr(),
-            input.len(),
-            first.as_mut_ptr(),
-            first.len(),
-            second.as_mut_ptr(),
-            second.len(),
-        )
-    }
+    call!(c::hoengtila_block_inverse_thin(shape; coefficients; first, second))
 }
 
 /// The coefficients of a block of residuals, which stand row by row.
 #[inline]
 pub fn block_forward(shape: Shape, residuals: &[i16], coefficients: &mut [i16]) -> Answer {
-    let (input, output) = (residuals, coefficients);
-    unsafe {
-        c::hoengtila_block_forward(
-            shape,
-            input.as_ptr(),
-            input.len(),
-            output.as_mut_ptr(),
-            output.len(),
-        )
-    }
+    call!(c::hoengtila_block_forward(shape; residuals; coefficients))
 }
 
 /// The residuals of a row of blocks, of which the first `count` shapes tell; an answer for each of them, or the number of
@@ -469,18 +269,8 @@ pub fn block_row(
     coefficients: &[i16],
     residuals: &mut [i32],
 ) -> u32 {
-    let (input, output) = (coefficients, residuals);
-    unsafe {
-        c::hoengtila_block_row(
-            shapes.as_ptr(),
-            count,
-            answers.as_mut_ptr(),
-            input.as_ptr(),
-            input.len(),
-            output.as_mut_ptr(),
-            output.len(),
-        )
-    }
+    let (shapes, answers) = (shapes.as_ptr(), answers.as_mut_ptr());
+    call!(c::hoengtila_block_row(shapes, count, answers; coefficients; residuals))
 }
 
 /// The same of as many blocks as there are shapes, and an answer for each, as far as there is room for answers.
@@ -530,86 +320,38 @@ pub fn steps_run(
     x: &[i16],
     y: &mut [i32],
 ) -> Taken {
-    unsafe {
-        c::hoengtila_steps_run(
-            inputs,
-            cells,
-            steps.as_ptr(),
-            steps.len(),
-            outs.as_ptr(),
-            outs.len(),
-            x.as_ptr(),
-            x.len(),
-            y.as_mut_ptr(),
-            y.len(),
-        )
-    }
+    call!(c::hoengtila_steps_run(inputs, cells; steps, outs, x; y))
 }
 
 /// The forward DST-VII of `n` points as a list of steps, into buffers of its lengths.
 #[inline]
 pub fn steps_list(n: u32, steps: &mut [i32], outs: &mut [i32]) -> Listed {
-    unsafe {
-        c::hoengtila_steps_list(
-            n,
-            steps.as_mut_ptr(),
-            steps.len(),
-            outs.as_mut_ptr(),
-            outs.len(),
-        )
-    }
+    call!(c::hoengtila_steps_list(n;; steps, outs))
 }
 
 /// The forward DST-VII of `n` points by its list of steps.
 #[inline]
 pub fn steps_forward(n: u32, x: &[i16], y: &mut [i32]) -> Taken {
-    unsafe { c::hoengtila_steps_forward(n, x.as_ptr(), x.len(), y.as_mut_ptr(), y.len()) }
+    call!(c::hoengtila_steps_forward(n; x; y))
 }
 
 /// A block of residuals, which stand row by row, as a graymap at the start of `file`.
 #[inline]
 pub fn picture_write(width: u32, height: u32, residuals: &[i32], file: &mut [u8]) -> Written {
-    let (input, output) = (residuals, file);
-    unsafe {
-        c::hoengtila_picture_write(
-            width,
-            height,
-            input.as_ptr(),
-            input.len(),
-            output.as_mut_ptr(),
-            output.len(),
-        )
-    }
+    call!(c::hoengtila_picture_write(width, height; residuals; file))
 }
 
 /// The residuals of a graymap, row by row.
 #[inline]
 pub fn picture_read(file: &[u8], residuals: &mut [i32]) -> Picture {
-    let (input, output) = (file, residuals);
-    unsafe {
-        c::hoengtila_picture_read(
-            input.as_ptr(),
-            input.len(),
-            output.as_mut_ptr(),
-            output.len(),
-        )
-    }
+    call!(c::hoengtila_picture_read(; file; residuals))
 }
 
 /// What can be saved of a broken block file, at the start of `out`; each dropped stretch, its offset and its length, at the start
 /// of `list`, which has two numbers to a place.
 #[inline]
 pub fn salvage(file: &[u8], out: &mut [u8], list: &mut [u32]) -> Saved {
-    unsafe {
-        c::hoengtila_salvage(
-            file.as_ptr(),
-            file.len(),
-            out.as_mut_ptr(),
-            out.len(),
-            list.as_mut_ptr(),
-            list.len(),
-        )
-    }
+    call!(c::hoengtila_salvage(; file; out, list))
 }
 
 /// Makes totals those of no blocks.
@@ -621,5 +363,5 @@ pub fn report_clear(totals: &mut [u64; 578]) {
 /// Runs a block of residuals, which stand row by row, forward and back, and counts it in the totals.
 #[inline]
 pub fn report_add(totals: &mut [u64; 578], shape: Shape, residuals: &[i16]) -> Answer {
-    unsafe { c::hoengtila_report_add(totals, shape, residuals.as_ptr(), residuals.len()) }
+    call!(c::hoengtila_report_add(totals, shape; residuals;))
 }
