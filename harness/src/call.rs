@@ -1,7 +1,11 @@
-//! A call of the library as a value, so that one list of calls can go to the linked library, to a peer or to the model.
+//! A call of a line or a block as a value, and of the functions that take numbers alone.
 
 use crate::library::{Answer, Shape};
 use crate::model;
+use crate::peer::{Replies, Request};
+use crate::subject::{Answered, Asked};
+use crate::widths::{most_kept, narrow, number, shape_numbers, wide};
+use std::io;
 
 /// Which function of the header, with its numbers.
 #[derive(Clone, Copy, Debug, PartialEq, Eq)]
@@ -63,6 +67,34 @@ pub struct Call {
     pub held: Vec<i32>,
 }
 
+impl Call {
+    pub fn new(what: What, input: Vec<i16>, held: Vec<i32>) -> Call {
+        Call {
+            what,
+            order: vec![],
+            input,
+            held,
+        }
+    }
+
+    /// A call that is handed numbers alone.
+    pub fn of(what: What) -> Call {
+        Call::new(what, vec![], vec![])
+    }
+
+    pub fn weight(kind: u32, n: u32, i: u32, j: u32) -> Call {
+        Call::of(What::Weight { kind, n, i, j })
+    }
+
+    pub fn stray(kind: u32, n: u32, j: u32) -> Call {
+        Call::of(What::Stray { kind, n, j })
+    }
+
+    fn held_shorts(&self) -> Vec<i16> {
+        narrow(&wide(&self.held))
+    }
+}
+
 /// What a call hands back, and what its output holds then. A weight, or a D, is an output of one number, a shape one of seven.
 #[derive(Clone, Debug, PartialEq, Eq)]
 pub struct Outcome {
@@ -71,70 +103,47 @@ pub struct Outcome {
 }
 
 impl Outcome {
-    pub fn of_weight(weight: i32) -> Outcome {
-        Outcome::of_numbers(vec![weight])
-    }
-
-    pub fn of_shape(shape: Shape) -> Outcome {
-        Outcome::of_numbers(shape_numbers(&shape).map(|n| n as i32).to_vec())
-    }
-
     /// Of a call that hands back no answer.
-    pub fn of_numbers(output: Vec<i32>) -> Outcome {
-        Outcome {
-            answer: Answer {
-                number: 0,
-                place: 0,
-                rails: 0,
-            },
-            output,
-        }
+    fn of_numbers(output: Vec<i32>) -> Outcome {
+        let answer = Answer::default();
+        Outcome { answer, output }
+    }
+
+    fn of_shape(shape: &Shape) -> Outcome {
+        Outcome::of_numbers(shape_numbers(shape).map(|n| n as i32).to_vec())
+    }
+
+    /// An answer, and an output of so many numbers of 32 bits.
+    pub fn read(replies: &mut Replies, count: usize) -> io::Result<Outcome> {
+        Ok(Outcome {
+            answer: replies.answer()?,
+            output: replies.numbers(count)?,
+        })
     }
 }
 
-/// In the header's order.
-pub fn shape_numbers(shape: &Shape) -> [u32; 7] {
-    [
-        shape.width,
-        shape.height,
-        shape.horizontal,
-        shape.vertical,
-        shape.depth,
-        shape.columns,
-        shape.rows,
-    ]
+impl Answered for Outcome {
+    fn number(&self) -> u32 {
+        self.answer.number
+    }
+
+    fn count(&self) -> usize {
+        self.output.len()
+    }
 }
 
-impl Call {
-    pub fn weight(kind: u32, n: u32, i: u32, j: u32) -> Call {
-        Call::of(What::Weight { kind, n, i, j })
-    }
+impl Asked for Call {
+    type Outcome = Outcome;
 
-    /// A call that is handed numbers alone.
-    pub fn of(what: What) -> Call {
-        Call {
-            what,
-            order: vec![],
-            input: vec![],
-            held: vec![],
-        }
-    }
-
-    pub fn stray(kind: u32, n: u32, j: u32) -> Call {
-        Call::of(What::Stray { kind, n, j })
-    }
-
-    /// What the model says of this call.
-    pub fn by_model(&self) -> Outcome {
-        let input: Vec<i64> = self.input.iter().map(|&z| z.into()).collect();
-        let mut output: Vec<i64> = self.held.iter().map(|&z| z.into()).collect();
+    fn by_model(&self) -> Outcome {
+        let (input, mut output) = (wide(&self.input), wide(&self.held));
         let answer = match self.what {
-            What::ShapeOf(numbers) => return Outcome::of_shape(most_kept(numbers)),
+            What::ShapeOf(numbers) => return Outcome::of_shape(&most_kept(numbers)),
             What::Weight { kind, n, i, j } => {
-                return Outcome::of_weight(narrow(model_weight(kind, n, i, j)))
+                return Outcome::of_numbers(vec![model_weight(kind, n, i, j)])
             }
             What::Stray { kind, n, j } => {
-                return Outcome::of_weight(narrow(model_stray(kind, n, j)))
+                return Outcome::of_numbers(vec![model_stray(kind, n, j)])
             }
             What::Line { path, n, kind } => {
                 let line = match path {
@@ -146,88 +155,151 @@ impl Call {
             What::Wrapped {
                 forward, n, kind, ..
             } => {
-                let order: Vec<i64> = self.order.iter().map(|&k| k.into()).collect();
                 let line = if forward {
                     model::forward_wrapped
                 } else {
                     model::inverse_wrapped
                 };
-                line(n.into(), kind.into(), &order, &input, &mut output)
+                line(
+                    n.into(),
+                    kind.into(),
+                    &wide(&self.order),
+                    &input,
+                    &mut output,
+                )
             }
             What::Inverse(shape) => model::inverse(&shape.into(), &input, &mut output),
             What::Forward(shape) => model::forward(&shape.into(), &input, &mut output),
         };
         Outcome {
             answer: answer.into(),
-            output: output.into_iter().map(narrow).collect(),
+            output: narrow(&output),
         }
+    }
+
+    #[cfg(hoengtila_linked)]
+    fn by_library(&self) -> Outcome {
+        use crate::library;
+        let (input, mut output) = (&self.input, self.held.clone());
+        let answer = match self.what {
+            What::ShapeOf([w, h, x, y, d]) => return Outcome::of_shape(&Shape::new(w, h, x, y, d)),
+            What::Weight { kind, n, i, j } => {
+                return Outcome::of_numbers(vec![library::weight(kind, n, i, j)])
+            }
+            What::Stray { kind, n, j } => {
+                return Outcome::of_numbers(vec![library::stray(kind, n, j) as i32])
+            }
+            What::Line { path, n, kind } => linked_line(path)(n, kind, input, &mut output),
+            What::Wrapped {
+                forward,
+                n,
+                kind,
+                start,
+            } => {
+                let line = if forward {
+                    library::line_forward_wrapped
+                } else {
+                    library::line_inverse_wrapped
+                };
+                line(n, kind, start, &self.order, input, &mut output)
+            }
+            What::Inverse(shape) => library::block_inverse(shape, input, &mut output),
+            What::Forward(shape) => {
+                let mut short = self.held_shorts();
+                let answer = library::block_forward(shape, input, &mut short);
+                output = short.into_iter().map(i32::from).collect();
+                answer
+            }
+        };
+        Outcome { answer, output }
+    }
+
+    fn request(&self) -> Request {
+        let request = Request::of(name(&self.what));
+        let lengths = [self.input.len(), self.held.len()];
+        let request = match self.what {
+            What::ShapeOf(numbers) => return request.numbers(&numbers),
+            What::Weight { kind, n, i, j } => return request.numbers(&[kind, n, i, j]),
+            What::Stray { kind, n, j } => return request.numbers(&[kind, n, j]),
+            What::Line { n, kind, .. } => request.numbers(&[n, kind]).lengths(&lengths),
+            What::Wrapped { n, kind, start, .. } => request
+                .numbers(&[n, kind, start])
+                .lengths(&[self.order.len()])
+                .lengths(&lengths)
+                .numbers(&self.order),
+            What::Inverse(shape) | What::Forward(shape) => request.shape(&shape).lengths(&lengths),
+        };
+        let request = request.numbers(&self.input);
+        match self.what {
+            What::Forward(_) => request.numbers(&self.held_shorts()),
+            _ => request.numbers(&self.held),
+        }
+    }
+
+    fn reply(&self, replies: &mut Replies) -> io::Result<Outcome> {
+        match self.what {
+            What::Weight { .. } | What::Stray { .. } => {
+                Ok(Outcome::of_numbers(replies.numbers(1)?))
+            }
+            What::ShapeOf(_) => Ok(Outcome::of_numbers(replies.numbers(7)?)),
+            What::Forward(_) => {
+                let answer = replies.answer()?;
+                let output: Vec<i16> = replies.numbers(self.held.len())?;
+                let output = output.into_iter().map(i32::from).collect();
+                Ok(Outcome { answer, output })
+            }
+            _ => Outcome::read(replies, self.held.len()),
+        }
+    }
+}
+
+/// The call's name in `peer/peer.c`.
+fn name(what: &What) -> u32 {
+    match what {
+        What::Weight { .. } => 0,
+        What::Line { path, .. } => match path {
+            Path::Forward => 1,
+            Path::Inverse => 2,
+            Path::ForwardProduct => 3,
+            Path::InverseProduct => 4,
+        },
+        What::Inverse(_) => 5,
+        What::Forward(_) => 6,
+        What::ShapeOf(_) => 7,
+        What::Wrapped { forward: true, .. } => 900,
+        What::Wrapped { forward: false, .. } => 901,
+        What::Stray { .. } => 1300,
+    }
+}
+
+#[cfg(hoengtila_linked)]
+fn linked_line(path: Path) -> fn(u32, u32, &[i16], &mut [i32]) -> Answer {
+    use crate::library;
+    match path {
+        Path::Forward => library::line_forward,
+        Path::Inverse => library::line_inverse,
+        Path::ForwardProduct => library::line_forward_product,
+        Path::InverseProduct => library::line_inverse_product,
     }
 }
 
 /// The header: "The weight of row i in column j at n points; 0 outside."
-fn model_weight(kind: u32, n: u32, i: u32, j: u32) -> i64 {
-    let inside = model::call::is_kind(kind.into()) && model::call::is_size(n.into());
-    if inside && i < n && j < n {
-        model::weights::weight(kind.into(), n as usize, i as usize, j as usize)
-    } else {
-        0
+fn model_weight(kind: u32, n: u32, i: u32, j: u32) -> i32 {
+    if !has_lines(kind, n) || i >= n || j >= n {
+        return 0;
     }
+    let [i, j] = [i, j].map(|k| k as usize);
+    number(model::weights::weight(kind.into(), n as usize, i, j))
 }
 
-fn model_stray(kind: u32, n: u32, j: u32) -> i64 {
-    let inside = model::call::is_kind(kind.into()) && model::call::is_size(n.into());
-    if inside && j < n {
-        model::line::stray(kind.into(), n as usize, j as usize)
-    } else {
-        0
+/// The header: "0 outside".
+fn model_stray(kind: u32, n: u32, j: u32) -> i32 {
+    if !has_lines(kind, n) || j >= n {
+        return 0;
     }
+    number(model::line::stray(kind.into(), n as usize, j as usize))
 }
 
-/// The scope says that no sum leaves 32 bits; the model, on 64, would show it.
-fn narrow(z: i64) -> i32 {
-    i32::try_from(z).expect("the model's number leaves 32 bits")
-}
-
-/// A shape that keeps the most, by the model: tests that reach the library through a peer cannot call it here.
-pub fn most_kept(numbers: [u32; 5]) -> Shape {
-    let [width, height, horizontal, vertical, depth] = numbers;
-    let most = |kind: u32, n: u32| model::call::most(kind.into(), n.into()) as u32;
-    Shape {
-        width,
-        height,
-        horizontal,
-        vertical,
-        depth,
-        columns: most(horizontal, width),
-        rows: most(vertical, height),
-    }
-}
-
-impl From<Shape> for model::Shape {
-    fn from(shape: Shape) -> model::Shape {
-        let [width, height, horizontal, vertical, depth, columns, rows] =
-            shape_numbers(&shape).map(i64::from);
-        model::Shape::new(width, height, horizontal, vertical, depth).keeping(columns, rows)
-    }
-}
-
-impl From<Answer> for model::Answer {
-    fn from(answer: Answer) -> model::Answer {
-        model::Answer {
-            number: answer.number.into(),
-            place: answer.place.into(),
-            rails: answer.rails.into(),
-        }
-    }
-}
-
-impl From<model::Answer> for Answer {
-    fn from(answer: model::Answer) -> Answer {
-        let number = |z: i64| u32::try_from(z).expect("an answer's number is of 32 bits");
-        Answer {
-            number: number(answer.number),
-            place: number(answer.place),
-            rails: number(answer.rails),
-        }
-    }
+fn has_lines(kind: u32, n: u32) -> bool {
+    model::call::is_kind(kind.into()) && model::call::is_size(n.into())
 }

@@ -1,8 +1,9 @@
 //! Runs calls on the library and on the model and compares what comes back, number by number.
 
-use crate::call::{Call, Outcome};
+use crate::call::Call;
 use crate::random::{seed, Random, SEED_VARIABLE};
-use crate::subject::Subject;
+use crate::subject::{Answered, Asked, Subject};
+use std::collections::BTreeMap;
 use std::time::Instant;
 
 /// So many calls go to the library at once: enough to keep a pipe busy.
@@ -16,16 +17,18 @@ pub struct Comparison {
     waiting: Vec<Call>,
     calls: usize,
     numbers: usize,
-    /// how often each number was handed back, and how many values stood at a rail
-    pub met: [usize; 32],
-    pub rails: u64,
+    /// how often each number was handed back
+    met: BTreeMap<u32, usize>,
     started: Instant,
 }
 
 impl Comparison {
     /// Fails where there is no library to compare with.
     pub fn open(title: &'static str) -> Comparison {
-        let subject = Subject::open().expect("no library is linked and no peer is named");
+        Comparison::of(Subject::open(), title)
+    }
+
+    pub fn of(subject: Subject, title: &'static str) -> Comparison {
         Comparison {
             random: Random::new(seed()),
             subject,
@@ -33,13 +36,12 @@ impl Comparison {
             waiting: vec![],
             calls: 0,
             numbers: 0,
-            met: [0; 32],
-            rails: 0,
+            met: BTreeMap::new(),
             started: Instant::now(),
         }
     }
 
-    /// Has the call compared, at the latest when this is closed.
+    /// Has a line or a block compared, at the latest when this is closed: there are so many of them that they go many at once.
     pub fn add(&mut self, call: Call) {
         self.waiting.push(call);
         if self.waiting.len() == AT_ONCE {
@@ -47,12 +49,16 @@ impl Comparison {
         }
     }
 
-    /// What the library makes of one call, compared with the model at once.
-    pub fn outcome(&mut self, call: Call) -> Outcome {
-        self.compare_waiting();
-        let outcome = self.subject.run(std::slice::from_ref(&call)).remove(0);
-        self.compare(&call, &outcome);
+    /// What the library makes of a call, compared with the model at once.
+    pub fn outcome<C: Asked>(&mut self, call: &C) -> C::Outcome {
+        let outcome = self.subject.ask(call);
+        self.compare(call, &outcome);
         outcome
+    }
+
+    /// What the library makes of a call that is not compared here.
+    pub fn other<C: Asked>(&mut self, call: &C) -> C::Outcome {
+        self.subject.ask(call)
     }
 
     fn compare_waiting(&mut self) {
@@ -62,94 +68,64 @@ impl Comparison {
         }
     }
 
-    fn compare(&mut self, call: &Call, found: &Outcome) {
-        if let Some(difference) = difference(&call.by_model(), found) {
-            let Call {
-                what,
-                order,
-                input,
-                held,
-            } = call;
-            panic!(
-                "{}: {what:?}: {difference}\norder {order:?}\ninput {input:?}\noutput before {held:?}\n{SEED_VARIABLE}={}",
-                self.title,
-                seed()
-            );
-        }
+    fn compare<C: Asked>(&mut self, call: &C, found: &C::Outcome) {
+        let wanted = call.by_model();
+        assert!(
+            wanted == *found,
+            "{}: {call:?}: {found:?} and not {wanted:?}\n{SEED_VARIABLE}={}",
+            self.title,
+            seed()
+        );
         self.calls += 1;
-        self.numbers += found.output.len();
-        self.met[found.answer.number as usize] += 1;
-        self.rails += u64::from(found.answer.rails);
+        self.numbers += found.count();
+        *self.met.entry(found.number()).or_default() += 1;
     }
 
-    /// The numbers that were handed back.
-    pub fn numbers(&self) -> Vec<u32> {
-        (0..32).filter(|n| self.met[*n as usize] > 0).collect()
-    }
-
-    /// Whether no call was turned down.
-    pub fn all_taken(&self) -> bool {
-        self.met[1..].iter().all(|count| *count == 0)
-    }
-
-    /// Compares what is left, and says how much there was.
-    pub fn close(mut self) -> Comparison {
+    /// Compares what is left, says how much there was, and that these numbers were met and no others.
+    pub fn close(mut self, numbers: &[u32]) {
         self.compare_waiting();
-        self.subject
-            .say(self.title, self.started, self.calls, self.numbers);
-        self
+        eprintln!(
+            "compared: {}: {} numbers in {} calls, {:.1} s ({}, {SEED_VARIABLE}={})",
+            self.title,
+            self.numbers,
+            self.calls,
+            self.started.elapsed().as_secs_f64(),
+            self.subject.name(),
+            seed()
+        );
+        let met: Vec<u32> = self.met.into_keys().collect();
+        assert_eq!(met, numbers, "the numbers that were met");
     }
-}
-
-/// Where two outcomes differ first.
-fn difference(wanted: &Outcome, found: &Outcome) -> Option<String> {
-    if wanted.answer != found.answer {
-        return Some(format!("{:?} and not {:?}", found.answer, wanted.answer));
-    }
-    if wanted.output.len() != found.output.len() {
-        return Some("another number of numbers".to_string());
-    }
-    let pairs = wanted.output.iter().zip(&found.output);
-    let place = pairs.clone().position(|(w, f)| w != f)?;
-    let (w, f) = (wanted.output[place], found.output[place]);
-    Some(format!("{f} and not {w} at place {place} of the output"))
 }
 
 #[cfg(test)]
 mod tests {
     use super::*;
-    use crate::library::Answer;
-
-    fn outcome() -> Outcome {
-        Outcome {
-            answer: Answer {
-                number: 8,
-                place: 2,
-                rails: 1,
-            },
-            output: vec![1, 2, 3],
-        }
-    }
-
-    #[test]
-    fn equal_outcomes_do_not_differ() {
-        assert_eq!(difference(&outcome(), &outcome()), None);
-    }
+    use crate::call::{Outcome, What};
+    use crate::widths::most_kept;
+    use std::panic::{catch_unwind, AssertUnwindSafe};
 
     /// A comparison that overlooked a part of the outcome would pass whatever the library did there.
     #[test]
     fn every_part_of_an_outcome_counts() {
+        let what = What::Inverse(most_kept([4, 4, 1, 1, 10]));
+        let call = Call::new(what, vec![32767; 16], vec![7; 16]);
+        let agrees = |found: &Outcome| {
+            let mut c = Comparison::of(Subject::Model, "a block that is clipped");
+            catch_unwind(AssertUnwindSafe(|| c.compare(&call, found))).is_ok()
+        };
+        assert!(agrees(&call.by_model()));
         let changes: [fn(&mut Outcome); 5] = [
-            |o| o.answer.number = 0,
+            |o| o.answer.number = 8,
             |o| o.answer.place = 3,
             |o| o.answer.rails = 0,
-            |o| o.output[2] = -3,
+            |o| o.output[2] += 1,
             |o| o.output.truncate(2),
         ];
         for change in changes {
-            let mut other = outcome();
+            let mut other = call.by_model();
             change(&mut other);
-            assert!(difference(&outcome(), &other).is_some());
+            assert!(!agrees(&other));
         }
     }
 }

@@ -5,8 +5,9 @@
 //! `random` makes the cases, the same ones for the same seed; `patterns`, `folding` and `wrong` know which are hard, `files`
 //! has block files, and `steps` makes the lists of steps that the crates store.
 //! `header` has what the C header says of refusals.
-//! `library` is the library for Rust callers, `peer` the library behind a pipe; `call`, `row_call`, `step_call`, `long_call`, `thin_call`,
-//! `why_call` and `subject` let a test run the same calls on either, and `compare` and `tally` hold what comes back to the model.
+//! `library` is the library for Rust callers, `peer` the library behind a pipe; `call`, `row_call`, `step_call`, `long_call`, `thin_call`
+//! and `why_call` have calls as values, which `subject` runs on either, and `compare` holds what comes back to the model. `widths` goes
+//! between the library's numbers and the model's.
 
 pub mod call;
 pub mod compare;
@@ -24,7 +25,7 @@ pub mod row_call;
 pub mod step_call;
 pub mod steps;
 pub mod subject;
-pub mod tally;
 pub mod thin_call;
 pub mod why_call;
+pub mod widths;
 pub mod wrong;

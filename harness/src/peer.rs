@@ -1,25 +1,24 @@
-//! The library behind a pipe: `peer/peer.c`, linked with the archive, answers requests on its standard input. A machine
+//! The library behind a pipe: a program of `peer/`, linked with the archive, answers requests on its standard input. A machine
 //! that cannot link the archive runs it under an emulator.
 //!
-//! A request is the call's name as one number and its arguments, a reply what the call hands back and what its output
-//! then holds; the little end first.
+//! A request is the call's name as one number and its arguments, a reply what the call hands back and what its outputs
+//! then hold; the little end first.
 
-use crate::call::{shape_numbers, Call, Outcome, Path, What};
-use crate::library::Answer;
-use std::io::{BufReader, Read, Write};
-use std::process::{Child, ChildStdin, ChildStdout, Command, Stdio};
+use crate::library::{Answer, Shape};
+use crate::subject::Asked;
+use crate::widths::shape_numbers;
+use std::io::{self, BufReader, Read, Write};
+use std::process::{Child, ChildStdin, ChildStdout, Command, ExitStatus, Stdio};
 use std::thread;
-
-/// The environment variable that gives the peer's command line, its words parted by spaces.
-pub const PEER_VARIABLE: &str = "HOENGTILA_PEER";
 
 pub struct Peer {
     child: Child,
     requests: Option<ChildStdin>,
-    replies: BufReader<ChildStdout>,
+    replies: Replies,
 }
 
 impl Peer {
+    /// The words of a command line are parted by spaces.
     pub fn start(command_line: &str) -> Peer {
         let mut words = command_line.split_whitespace();
         let program = words.next().expect("the peer's command line is empty");
@@ -29,37 +28,52 @@ impl Peer {
             .stdout(Stdio::piped())
             .spawn()
             .unwrap_or_else(|why| panic!("the peer `{command_line}` does not start: {why}"));
+        let replies = child.stdout.take().expect("standard output is a pipe");
         Peer {
             requests: child.stdin.take(),
-            replies: BufReader::new(child.stdout.take().expect("standard output is a pipe")),
+            replies: Replies(BufReader::new(replies)),
             child,
         }
     }
 
     /// The outcomes of the calls, in their order. One thread writes while this one reads: a pipe holds so little that
     /// neither side may wait for the other to be done.
-    pub fn run(&mut self, calls: &[Call]) -> Vec<Outcome> {
+    pub fn run<C: Asked>(&mut self, calls: &[C]) -> Vec<C::Outcome> {
         let requests = self.requests.as_mut().expect("the peer is running");
         let replies = &mut self.replies;
-        let all: Vec<u8> = calls.iter().flat_map(request).collect();
+        let all: Vec<u8> = calls.iter().flat_map(|call| call.request().0).collect();
         let outcomes = thread::scope(|scope| {
             // a failed write shows in the replies, where it has a call to name
             scope.spawn(move || requests.write_all(&all).and_then(|()| requests.flush()));
-            let read = |call| read_reply(replies, call);
-            calls.iter().map(read).collect::<std::io::Result<Vec<_>>>()
+            let read = |call: &C| call.reply(replies);
+            calls.iter().map(read).collect::<io::Result<Vec<_>>>()
         });
-        outcomes.unwrap_or_else(|why| panic!("the peer gave no reply ({why}): {:?}", self.ended()))
+        self.came(outcomes)
     }
 
-    /// One request as it stands, and so many numbers of its reply.
-    pub fn ask(&mut self, request: &[u8], count: usize) -> Vec<i32> {
+    pub fn ask<C: Asked>(&mut self, call: &C) -> C::Outcome {
+        self.exchange(call.request(), |replies| call.reply(replies))
+    }
+
+    /// Sends one request, of which the peer reads all before it writes, and reads its reply.
+    pub fn exchange<T>(
+        &mut self,
+        request: Request,
+        read: impl FnOnce(&mut Replies) -> io::Result<T>,
+    ) -> T {
         let requests = self.requests.as_mut().expect("the peer is running");
-        let written = requests.write_all(request).and_then(|()| requests.flush());
-        let reply = written.and_then(|()| read_fours(&mut self.replies, count));
+        let written = requests
+            .write_all(&request.0)
+            .and_then(|()| requests.flush());
+        let reply = written.and_then(|()| read(&mut self.replies));
+        self.came(reply)
+    }
+
+    fn came<T>(&mut self, reply: io::Result<T>) -> T {
         reply.unwrap_or_else(|why| panic!("the peer gave no reply ({why}): {:?}", self.ended()))
     }
 
-    fn ended(&mut self) -> std::io::Result<std::process::ExitStatus> {
+    fn ended(&mut self) -> io::Result<ExitStatus> {
         drop(self.requests.take());
         self.child.wait()
     }
@@ -72,89 +86,77 @@ impl Drop for Peer {
     }
 }
 
-fn name(what: &What) -> u32 {
-    match what {
-        What::Weight { .. } => 0,
-        What::Line { path, .. } => match path {
-            Path::Forward => 1,
-            Path::Inverse => 2,
-            Path::ForwardProduct => 3,
-            Path::InverseProduct => 4,
-        },
-        What::Inverse(_) => 5,
-        What::Forward(_) => 6,
-        What::ShapeOf(_) => 7,
-        What::Wrapped { forward: true, .. } => 900,
-        What::Wrapped { forward: false, .. } => 901,
-        What::Stray { .. } => 1300,
+/// The bytes of a request, put together from the front.
+#[derive(Default)]
+pub struct Request(Vec<u8>);
+
+impl Request {
+    /// Of the call that has this name in its peer.
+    pub fn of(name: u32) -> Request {
+        Request::default().numbers(&[name])
+    }
+
+    pub fn numbers<T: Number>(mut self, numbers: &[T]) -> Request {
+        numbers.iter().for_each(|number| number.put(&mut self.0));
+        self
+    }
+
+    pub fn lengths(self, lengths: &[usize]) -> Request {
+        let lengths: Vec<u32> = lengths.iter().map(|n| *n as u32).collect();
+        self.numbers(&lengths)
+    }
+
+    pub fn shape(self, shape: &Shape) -> Request {
+        self.numbers(&shape_numbers(shape))
     }
 }
 
-fn request(call: &Call) -> Vec<u8> {
-    let lengths = [call.input.len() as u32, call.held.len() as u32];
-    let mut numbers = match &call.what {
-        What::ShapeOf(numbers) => numbers.to_vec(),
-        What::Weight { kind, n, i, j } => vec![*kind, *n, *i, *j],
-        What::Stray { kind, n, j } => vec![*kind, *n, *j],
-        What::Line { n, kind, .. } => vec![*n, *kind],
-        What::Wrapped { n, kind, start, .. } => vec![*n, *kind, *start, call.order.len() as u32],
-        What::Inverse(shape) | What::Forward(shape) => shape_numbers(shape).to_vec(),
+/// Where replies are read from.
+pub struct Replies(BufReader<ChildStdout>);
+
+impl Replies {
+    pub fn numbers<T: Number>(&mut self, count: usize) -> io::Result<Vec<T>> {
+        let mut bytes = vec![0; size_of::<T>() * count];
+        self.0.read_exact(&mut bytes)?;
+        let numbers = bytes.chunks_exact(size_of::<T>());
+        Ok(numbers.map(T::of).collect())
+    }
+
+    /// As many numbers as the caller names.
+    pub fn told<T: Number, const N: usize>(&mut self) -> io::Result<[T; N]> {
+        let numbers = self.numbers(N)?;
+        Ok(std::array::from_fn(|k| numbers[k]))
+    }
+
+    pub fn answer(&mut self) -> io::Result<Answer> {
+        let [number, place, rails] = self.told()?;
+        Ok(Answer {
+            number,
+            place,
+            rails,
+        })
+    }
+}
+
+/// A number that crosses a pipe.
+pub trait Number: Copy {
+    fn put(self, to: &mut Vec<u8>);
+
+    /// The number that has these bytes, as many as it takes.
+    fn of(bytes: &[u8]) -> Self;
+}
+
+macro_rules! crosses {
+    ($($number:ty),*) => {
+        $(impl Number for $number {
+            fn put(self, to: &mut Vec<u8>) {
+                to.extend(self.to_le_bytes());
+            }
+
+            fn of(bytes: &[u8]) -> $number {
+                <$number>::from_le_bytes(bytes.try_into().expect("as many bytes as it takes"))
+            }
+        })*
     };
-    numbers.insert(0, name(&call.what));
-    if !matches!(
-        call.what,
-        What::Weight { .. } | What::Stray { .. } | What::ShapeOf(_)
-    ) {
-        numbers.extend(lengths);
-    }
-    let mut bytes: Vec<u8> = numbers.iter().flat_map(|n| n.to_le_bytes()).collect();
-    bytes.extend(call.order.iter().flat_map(|k| k.to_le_bytes()));
-    bytes.extend(call.input.iter().flat_map(|z| z.to_le_bytes()));
-    if let What::Forward(_) = call.what {
-        bytes.extend(call.held.iter().flat_map(|z| (*z as i16).to_le_bytes()));
-    } else {
-        bytes.extend(call.held.iter().flat_map(|z| z.to_le_bytes()));
-    }
-    bytes
 }
-
-fn read_reply(from: &mut impl Read, call: &Call) -> std::io::Result<Outcome> {
-    match call.what {
-        What::Weight { .. } | What::Stray { .. } => {
-            return Ok(Outcome::of_weight(read_four(from)?))
-        }
-        What::ShapeOf(_) => return Ok(Outcome::of_numbers(read_fours(from, 7)?)),
-        _ => (),
-    }
-    let mut number = || read_four(from).map(|n| n as u32);
-    let answer = Answer {
-        number: number()?,
-        place: number()?,
-        rails: number()?,
-    };
-    let output = match call.what {
-        What::Forward(_) => read_twos(from, call.held.len())?,
-        _ => read_fours(from, call.held.len())?,
-    };
-    Ok(Outcome { answer, output })
-}
-
-fn read_four(from: &mut impl Read) -> std::io::Result<i32> {
-    let mut bytes = [0; 4];
-    from.read_exact(&mut bytes)?;
-    Ok(i32::from_le_bytes(bytes))
-}
-
-fn read_fours(from: &mut impl Read, count: usize) -> std::io::Result<Vec<i32>> {
-    let mut bytes = vec![0; 4 * count];
-    from.read_exact(&mut bytes)?;
-    let four = |b: &[u8]| i32::from_le_bytes([b[0], b[1], b[2], b[3]]);
-    Ok(bytes.chunks_exact(4).map(four).collect())
-}
-
-fn read_twos(from: &mut impl Read, count: usize) -> std::io::Result<Vec<i32>> {
-    let mut bytes = vec![0; 2 * count];
-    from.read_exact(&mut bytes)?;
-    let two = |b: &[u8]| i16::from_le_bytes([b[0], b[1]]).into();
-    Ok(bytes.chunks_exact(2).map(two).collect())
-}
+crosses!(u8, i16, u32, i32, u64, i64);

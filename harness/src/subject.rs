@@ -1,39 +1,65 @@
 //! What a test runs its calls on: the library where the build links it, or a peer that the environment names.
 
-use crate::call::{Call, Outcome};
-use crate::peer::{Peer, PEER_VARIABLE};
-use crate::random::{seed, SEED_VARIABLE};
-use crate::tally::Asked;
-use std::time::Instant;
+use crate::peer::{Peer, Replies, Request};
+use std::fmt::Debug;
+use std::io;
+
+/// A call as a value, for the linked library, a peer or the model.
+pub trait Asked: Debug {
+    type Outcome: Answered;
+
+    fn by_model(&self) -> Self::Outcome;
+
+    #[cfg(hoengtila_linked)]
+    fn by_library(&self) -> Self::Outcome;
+
+    /// What its peer is sent: the call's name there, its numbers and lengths, and its buffers.
+    fn request(&self) -> Request;
+
+    fn reply(&self, replies: &mut Replies) -> io::Result<Self::Outcome>;
+}
+
+/// What a call hands back, and what its outputs hold then.
+pub trait Answered: Debug + PartialEq {
+    /// 0, or the number of the refusal.
+    fn number(&self) -> u32;
+
+    /// How many numbers beside it are compared.
+    fn count(&self) -> usize;
+}
 
 pub enum Subject {
     #[cfg(hoengtila_linked)]
     Linked,
+    /// Where the build links the library too, what comes through the peer has to be what it gives linked.
     Peer(Peer),
     /// The model in the library's place, for whoever works on the tests themselves: it tests no library.
     Model,
 }
 
+/// The environment variable that gives the command line of `peer/peer.c`.
+const PEER_VARIABLE: &str = "HOENGTILA_PEER";
+
 /// The "command line" that asks for the model in the library's place.
 const MODEL: &str = "model";
 
 impl Subject {
-    /// Says what was compared under a title, since when, in so many calls.
-    pub fn say(&self, title: &str, started: Instant, calls: usize, numbers: usize) {
-        eprintln!(
-            "compared: {title}: {numbers} numbers in {calls} calls, {:.1} s ({}, {SEED_VARIABLE}={})",
-            started.elapsed().as_secs_f64(),
-            self.name(),
-            seed()
-        );
+    /// The peer that the environment names, else the linked library. Fails where there is neither.
+    pub fn open() -> Subject {
+        Subject::peer(PEER_VARIABLE)
+            .or_else(linked)
+            .expect("no library is linked and no peer is named")
     }
 
-    /// What is there: the peer that the environment names, else the linked library.
-    pub fn open() -> Option<Subject> {
-        match std::env::var(PEER_VARIABLE) {
-            Ok(word) if word == MODEL => Some(Subject::Model),
-            Ok(command_line) => Some(Subject::Peer(Peer::start(&command_line))),
-            Err(_) => linked(),
+    /// The peer whose command line this variable gives. Fails where it gives none.
+    pub fn through(variable: &str) -> Subject {
+        Subject::peer(variable).expect(variable)
+    }
+
+    fn peer(variable: &str) -> Option<Subject> {
+        match std::env::var(variable).ok()?.as_str() {
+            MODEL => Some(Subject::Model),
+            command_line => Some(Subject::Peer(Peer::start(command_line))),
         }
     }
 
@@ -42,17 +68,22 @@ impl Subject {
         match self {
             #[cfg(hoengtila_linked)]
             Subject::Linked => "library, linked",
+            Subject::Peer(_) if cfg!(hoengtila_linked) => "library, through its peer and linked",
             Subject::Peer(_) => "library, through its peer",
             Subject::Model => "MODEL ALONE, NO LIBRARY",
         }
     }
 
-    pub fn run(&mut self, calls: &[Call]) -> Vec<Outcome> {
+    /// The outcomes of many calls, in their order.
+    pub fn run<C: Asked>(&mut self, calls: &[C]) -> Vec<C::Outcome> {
         match self {
-            #[cfg(hoengtila_linked)]
-            Subject::Linked => calls.iter().map(run_linked).collect(),
-            Subject::Peer(peer) => peer.run(calls),
-            Subject::Model => calls.iter().map(Call::by_model).collect(),
+            Subject::Peer(peer) => {
+                let outcomes = peer.run(calls);
+                let pairs = calls.iter().zip(&outcomes);
+                pairs.for_each(|(call, outcome)| check_linked(call, outcome));
+                outcomes
+            }
+            _ => calls.iter().map(|call| self.ask(call)).collect(),
         }
     }
 
@@ -60,7 +91,11 @@ impl Subject {
         match self {
             #[cfg(hoengtila_linked)]
             Subject::Linked => call.by_library(),
-            Subject::Peer(peer) => call.through(peer),
+            Subject::Peer(peer) => {
+                let outcome = peer.ask(call);
+                check_linked(call, &outcome);
+                outcome
+            }
             Subject::Model => call.by_model(),
         }
     }
@@ -76,52 +111,14 @@ fn linked() -> Option<Subject> {
     Some(Subject::Linked)
 }
 
+#[cfg(not(hoengtila_linked))]
+fn check_linked<C: Asked>(_: &C, _: &C::Outcome) {}
+
 #[cfg(hoengtila_linked)]
-fn run_linked(call: &Call) -> Outcome {
-    use crate::call::{Path, What};
-    use crate::library;
-    let mut output = call.held.clone();
-    let input = &call.input;
-    let answer = match call.what {
-        What::ShapeOf([width, height, horizontal, vertical, depth]) => {
-            let shape = library::Shape::new(width, height, horizontal, vertical, depth);
-            return Outcome::of_shape(shape);
-        }
-        What::Weight { kind, n, i, j } => {
-            return Outcome::of_weight(library::weight(kind, n, i, j));
-        }
-        What::Stray { kind, n, j } => {
-            return Outcome::of_weight(library::stray(kind, n, j) as i32);
-        }
-        What::Line { path, n, kind } => {
-            let line = match path {
-                Path::Forward => library::line_forward,
-                Path::Inverse => library::line_inverse,
-                Path::ForwardProduct => library::line_forward_product,
-                Path::InverseProduct => library::line_inverse_product,
-            };
-            line(n, kind, input, &mut output)
-        }
-        What::Wrapped {
-            forward,
-            n,
-            kind,
-            start,
-        } => {
-            let line = if forward {
-                library::line_forward_wrapped
-            } else {
-                library::line_inverse_wrapped
-            };
-            line(n, kind, start, &call.order, input, &mut output)
-        }
-        What::Inverse(shape) => library::block_inverse(shape, input, &mut output),
-        What::Forward(shape) => {
-            let mut short: Vec<i16> = output.iter().map(|z| *z as i16).collect();
-            let answer = library::block_forward(shape, input, &mut short);
-            output = short.into_iter().map(i32::from).collect();
-            answer
-        }
-    };
-    Outcome { answer, output }
+fn check_linked<C: Asked>(call: &C, outcome: &C::Outcome) {
+    assert_eq!(
+        call.by_library(),
+        *outcome,
+        "linked and through the peer: {call:?}"
+    );
 }

@@ -1,10 +1,11 @@
-//! A call over two lent areas as a value, for the linked library, a peer or the model.
+//! A call over two lent areas as a value.
 
-use crate::call::shape_numbers;
 use crate::library::{Shape, Thin};
 use crate::model;
-use crate::peer::Peer;
-use crate::tally::Asked;
+use crate::peer::{Replies, Request};
+use crate::subject::{Answered, Asked};
+use crate::widths::{narrow, wide};
+use std::io;
 
 /// The coefficients, and what both areas hold before.
 #[derive(Clone, Debug)]
@@ -23,25 +24,27 @@ pub struct ThinOutcome {
     pub second: Vec<i32>,
 }
 
+impl Answered for ThinOutcome {
+    fn number(&self) -> u32 {
+        self.told.number
+    }
+
+    fn count(&self) -> usize {
+        self.first.len() + self.second.len()
+    }
+}
+
 impl Asked for ThinCall {
     type Outcome = ThinOutcome;
 
     fn by_model(&self) -> ThinOutcome {
-        let long = |numbers: &[i32]| -> Vec<i64> { numbers.iter().map(|z| (*z).into()).collect() };
-        let narrow = |z: i64| i32::try_from(z).expect("the model's number leaves 32 bits");
-        let input: Vec<i64> = self.input.iter().map(|z| (*z).into()).collect();
-        let (mut first, mut second) = (long(&self.first), long(&self.second));
-        let thin = model::inverse_thin(&self.shape.into(), &input, &mut first, &mut second);
-        let number = |z: i64| u32::try_from(z).expect("a number is of 32 bits");
+        let (shape, input) = (self.shape.into(), wide(&self.input));
+        let (mut first, mut second) = (wide(&self.first), wide(&self.second));
+        let thin = model::inverse_thin(&shape, &input, &mut first, &mut second);
         ThinOutcome {
-            told: Thin {
-                number: number(thin.answer.number),
-                place: number(thin.answer.place),
-                rails: number(thin.answer.rails),
-                area: number(thin.area),
-            },
-            first: first.into_iter().map(narrow).collect(),
-            second: second.into_iter().map(narrow).collect(),
+            told: thin.into(),
+            first: narrow(&first),
+            second: narrow(&second),
         }
     }
 
@@ -57,34 +60,26 @@ impl Asked for ThinCall {
         }
     }
 
-    fn through(&self, peer: &mut Peer) -> ThinOutcome {
-        let mut numbers = vec![700];
-        numbers.extend(shape_numbers(&self.shape));
-        let lengths = [self.input.len(), self.first.len(), self.second.len()];
-        numbers.extend(lengths.map(|n| n as u32));
-        let mut request: Vec<u8> = numbers.iter().flat_map(|n| n.to_le_bytes()).collect();
-        request.extend(self.input.iter().flat_map(|z| z.to_le_bytes()));
-        for area in [&self.first, &self.second] {
-            request.extend(area.iter().flat_map(|z| z.to_le_bytes()));
-        }
-        let mut reply = peer.ask(&request, 4 + self.first.len() + self.second.len());
-        let second = reply.split_off(4 + self.first.len());
-        let first = reply.split_off(4);
-        let [number, place, rails, area] = [0, 1, 2, 3].map(|k| reply[k] as u32);
-        ThinOutcome {
+    fn request(&self) -> Request {
+        Request::of(700)
+            .shape(&self.shape)
+            .lengths(&[self.input.len(), self.first.len(), self.second.len()])
+            .numbers(&self.input)
+            .numbers(&self.first)
+            .numbers(&self.second)
+    }
+
+    fn reply(&self, replies: &mut Replies) -> io::Result<ThinOutcome> {
+        let [number, place, rails, area] = replies.told()?;
+        Ok(ThinOutcome {
             told: Thin {
                 number,
                 place,
                 rails,
                 area,
             },
-            first,
-            second,
-        }
-    }
-
-    fn told(outcome: &ThinOutcome) -> (u32, usize) {
-        let count = outcome.first.len() + outcome.second.len();
-        (outcome.told.number, count)
+            first: replies.numbers(self.first.len())?,
+            second: replies.numbers(self.second.len())?,
+        })
     }
 }

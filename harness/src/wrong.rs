@@ -1,9 +1,9 @@
 //! Calls that are to be refused: which tests apply, and numbers that make them apply.
 
-use crate::call::most_kept;
 use crate::library::Shape;
 use crate::patterns::{clear_outside, is_kept};
 use crate::random::Random;
+use crate::widths::most_kept;
 
 /// Numbers that no size, kind or depth is; a caller can hand over any of 32 bits.
 pub const NO_SIZE: [i64; 8] = [0, 1, 2, 5, 24, 64, 65_536, 4_294_967_295];
@@ -83,7 +83,7 @@ impl Wrong {
 
     /// Small coefficients, but for some of these outside the kept part where 8 applies.
     pub fn coefficients(&self, random: &mut Random, shape: &Shape, bad: &[i64]) -> Vec<i64> {
-        let input = self.length(random, 6, asked(shape));
+        let input = self.length(random, 6, right_length(shape));
         let mut numbers = random.numbers(input, -255, 255);
         if shape.width > 0 {
             clear_outside(shape, &mut numbers);
@@ -114,7 +114,7 @@ impl Wrong {
 }
 
 /// The length that a shape asks for, where the peer has room for twice as many numbers, or another.
-pub fn asked(shape: &Shape) -> i64 {
+pub fn right_length(shape: &Shape) -> i64 {
     match u64::from(shape.width) * u64::from(shape.height) {
         area @ 1..=2048 => area as i64,
         _ => 16,

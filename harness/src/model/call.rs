@@ -26,6 +26,24 @@ impl Shape {
         }
     }
 
+    /// The shape of these seven, from the width to the kept rows.
+    pub fn of(numbers: [i64; 7]) -> Shape {
+        let [width, height, horizontal, vertical, depth, columns, rows] = numbers;
+        Shape::new(width, height, horizontal, vertical, depth).keeping(columns, rows)
+    }
+
+    pub fn numbers(&self) -> [i64; 7] {
+        [
+            self.width,
+            self.height,
+            self.horizontal,
+            self.vertical,
+            self.depth,
+            self.columns,
+            self.rows,
+        ]
+    }
+
     /// The same with other kept numbers.
     pub fn keeping(self, columns: i64, rows: i64) -> Shape {
         Shape {

@@ -8,9 +8,14 @@ use hoengtila_harness::patterns::{
     block, block_about_the_rails, clear_outside, keeping_any, LAYOUTS,
 };
 
+/// How often every shape meets every layout: some ten million numbers in each direction.
+const ROUNDS: usize = 10;
+
 /// Every shape with every layout of numbers: all that can be kept in even rounds, any part of it in the others.
-fn blocks(c: &mut Comparison, direction: Direction, round: usize) {
-    for most in shapes() {
+fn blocks(title: &'static str, direction: Direction) {
+    let mut c = Comparison::open(title);
+    for (round, most) in (0..ROUNDS).flat_map(|round| shapes().into_iter().map(move |s| (round, s)))
+    {
         for layout in LAYOUTS {
             let shape = match round % 2 {
                 0 => most,
@@ -25,35 +30,24 @@ fn blocks(c: &mut Comparison, direction: Direction, round: usize) {
             c.add(call);
         }
     }
+    c.close(&[0]);
 }
 
 #[test]
 fn inverse_blocks() {
-    let mut c = Comparison::open("inverse blocks");
-    for round in 0..BLOCK_ROUNDS {
-        blocks(&mut c, Inverse, round);
-    }
-    assert!(c.close().all_taken());
+    blocks("inverse blocks", Inverse);
 }
 
 #[test]
 fn forward_blocks() {
-    let mut c = Comparison::open("forward blocks");
-    for round in 0..BLOCK_ROUNDS {
-        blocks(&mut c, Forward, round);
-    }
-    assert!(c.close().all_taken());
+    blocks("forward blocks", Forward);
 }
-
-/// How often every shape meets every layout: some ten million numbers in each direction.
-const BLOCK_ROUNDS: usize = 10;
 
 /// Middle values next to the rail, at it, and clipped to it.
 #[test]
 fn inverse_blocks_about_the_rails() {
     let mut c = Comparison::open("inverse blocks about the rails");
-    let mut unrailed = 0;
-    let mut fair = 0;
+    let (mut rails, mut unrailed, mut fair) = (0, 0, 0);
     for (k, most) in shapes().iter().cycle().take(720 * 5).enumerate() {
         let shape = &match k % 3 {
             0 => keeping_any(&mut c.random, most),
@@ -61,17 +55,14 @@ fn inverse_blocks_about_the_rails() {
         };
         let input = block_about_the_rails(&mut c.random, shape);
         let call = block_call(&mut c.random, Inverse, *shape, &input, area(shape));
-        let none = call.by_model().answer.rails == 0;
+        let altered = c.outcome(&call).answer.rails;
         let ends = fair_ends(&(*shape).into(), &input);
-        unrailed += usize::from(none);
-        fair += usize::from(none && ends > 0);
-        c.add(call);
+        rails += altered;
+        unrailed += usize::from(altered == 0);
+        fair += usize::from(altered == 0 && ends > 0);
     }
-    let c = c.close();
+    c.close(&[0]);
     // altered values, and blocks with none though a value stands at an end
-    assert!(c.rails > 1000 && unrailed > 10 && fair > 10);
-    eprintln!(
-        "{} values clipped; {unrailed} blocks with none, {fair} of them with a value at an end",
-        c.rails
-    );
+    assert!(rails > 1000 && unrailed > 10 && fair > 10);
+    eprintln!("{rails} values clipped; {unrailed} blocks with none, {fair} of them with a value at an end");
 }

@@ -1,25 +1,24 @@
 //! Calls with random numbers in their outputs, and the shapes that they are made of.
 
-use hoengtila_harness::call::{most_kept, Call, Path, What};
+use hoengtila_harness::call::{Call, Path, What};
 use hoengtila_harness::library::Shape;
 use hoengtila_harness::patterns::{keeping_any, residual_ends, Ends, SIXTEEN_BITS};
 use hoengtila_harness::random::Random;
+use hoengtila_harness::widths::{most_kept, narrow};
 
 pub const SIZES: [u32; 4] = [4, 8, 16, 32];
 pub const KINDS: [u32; 3] = [0, 1, 2];
 
-fn shorts(numbers: &[i64]) -> Vec<i16> {
-    let short = |z: &i64| i16::try_from(*z).expect("a call takes numbers of 16 bits");
-    numbers.iter().map(short).collect()
-}
-
 /// What an output holds before a call: any numbers of its type, so that one left untouched is one in 65,536 to be right.
-fn held(random: &mut Random, count: usize, [low, high]: Ends) -> Vec<i32> {
-    let number = |_| random.between(low, high) as i32;
-    (0..count).map(number).collect()
+pub fn held(random: &mut Random, count: usize) -> Vec<i32> {
+    narrow(&random.numbers(count, i32::MIN.into(), i32::MAX.into()))
 }
 
-const OF_32_BITS: Ends = [i32::MIN as i64, i32::MAX as i64];
+/// Any numbers of 16 bits.
+pub fn shorts(random: &mut Random, count: usize) -> Vec<i16> {
+    let [low, high] = SIXTEEN_BITS;
+    narrow(&random.numbers(count, low, high))
+}
 
 pub fn line_call(
     random: &mut Random,
@@ -28,12 +27,8 @@ pub fn line_call(
     x: &[i64],
     output: usize,
 ) -> Call {
-    Call {
-        what: What::Line { path, n, kind },
-        order: vec![],
-        input: shorts(x),
-        held: held(random, output, OF_32_BITS),
-    }
+    let held = held(random, output);
+    Call::new(What::Line { path, n, kind }, narrow(x), held)
 }
 
 /// A line whose products are fed in that order to an adder that holds `start`.
@@ -45,16 +40,15 @@ pub fn wrapped_call(
     x: &[i64],
     output: usize,
 ) -> Call {
+    let what = What::Wrapped {
+        forward: direction == Forward,
+        n,
+        kind,
+        start,
+    };
     Call {
-        what: What::Wrapped {
-            forward: direction == Forward,
-            n,
-            kind,
-            start,
-        },
         order: order.to_vec(),
-        input: shorts(x),
-        held: held(random, output, OF_32_BITS),
+        ..Call::new(what, narrow(x), held(random, output))
     }
 }
 
@@ -92,16 +86,14 @@ pub fn block_call(
     input: &[i64],
     output: usize,
 ) -> Call {
-    let (what, ends) = match direction {
-        Forward => (What::Forward(shape), SIXTEEN_BITS),
-        Inverse => (What::Inverse(shape), OF_32_BITS),
+    let (what, held) = match direction {
+        Forward => {
+            let held = shorts(random, output).into_iter();
+            (What::Forward(shape), held.map(i32::from).collect())
+        }
+        Inverse => (What::Inverse(shape), held(random, output)),
     };
-    Call {
-        what,
-        order: vec![],
-        input: shorts(input),
-        held: held(random, output, ends),
-    }
+    Call::new(what, narrow(input), held)
 }
 
 pub fn area(shape: &Shape) -> usize {

@@ -19,7 +19,7 @@ fn lines() {
             }
         }
     }
-    c.close();
+    c.close(&[0]);
 }
 
 /// One number among zeros, at each place.
@@ -38,7 +38,7 @@ fn lines_of_one_number() {
             }
         }
     }
-    c.close();
+    c.close(&[0]);
 }
 
 fn dot(a: &[i64], b: &[i32]) -> i64 {
@@ -60,10 +60,10 @@ fn forward_and_inverse_are_transposes() {
             for (there, back) in pairs {
                 let there = line_call(&mut c.random, there, [n, kind], &x, n as usize);
                 let back = line_call(&mut c.random, back, [n, kind], &y, n as usize);
-                let there = dot(&y, &c.outcome(there).output);
-                assert_eq!(there, dot(&x, &c.outcome(back).output), "{n} points");
+                let there = dot(&y, &c.outcome(&there).output);
+                assert_eq!(there, dot(&x, &c.outcome(&back).output), "{n} points");
             }
         }
     }
-    c.close();
+    c.close(&[0]);
 }

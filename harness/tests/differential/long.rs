@@ -1,8 +1,9 @@
 //! Blocks of long numbers: every depth of either switch with every layout of numbers, middle values about the ends of the
 //! range, every set of refusals, and the switch off beside the other inverse.
 
-use crate::calls::{area, SIZES};
-use hoengtila_harness::call::{most_kept, Call, What};
+use crate::calls::{area, held, SIZES};
+use hoengtila_harness::call::{Call, What};
+use hoengtila_harness::compare::Comparison;
 use hoengtila_harness::header::numbers;
 use hoengtila_harness::library::Shape;
 use hoengtila_harness::long_call::LongCall;
@@ -11,23 +12,18 @@ use hoengtila_harness::patterns::{
     block, clear_outside, is_kept, keeping_any, LAYOUTS, SIXTEEN_BITS,
 };
 use hoengtila_harness::random::Random;
-use hoengtila_harness::tally::Tally;
-use hoengtila_harness::wrong::{asked, Wrong};
+use hoengtila_harness::widths::{most_kept, narrow};
+use hoengtila_harness::wrong::{right_length, Wrong};
 
 /// The switch as a caller may write it, and its deepest depth.
 const SWITCHES: [(u32, u32); 4] = [(0, 12), (1, 16), (2, 16), (u32::MAX, 16)];
-
-fn narrow(numbers: &[i64]) -> Vec<i32> {
-    let number = |z: &i64| i32::try_from(*z).expect("a call takes numbers of 32 bits");
-    numbers.iter().map(number).collect()
-}
 
 fn long_call(random: &mut Random, shape: Shape, extended: u32, c: &[i64], out: usize) -> LongCall {
     LongCall {
         shape,
         extended,
         input: narrow(c),
-        held: narrow(&random.numbers(out, i32::MIN.into(), i32::MAX.into())),
+        held: held(random, out),
     }
 }
 
@@ -50,7 +46,7 @@ fn shapes(random: &mut Random, deepest: u32) -> Vec<Shape> {
 
 #[test]
 fn long_blocks() {
-    let mut c = Tally::open("blocks of long numbers");
+    let mut c = Comparison::open("blocks of long numbers");
     let mut rails = 0;
     for (extended, deepest) in SWITCHES {
         for (k, shape) in shapes(&mut c.random, deepest).iter().enumerate() {
@@ -70,7 +66,7 @@ fn long_blocks() {
 /// One column whose first two coefficients bring middle values to an end of the range, next to it and past it.
 #[test]
 fn long_blocks_about_the_ends() {
-    let mut c = Tally::open("blocks of long numbers about the ends of the range");
+    let mut c = Comparison::open("blocks of long numbers about the ends of the range");
     let (mut rails, mut unaltered) = (0, 0);
     for round in 0..6000 {
         let (extended, deepest) = SWITCHES[round % 2];
@@ -95,7 +91,7 @@ fn long_blocks_about_the_ends() {
 /// "With the switch off", numbers of 16 bits give what the other inverse gives.
 #[test]
 fn long_blocks_with_the_switch_off() {
-    let mut c = Tally::open("blocks of long numbers, beside the other inverse");
+    let mut c = Comparison::open("blocks of long numbers, beside the other inverse");
     for (k, shape) in shapes(&mut c.random, 12).iter().enumerate() {
         let layout = LAYOUTS[k % LAYOUTS.len()];
         let mut input = block(&mut c.random, layout, shape, SIXTEEN_BITS);
@@ -103,13 +99,8 @@ fn long_blocks_with_the_switch_off() {
             clear_outside(shape, &mut input);
         }
         let call = long_call(&mut c.random, *shape, 0, &input, area(shape));
-        let other = Call {
-            what: What::Inverse(*shape),
-            order: vec![],
-            input: input.iter().map(|z| *z as i16).collect(),
-            held: call.held.clone(),
-        };
-        assert_eq!(vec![c.outcome(&call)], c.others(&[other]));
+        let other = Call::new(What::Inverse(*shape), narrow(&input), call.held.clone());
+        assert_eq!(c.outcome(&call), c.other(&other));
     }
     c.close(&[0, 8]);
 }
@@ -117,7 +108,7 @@ fn long_blocks_with_the_switch_off() {
 /// Every set of the tests that a block of long numbers can meet.
 #[test]
 fn refused_long_blocks() {
-    let mut c = Tally::open("blocks of long numbers, refused for every set of reasons");
+    let mut c = Comparison::open("blocks of long numbers, refused for every set of reasons");
     for (bits, switch) in (0..1024).flat_map(|bits| SWITCHES.map(|switch| (bits, switch))) {
         let wrong = Wrong::among(&[1, 2, 3, 4, 5, 20, 6, 7, 8, 9], bits);
         let call = call_with(&mut c.random, switch, &wrong);
@@ -130,7 +121,7 @@ fn refused_long_blocks() {
 fn call_with(random: &mut Random, (extended, deepest): (u32, u32), wrong: &Wrong) -> LongCall {
     let sides = wrong.sides(random);
     let shape = wrong.shape(random, sides, deepest);
-    let right = asked(&shape);
+    let right = right_length(&shape);
     let output = wrong.length(random, 7, right);
     let mut numbers = wrong.coefficients(random, &shape, &[1, -1, i32::MIN.into()]);
     if shape.width > 0 {
@@ -145,7 +136,7 @@ fn call_with(random: &mut Random, (extended, deepest): (u32, u32), wrong: &Wrong
 /// Each place once with the least number that is beyond the range, at either end.
 #[test]
 fn one_number_beyond_the_range_at_each_place() {
-    let mut c = Tally::open("blocks of long numbers, one of them beyond the range");
+    let mut c = Comparison::open("blocks of long numbers, one of them beyond the range");
     for (extended, deepest) in &SWITCHES[..2] {
         for shape in shapes(&mut c.random, *deepest).iter().step_by(7) {
             let [low, high] = ends_of(shape, *extended);

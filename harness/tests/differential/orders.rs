@@ -7,8 +7,8 @@ use hoengtila_harness::header::{each_set, Set};
 use hoengtila_harness::library::{Answer, Shape};
 use hoengtila_harness::long_call::LongCall;
 use hoengtila_harness::row_call::RowCall;
-use hoengtila_harness::step_call::StepCall;
-use hoengtila_harness::tally::Tally;
+use hoengtila_harness::step_call::{ForwardCall, ListCall, RunCall};
+use hoengtila_harness::subject::Answered;
 use hoengtila_harness::thin_call::ThinCall;
 use hoengtila_harness::why_call::WhyCall;
 
@@ -45,78 +45,63 @@ fn held(set: &Set, right: usize) -> Vec<i32> {
     vec![9; set.pick(7, right + 1, right)]
 }
 
-fn line_call(set: &Set, what: What) -> Call {
+fn line(set: &Set, path: Path) -> Call {
+    let (n, kind) = (set.pick(1, 5, 4), set.pick(3, 3, 1));
+    let input = vec![5; set.pick(6, 3, 4)];
+    Call::new(What::Line { path, n, kind }, input, held(set, 4))
+}
+
+fn wrapped(set: &Set, forward: bool) -> Call {
+    let what = What::Wrapped {
+        forward,
+        n: set.pick(1, 5, 4),
+        kind: set.pick(3, 3, 1),
+        start: 7,
+    };
     Call {
         what,
         order: vec![3, 1, set.pick(21, 3, 2), 0],
-        input: vec![5; set.pick(6, 3, 4)],
-        held: held(set, 4),
+        ..line(set, Path::Forward)
     }
 }
 
 #[test]
 fn orders_of_lines() {
     let mut c = Comparison::open("lines, refused in the header's order");
-    let line = |path: Path| {
-        move |set: &Set| {
-            let (n, kind) = (set.pick(1, 5, 4), set.pick(3, 3, 1));
-            Call {
-                order: vec![],
-                ..line_call(set, What::Line { path, n, kind })
-            }
-        }
-    };
-    let wrapped = |forward: bool| {
-        move |set: &Set| {
-            let (n, kind, start) = (set.pick(1, 5, 4), set.pick(3, 3, 1), 7);
-            let what = What::Wrapped {
-                forward,
-                n,
-                kind,
-                start,
-            };
-            line_call(set, what)
-        }
-    };
-    let mut answer = |call: Call| c.outcome(call).answer.number;
-    each_set("line_forward", |set| answer(line(Path::Forward)(set)));
-    each_set("line_inverse", |set| answer(line(Path::Inverse)(set)));
+    let mut number = |call: Call| c.outcome(&call).number();
+    each_set("line_forward", |set| number(line(set, Path::Forward)));
+    each_set("line_inverse", |set| number(line(set, Path::Inverse)));
     each_set("line_forward_product", |set| {
-        answer(line(Path::ForwardProduct)(set))
+        number(line(set, Path::ForwardProduct))
     });
     each_set("line_inverse_product", |set| {
-        answer(line(Path::InverseProduct)(set))
+        number(line(set, Path::InverseProduct))
     });
-    each_set("line_forward_wrapped", |set| answer(wrapped(true)(set)));
-    each_set("line_inverse_wrapped", |set| answer(wrapped(false)(set)));
-    c.close();
+    each_set("line_forward_wrapped", |set| number(wrapped(set, true)));
+    each_set("line_inverse_wrapped", |set| number(wrapped(set, false)));
+    c.close(&[0, 1, 3, 6, 7, 21]);
 }
 
 #[test]
 fn orders_of_blocks() {
     let mut c = Comparison::open("blocks, refused in the header's order");
-    let call = |what, input, held| Call {
-        what,
-        order: vec![],
-        input: shorts(input),
-        held,
-    };
     each_set("block_inverse", |set| {
-        let what = What::Inverse(shape(set));
-        let call = call(what, numbers(set, (0, 0)), held(set, AREA));
-        c.outcome(call).answer.number
+        let input = shorts(numbers(set, (0, 0)));
+        let call = Call::new(What::Inverse(shape(set)), input, held(set, AREA));
+        c.outcome(&call).number()
     });
     each_set("block_forward", |set| {
-        let what = What::Forward(shape(set));
-        let call = call(what, numbers(set, (9, 1024)), held(set, AREA));
-        c.outcome(call).answer.number
+        let input = shorts(numbers(set, (9, 1024)));
+        let call = Call::new(What::Forward(shape(set)), input, held(set, AREA));
+        c.outcome(&call).number()
     });
-    c.close();
+    c.close(&[0, 1, 2, 3, 4, 5, 6, 7, 8, 9, 20]);
 }
 
 #[test]
 fn orders_of_other_blocks() {
-    let mut c = Tally::open("long numbers, thin blocks and parts, refused in the header's order");
+    let mut c =
+        Comparison::open("long numbers, thin blocks and parts, refused in the header's order");
     each_set("block_inverse_long", |set| {
         let call = LongCall {
             shape: shape(set),
@@ -124,7 +109,7 @@ fn orders_of_other_blocks() {
             input: numbers(set, (27, i32::MIN)),
             held: held(set, AREA),
         };
-        c.outcome(&call).answer.number
+        c.outcome(&call).number()
     });
     each_set("block_inverse_thin", |set| {
         let call = ThinCall {
@@ -133,7 +118,7 @@ fn orders_of_other_blocks() {
             first: vec![9; AREA],
             second: vec![9; set.pick(19, AREA - 1, AREA)],
         };
-        c.outcome(&call).told.number
+        c.outcome(&call).number()
     });
     let why = |set: &Set, extended: Option<u32>| WhyCall {
         shape: shape(set),
@@ -141,14 +126,16 @@ fn orders_of_other_blocks() {
         input: numbers(set, (27, i32::MAX)),
         place: set.pick(15, AREA as u32, 0),
     };
-    each_set("block_why", |set| c.outcome(&why(set, None)).number);
-    each_set("block_why_long", |set| c.outcome(&why(set, Some(1))).number);
+    each_set("block_why", |set| c.outcome(&why(set, None)).number());
+    each_set("block_why_long", |set| {
+        c.outcome(&why(set, Some(1))).number()
+    });
     c.close(&[0, 1, 2, 3, 4, 5, 6, 7, 8, 15, 19, 20, 27]);
 }
 
 #[test]
 fn orders_of_rows() {
-    let mut c = Tally::open("rows of blocks, refused in the header's order");
+    let mut c = Comparison::open("rows of blocks, refused in the header's order");
     each_set("block_row", |set| {
         let block = Shape {
             width: 4,
@@ -167,7 +154,7 @@ fn orders_of_rows() {
             held: held(set, sum),
             shapes,
         };
-        c.outcome(&call).number
+        c.outcome(&call).number()
     });
     c.close(&[0, 6, 7, 16]);
 }
@@ -175,7 +162,7 @@ fn orders_of_rows() {
 /// A list of one step, which multiplies; or of 2,049 of them.
 #[test]
 fn orders_of_steps() {
-    let mut c = Tally::open("lists of steps, refused in the header's order");
+    let mut c = Comparison::open("lists of steps, refused in the header's order");
     each_set("steps_run", |set| {
         let step = [
             3,
@@ -183,7 +170,7 @@ fn orders_of_steps() {
             set.pick(17, 1, 0),
             set.pick(29, i32::MAX, 2),
         ];
-        let call = StepCall::Run {
+        let call = RunCall {
             inputs: 1,
             cells: 2,
             steps: step.repeat(set.pick(18, 2049, 1)),
@@ -191,23 +178,23 @@ fn orders_of_steps() {
             x: vec![2; set.pick(6, 2, 1)],
             held: held(set, 1),
         };
-        c.outcome(&call).told[0]
+        c.outcome(&call).number()
     });
     each_set("steps_list", |set| {
-        let call = StepCall::List {
+        let call = ListCall {
             n: set.pick(1, 8, 4),
             steps: held(set, 72),
             outs: vec![9; 4],
         };
-        c.outcome(&call).told[0]
+        c.outcome(&call).number()
     });
     each_set("steps_forward", |set| {
-        let call = StepCall::Forward {
+        let call = ForwardCall {
             n: set.pick(1, 8, 4),
             x: vec![2; set.pick(6, 3, 4)],
             held: held(set, 4),
         };
-        c.outcome(&call).told[0]
+        c.outcome(&call).number()
     });
     c.close(&[0, 1, 6, 7, 17, 18, 28, 29]);
 }

@@ -7,7 +7,7 @@ use hoengtila_harness::compare::Comparison;
 use hoengtila_harness::header::numbers;
 use hoengtila_harness::patterns::{block, clear_outside, is_kept, LAYOUTS};
 use hoengtila_harness::random::Random;
-use hoengtila_harness::wrong::{asked, Wrong, NO_KIND, NO_SIZE};
+use hoengtila_harness::wrong::{right_length, Wrong, NO_KIND, NO_SIZE};
 
 /// Every set of the tests that a line can meet.
 #[test]
@@ -27,8 +27,7 @@ fn refused_lines() {
             c.add(call);
         }
     }
-    let c = c.close();
-    assert_eq!(c.numbers(), numbers(&["line_forward"]));
+    c.close(&numbers(&["line_forward"]));
 }
 
 /// Every set of the tests that a block can meet.
@@ -42,14 +41,13 @@ fn refused_blocks() {
             c.add(call);
         }
     }
-    let c = c.close();
-    assert_eq!(c.numbers(), numbers(&["block_inverse", "block_forward"]));
+    c.close(&numbers(&["block_inverse", "block_forward"]));
 }
 
 fn call_with(random: &mut Random, direction: Direction, wrong: &Wrong) -> Call {
     let sides = wrong.sides(random);
     let shape = wrong.shape(random, sides, 12);
-    let right = asked(&shape);
+    let right = right_length(&shape);
     let input = wrong.length(random, 6, right);
     let output = wrong.length(random, 7, right);
     let mut numbers = random.numbers(input, -255, 255);
@@ -91,8 +89,7 @@ fn one_bad_number_at_each_place() {
             c.add(call);
         }
     }
-    let c = c.close();
-    assert!(c.met[8] > 0 && c.met[9] > 0);
+    c.close(&[0, 8, 9]);
 }
 
 /// Every pair of lengths of a line's buffers, from 0 to one too many.
@@ -111,7 +108,7 @@ fn lengths_of_lines() {
             c.add(call);
         }
     }
-    c.close();
+    c.close(&[0, 6, 7]);
 }
 
 /// Each length of one of a block's buffers, from 0 to one too many, the other being right.
@@ -131,6 +128,5 @@ fn lengths_of_blocks() {
             }
         }
     }
-    let c = c.close();
-    assert!(c.met[6] > 0 && c.met[7] > 0);
+    c.close(&[0, 6, 7]);
 }

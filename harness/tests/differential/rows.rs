@@ -1,33 +1,34 @@
 //! Rows of blocks in one call: rows of good blocks, refused ones among them, and every refusal of the whole call.
 
 use crate::calls::{shapes, SIZES};
-use hoengtila_harness::call::{most_kept, shape_numbers, Call, What};
+use hoengtila_harness::call::{Call, Outcome, What};
+use hoengtila_harness::compare::Comparison;
 use hoengtila_harness::header::numbers;
 use hoengtila_harness::library::{Answer, Shape};
 use hoengtila_harness::model;
 use hoengtila_harness::patterns::{clear_outside, keeping_any};
 use hoengtila_harness::random::Random;
 use hoengtila_harness::row_call::{RowCall, RowOutcome};
-use hoengtila_harness::tally::Tally;
+use hoengtila_harness::widths::{most_kept, narrow, shape_numbers};
 use hoengtila_harness::wrong::{NO_DEPTH, NO_KIND, NO_SIZE};
 use std::collections::BTreeMap;
 
 /// What one test compares, and how often a block was handed back each number.
 struct Rows {
-    tally: Tally,
+    comparison: Comparison,
     met_of_blocks: BTreeMap<u32, usize>,
 }
 
 impl Rows {
     fn open(title: &'static str) -> Rows {
         Rows {
-            tally: Tally::open(title),
+            comparison: Comparison::open(title),
             met_of_blocks: BTreeMap::new(),
         }
     }
 
     fn compare(&mut self, call: &RowCall) -> RowOutcome {
-        let found = self.tally.outcome(call);
+        let found = self.comparison.outcome(call);
         if found.number == 0 {
             for answer in &found.answers[..call.shapes.len()] {
                 *self.met_of_blocks.entry(answer.number).or_default() += 1;
@@ -42,24 +43,20 @@ impl Rows {
         let mut single = |shape: &Shape| {
             let own = start..start + stretch(shape);
             start = own.end;
-            Call {
-                what: What::Inverse(*shape),
-                order: vec![],
-                input: call.input[own.clone()].to_vec(),
-                held: call.held[own].to_vec(),
-            }
+            let (input, held) = (call.input[own.clone()].to_vec(), call.held[own].to_vec());
+            self.comparison
+                .other(&Call::new(What::Inverse(*shape), input, held))
         };
-        let calls: Vec<Call> = call.shapes.iter().map(&mut single).collect();
-        let outcomes = self.tally.others(&calls);
+        let outcomes: Vec<Outcome> = call.shapes.iter().map(&mut single).collect();
         let answers: Vec<Answer> = outcomes.iter().map(|o| o.answer).collect();
-        assert_eq!(answers, found.answers[..calls.len()]);
+        assert_eq!(answers, found.answers[..answers.len()]);
         let outputs: Vec<i32> = outcomes.into_iter().flat_map(|o| o.output).collect();
         assert_eq!(outputs, found.output);
     }
 
     /// Says how much there was, and that each of these numbers was met.
     fn close(self, numbers: &[u32], of_blocks: &[u32]) {
-        self.tally.close(numbers);
+        self.comparison.close(numbers);
         assert_eq!(
             self.met_of_blocks.into_keys().collect::<Vec<_>>(),
             of_blocks
@@ -112,14 +109,23 @@ fn spoiled(random: &mut Random, mut shape: Shape) -> Shape {
     shape
 }
 
-/// Coefficients of a block that is accepted: small ones, or such that values between the stages are clipped.
+/// Any shape of sides to `most`, spoiled once in so many times.
+fn good_or_spoiled(random: &mut Random, most: u32, times: usize) -> Shape {
+    let shape = good(random, most);
+    match random.once_in(times) {
+        true => spoiled(random, shape),
+        false => shape,
+    }
+}
+
+/// Coefficients of a block that is accepted: small ones, or such that middle values are clipped.
 fn coefficients(random: &mut Random, shape: &Shape) -> Vec<i16> {
     let most = random.choose(&[255, 32767]);
     let mut numbers = random.numbers(stretch(shape), -most - 1, most);
     if !numbers.is_empty() {
         clear_outside(shape, &mut numbers);
     }
-    numbers.into_iter().map(|z| z as i16).collect()
+    narrow(&numbers)
 }
 
 /// The row of these shapes with these numbers, and random ones in its answers, of which there are some more, and its output.
@@ -155,9 +161,9 @@ fn good_rows() {
     let mut c = Rows::open("rows of blocks that are accepted");
     for (count, most) in (0..=64).flat_map(|count| [(count, 8), (count, 32)]) {
         let shapes = (0..count)
-            .map(|_| good(&mut c.tally.random, most))
+            .map(|_| good(&mut c.comparison.random, most))
             .collect();
-        let call = row(&mut c.tally.random, shapes);
+        let call = row(&mut c.comparison.random, shapes);
         let found = c.compare(&call);
         c.compare_with_single_calls(&call, &found);
     }
@@ -165,7 +171,7 @@ fn good_rows() {
         .into_iter()
         .find(|s| s.width == 32 && s.height == 32);
     let call = row(
-        &mut c.tally.random,
+        &mut c.comparison.random,
         vec![largest.expect("32 by 32 is a shape"); 64],
     );
     c.compare(&call);
@@ -178,23 +184,19 @@ fn good_rows() {
 fn refused_blocks_among_good_ones() {
     let mut c = Rows::open("rows with blocks that are refused");
     for _ in 0..400 {
-        let count = c.tally.random.between(1, 64) as usize;
-        let often = c.tally.random.choose(&[1, 2, 8]);
-        let random = &mut c.tally.random;
-        let mut some = || {
+        let count = c.comparison.random.between(1, 64) as usize;
+        let times = c.comparison.random.choose(&[1, 2, 8]);
+        let random = &mut c.comparison.random;
+        let mut any = || {
             let most = random.choose(&SIZES);
-            let shape = good(random, most);
-            match random.once_in(often) {
-                true => spoiled(random, shape),
-                false => shape,
-            }
+            good_or_spoiled(random, most, times)
         };
-        let shapes: Vec<Shape> = (0..count).map(|_| some()).collect();
-        let mut call = row(&mut c.tally.random, shapes);
+        let shapes: Vec<Shape> = (0..count).map(|_| any()).collect();
+        let mut call = row(&mut c.comparison.random, shapes);
         // 8: numbers anywhere, some of them outside a kept part
-        for _ in 0..c.tally.random.below(4).min(call.input.len()) {
-            let place = c.tally.random.below(call.input.len());
-            call.input[place] = c.tally.random.choose(&[1, -1, 32767, -32768]);
+        for _ in 0..c.comparison.random.below(4).min(call.input.len()) {
+            let place = c.comparison.random.below(call.input.len());
+            call.input[place] = c.comparison.random.choose(&[1, -1, 32767, -32768]);
         }
         let found = c.compare(&call);
         c.compare_with_single_calls(&call, &found);
@@ -202,46 +204,38 @@ fn refused_blocks_among_good_ones() {
     c.close(&[0], &[0, 1, 2, 3, 4, 5, 8, 20]);
 }
 
-/// Buffers that are shorter or longer than the sum, and one that would fit if shapes that 1 or 2 refuses counted.
+/// The sum, shorter and longer ones, and one that would fit if shapes that 1 or 2 refuses counted.
+fn lengths(shapes: &[Shape]) -> [usize; 7] {
+    let right = sum(shapes);
+    let area = |s: &Shape| u64::from(s.width) * u64::from(s.height);
+    let whole: u64 = shapes.iter().map(area).sum();
+    [
+        right,
+        right + 1,
+        right.saturating_sub(1),
+        0,
+        2 * right,
+        right + 16,
+        whole.min(5000) as usize,
+    ]
+}
+
 #[test]
 fn wrong_sums() {
     let mut c = Rows::open("rows with buffers of other lengths");
     for _ in 0..4000 {
-        let random = &mut c.tally.random;
+        let random = &mut c.comparison.random;
         let count = random.choose(&[0, 1, 2, 3, 7]);
-        let mut any = || {
-            let shape = good(random, 8);
-            match random.once_in(3) {
-                true => spoiled(random, shape),
-                false => shape,
-            }
-        };
+        let mut any = || good_or_spoiled(random, 8, 3);
         let shapes: Vec<Shape> = (0..count).map(|_| any()).collect();
-        let right = sum(&shapes);
-        let whole: u64 = shapes
-            .iter()
-            .map(|s| u64::from(s.width) * u64::from(s.height))
-            .sum();
-        let lengths = [
-            right,
-            right + 1,
-            right.saturating_sub(1),
-            0,
-            2 * right,
-            right + 16,
-            whole.min(5000) as usize,
-        ];
+        let lengths = lengths(&shapes);
         let input = match random.once_in(2) {
-            true => right,
+            true => lengths[0],
             false => random.choose(&lengths),
         };
         let output = random.choose(&lengths);
-        let input = random
-            .numbers(input, -300, 300)
-            .iter()
-            .map(|z| *z as i16)
-            .collect();
-        let call = row_of(random, shapes, input, output);
+        let numbers = random.numbers(input, -300, 300);
+        let call = row_of(random, shapes, narrow(&numbers), output);
         c.compare(&call);
     }
     c.close(&[0, 6, 7], &[0, 1, 2, 3, 4, 5, 8, 20]);
@@ -253,11 +247,13 @@ fn too_many_blocks() {
     let mut c = Rows::open("rows of 64 blocks and more");
     for count in [63, 64, 65, 66, 100, 126] {
         for (input, output) in [(0, 0), (1, 0), (0, 1), (1, 1)] {
-            let shapes: Vec<Shape> = (0..count).map(|_| good(&mut c.tally.random, 4)).collect();
+            let shapes: Vec<Shape> = (0..count)
+                .map(|_| good(&mut c.comparison.random, 4))
+                .collect();
             let right = sum(&shapes);
-            let numbers = c.tally.random.numbers(right + input, -300, 300);
-            let numbers = numbers.iter().map(|z| *z as i16).collect();
-            let call = row_of(&mut c.tally.random, shapes, numbers, right + output);
+            let numbers = c.comparison.random.numbers(right + input, -300, 300);
+            let output = right + output;
+            let call = row_of(&mut c.comparison.random, shapes, narrow(&numbers), output);
             c.compare(&call);
         }
     }

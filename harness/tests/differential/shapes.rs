@@ -6,7 +6,7 @@ use hoengtila_harness::compare::Comparison;
 use hoengtila_harness::wrong::{NO_DEPTH, NO_KIND, NO_SIZE};
 
 fn fill(c: &mut Comparison, numbers: [u32; 5]) -> Outcome {
-    c.outcome(Call::of(What::ShapeOf(numbers)))
+    c.outcome(&Call::of(What::ShapeOf(numbers)))
 }
 
 #[test]
@@ -29,5 +29,5 @@ fn filled_shapes() {
             c.add(Call::of(What::ShapeOf(numbers)));
         }
     }
-    comparison.close();
+    comparison.close(&[0]);
 }

@@ -1,30 +1,21 @@
 //! Lists of steps: the three that are stored, any list that runs, and every refusal.
 
+use crate::calls::{held, shorts};
+use hoengtila_harness::compare::Comparison;
 use hoengtila_harness::header::numbers;
 use hoengtila_harness::model;
 use hoengtila_harness::model::steps::StepList;
+use hoengtila_harness::patterns::SIXTEEN_BITS;
 use hoengtila_harness::random::Random;
-use hoengtila_harness::step_call::StepCall;
+use hoengtila_harness::step_call::{ForwardCall, ListCall, RunCall};
 use hoengtila_harness::steps::{make, LISTED};
-use hoengtila_harness::tally::Tally;
-
-const SHORT: [i64; 2] = [-32768, 32767];
-
-fn held(random: &mut Random, count: usize) -> Vec<i32> {
-    let numbers = random.numbers(count, i32::MIN.into(), i32::MAX.into());
-    numbers.iter().map(|z| *z as i32).collect()
-}
-
-fn shorts(random: &mut Random, count: usize) -> Vec<i16> {
-    let numbers = random.numbers(count, SHORT[0], SHORT[1]);
-    numbers.iter().map(|z| *z as i16).collect()
-}
 
 /// Inputs that are hard for n points: both ends, each row's largest sums, single inputs, and random ones.
 fn inputs(random: &mut Random, n: usize) -> Vec<Vec<i16>> {
     let mut all = vec![vec![-32768; n], vec![32767; n], vec![0; n]];
     for i in 0..n {
-        for ends in [SHORT, [SHORT[1], SHORT[0]]] {
+        let [low, high] = SIXTEEN_BITS;
+        for ends in [[low, high], [high, low]] {
             let weight = |j: usize| model::weights::weight(1, n, i, j);
             let number = |j: usize| ends[usize::from(weight(j) > 0)] as i16;
             all.push((0..n).map(number).collect());
@@ -37,8 +28,8 @@ fn inputs(random: &mut Random, n: usize) -> Vec<Vec<i16>> {
     all
 }
 
-fn run_of(list: &StepList, x: Vec<i16>, held: Vec<i32>) -> StepCall {
-    StepCall::Run {
+fn run_of(list: &StepList, x: Vec<i16>, held: Vec<i32>) -> RunCall {
+    RunCall {
         inputs: list.inputs as u32,
         cells: list.cells as u32,
         steps: list.numbers(),
@@ -52,20 +43,20 @@ fn run_of(list: &StepList, x: Vec<i16>, held: Vec<i32>) -> StepCall {
 /// steps than document 02 allows.
 #[test]
 fn stored_lists_run() {
-    let mut c = Tally::open("lists of steps, runs of the three that are stored");
+    let mut c = Comparison::open("lists of steps, runs of the three that are stored");
     for ((n, ..), most) in LISTED.iter().zip([8, 127, 620]) {
         let list = make(*n);
         assert!(list.multiplying() <= most && list.steps.len() <= 2048 && list.cells <= 2048);
         for x in inputs(&mut c.random, *n) {
             let before = held(&mut c.random, *n);
             let run = c.outcome(&run_of(&list, x.clone(), before.clone()));
-            let line = c.outcome(&StepCall::Forward {
+            let line = c.outcome(&ForwardCall {
                 n: *n as u32,
                 x,
                 held: before,
             });
             assert_eq!(run, line);
-            assert_eq!(run.told, [0, list.multiplying() as u32]);
+            assert_eq!(run.told.count, list.multiplying() as u32);
         }
     }
     c.close(&[0]);
@@ -74,7 +65,7 @@ fn stored_lists_run() {
 /// The lists as they are handed out, into buffers of every near length; and lines of lengths that they refuse.
 #[test]
 fn stored_lists_handed_out() {
-    let mut c = Tally::open("lists of steps, handed out and refused");
+    let mut c = Comparison::open("lists of steps, handed out and refused");
     let points = (0..=40).chain([64, 1 << 16, u32::MAX]);
     for n in points {
         let (steps, outs) = match LISTED.iter().find(|l| l.0 == n as usize) {
@@ -84,78 +75,64 @@ fn stored_lists_handed_out() {
         let near = [(0, 0), (1, 0), (0, 1), (1, 1), (2, 1), (1, 2)];
         for (steps, outs) in near.map(|(a, b)| (steps + a - 1, outs + b - 1)) {
             let (steps, outs) = (held(&mut c.random, steps), held(&mut c.random, outs));
-            c.outcome(&StepCall::List { n, steps, outs });
+            c.outcome(&ListCall { n, steps, outs });
         }
         for (input, output) in [(0, 0), (1, 1), (2, 1), (1, 2), (0, 1)] {
             let long = |more: usize| (n.min(100) as usize + more).saturating_sub(1);
             let x = shorts(&mut c.random, long(input));
             let held = held(&mut c.random, long(output));
-            c.outcome(&StepCall::Forward { n, x, held });
+            c.outcome(&ForwardCall { n, x, held });
         }
     }
     c.close(&numbers(&["steps_list", "steps_forward"]));
 }
 
-/// A list as numbers, whose every step reads cells that were written: it is refused for 29 alone.
-struct Numbers {
-    inputs: u32,
-    cells: u32,
-    steps: Vec<i32>,
-    outs: Vec<i32>,
+/// A list whose every step reads cells that were written, so that it is refused for 29 alone; it has yet to be filled.
+fn any_list(random: &mut Random) -> RunCall {
+    let cells = random.choose(&[1, 2, 3, 7, 40, 2047, 2048]);
+    let inputs = random.below((cells as usize).min(33) + 1);
+    let mut written: Vec<i32> = (0..inputs as i32).collect();
+    let mut steps = vec![];
+    for _ in 0..random.below(60) {
+        if written.is_empty() {
+            break;
+        }
+        let step = any_step(random, cells, &written);
+        steps.extend(step);
+        if !written.contains(&step[1]) {
+            written.push(step[1]);
+        }
+    }
+    let outs = match written.len() {
+        0 => vec![],
+        _ => (0..random.below(20))
+            .map(|_| random.choose(&written))
+            .collect(),
+    };
+    // a part of a step at the end is no step
+    let part = random.below(4);
+    steps.extend(held(random, part));
+    RunCall {
+        inputs: inputs as u32,
+        cells,
+        steps,
+        outs,
+        x: vec![],
+        held: vec![],
+    }
 }
 
-impl Numbers {
-    fn of(random: &mut Random) -> Numbers {
-        let cells = random.choose(&[1, 2, 3, 7, 40, 2047, 2048]);
-        let inputs = random.below((cells as usize).min(33) + 1);
-        let mut written: Vec<i32> = (0..inputs as i32).collect();
-        let mut steps = vec![];
-        for _ in 0..random.below(60) {
-            if written.is_empty() {
-                break;
-            }
-            let to = random.below(cells as usize) as i32;
-            let operation = random.choose(&[0, 0, 1, 1, 2, 3, 3, -1, 4, i32::MIN, i32::MAX]);
-            let a = random.choose(&written);
-            let last = match operation {
-                0 | 1 => random.choose(&written),
-                2 => random.between(i32::MIN.into(), i32::MAX.into()) as i32,
-                _ => constant(random),
-            };
-            steps.extend([operation, to, a, last]);
-            if !written.contains(&to) {
-                written.push(to);
-            }
-        }
-        let outs = match written.len() {
-            0 => vec![],
-            _ => (0..random.below(20))
-                .map(|_| random.choose(&written))
-                .collect(),
-        };
-        // a part of a step at the end is no step
-        let part = random.below(4);
-        steps.extend(held(random, part));
-        Numbers {
-            inputs: inputs as u32,
-            cells,
-            steps,
-            outs,
-        }
-    }
-
-    fn call(self, random: &mut Random) -> StepCall {
-        let x = shorts(random, self.inputs as usize);
-        let held = held(random, self.outs.len());
-        StepCall::Run {
-            inputs: self.inputs,
-            cells: self.cells,
-            steps: self.steps,
-            outs: self.outs,
-            x,
-            held,
-        }
-    }
+/// A step that writes any cell, and reads some that were written.
+fn any_step(random: &mut Random, cells: u32, written: &[i32]) -> [i32; 4] {
+    let to = random.below(cells as usize) as i32;
+    let operation = random.choose(&[0, 0, 1, 1, 2, 3, 3, -1, 4, i32::MIN, i32::MAX]);
+    let a = random.choose(written);
+    let last = match operation {
+        0 | 1 => random.choose(written),
+        2 => random.between(i32::MIN.into(), i32::MAX.into()) as i32,
+        _ => constant(random),
+    };
+    [operation, to, a, last]
 }
 
 fn constant(random: &mut Random) -> i32 {
@@ -166,66 +143,67 @@ fn constant(random: &mut Random) -> i32 {
     }
 }
 
+/// Inputs, and an output of the list's length.
+fn fill(random: &mut Random, list: &mut RunCall, inputs: u32) {
+    list.x = shorts(random, inputs as usize);
+    list.held = held(random, list.outs.len());
+}
+
 #[test]
-fn any_list() {
-    let mut c = Tally::open("lists of steps, any that reads what it wrote");
+fn any_lists() {
+    let mut c = Comparison::open("lists of steps, any that reads what it wrote");
     for _ in 0..6000 {
-        let call = Numbers::of(&mut c.random).call(&mut c.random);
+        let mut call = any_list(&mut c.random);
+        let inputs = call.inputs;
+        fill(&mut c.random, &mut call, inputs);
         c.outcome(&call);
     }
     c.close(&[0, 29]);
 }
 
-/// Lists with some numbers changed: cells that are none or not written, operations that are none, other lengths.
+/// Some numbers changed: cells that are none or not written, operations that are none.
+fn spoil(random: &mut Random, list: &mut RunCall) {
+    let cells = list.cells as i32;
+    for _ in 0..random.below(4) {
+        let bad = random.choose(&[-1, cells, cells - 1, 0, i32::MIN, i32::MAX, 2048, 5]);
+        match random.below(3) {
+            0 if !list.outs.is_empty() => {
+                let k = random.below(list.outs.len());
+                list.outs[k] = bad;
+            }
+            _ if !list.steps.is_empty() => {
+                let k = random.below(list.steps.len());
+                list.steps[k] = bad;
+            }
+            _ => {}
+        }
+    }
+}
+
 #[test]
 fn spoiled_lists() {
-    let mut c = Tally::open("lists of steps, spoiled");
+    let mut c = Comparison::open("lists of steps, spoiled");
     for _ in 0..12000 {
         let random = &mut c.random;
-        let mut list = Numbers::of(random);
+        let mut list = any_list(random);
         if !random.once_in(3) {
             // few cells, so that most numbers change something
             list.cells = list.cells.min(64);
         }
-        let cells = list.cells as i32;
-        for _ in 0..random.below(4) {
-            let bad = random.choose(&[-1, cells, cells - 1, 0, i32::MIN, i32::MAX, 2048, 5]);
-            let at = |len: usize, random: &mut Random| random.below(len.max(1));
-            match random.below(3) {
-                0 if !list.outs.is_empty() => {
-                    let k = at(list.outs.len(), random);
-                    list.outs[k] = bad;
-                }
-                _ if !list.steps.is_empty() => {
-                    let k = at(list.steps.len(), random);
-                    list.steps[k] = bad;
-                }
-                _ => {}
-            }
-        }
+        spoil(random, &mut list);
         if random.once_in(20) {
-            list.inputs = random.choose(&[0, 1, cells as u32, cells as u32 + 1, u32::MAX]);
+            let cells = list.cells;
+            list.inputs = random.choose(&[0, 1, cells, cells + 1, u32::MAX]);
         }
-        let mut call = if list.inputs > 100 {
-            let inputs = list.inputs;
-            list.inputs = 3;
-            let mut call = list.call(random);
-            if let StepCall::Run { inputs: i, .. } = &mut call {
-                *i = inputs;
-            }
-            call
-        } else {
-            list.call(random)
-        };
-        if let StepCall::Run { x, held, .. } = &mut call {
-            if random.once_in(15) {
-                x.push(1);
-            }
-            if random.once_in(15) {
-                held.push(1);
-            }
+        let inputs = if list.inputs > 100 { 3 } else { list.inputs };
+        fill(random, &mut list, inputs);
+        if random.once_in(15) {
+            list.x.push(1);
         }
-        c.outcome(&call);
+        if random.once_in(15) {
+            list.held.push(1);
+        }
+        c.outcome(&list);
     }
     c.close(&[0, 6, 7, 17, 28, 29]);
 }
@@ -233,7 +211,7 @@ fn spoiled_lists() {
 /// 18 before everything else: one step or cell too many, a part of a step, and every other reason beside it.
 #[test]
 fn too_long() {
-    let mut c = Tally::open("lists of steps, at 2,048 steps and cells");
+    let mut c = Comparison::open("lists of steps, at 2,048 steps and cells");
     for numbers in [8188, 8191, 8192, 8193, 8195, 8196, 8199, 8200] {
         for cells in [4, 2047, 2048, 2049, 4096, u32::MAX] {
             for (inputs, x, outs, y) in [(4, 4, 4, 4), (4, 3, 4, 4), (4, 4, 4, 5), (5, 5, 4, 4)] {
@@ -244,7 +222,7 @@ fn too_long() {
                 }
                 steps.truncate(numbers);
                 let (x, held) = (shorts(random, x), held(random, y));
-                let call = StepCall::Run {
+                let call = RunCall {
                     inputs,
                     cells,
                     steps,

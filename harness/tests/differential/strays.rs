@@ -16,7 +16,7 @@ fn strays() {
             }
         }
     }
-    c.close();
+    c.close(&[0]);
 }
 
 /// "Result j differs from 4096*N*x[j] by at most M*D(j)", on lines of numbers of every size up to 2^30.
@@ -30,12 +30,12 @@ fn round_trips_stay_within() {
                 let x: Vec<i64> = (0..n).map(|_| c.random.between(-most, most)).collect();
                 let back = round_trip(kind.into(), &x);
                 for (j, (back, x)) in (0..).zip(back.iter().zip(&x)) {
-                    let d = i64::from(c.outcome(Call::stray(kind, n, j)).output[0]);
+                    let d = i64::from(c.outcome(&Call::stray(kind, n, j)).output[0]);
                     let off = (back - 4096 * i64::from(n) * x).abs();
                     assert!(off <= most * d, "kind {kind}, {n} points, place {j}");
                 }
             }
         }
     }
-    c.close();
+    c.close(&[0]);
 }

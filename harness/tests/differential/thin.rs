@@ -2,16 +2,17 @@
 //! that stay, the other inverse beside it, and every set of refusals.
 
 use crate::calls::{area, shapes, KINDS, SIZES};
-use hoengtila_harness::call::{most_kept, Call, What};
+use hoengtila_harness::call::{Call, What};
+use hoengtila_harness::compare::Comparison;
 use hoengtila_harness::header::numbers;
 use hoengtila_harness::library::Shape;
 use hoengtila_harness::patterns::{
     block, block_about_the_rails, clear_outside, keeping_any, line, LAYOUTS, PATTERNS, SIXTEEN_BITS,
 };
 use hoengtila_harness::random::Random;
-use hoengtila_harness::tally::Tally;
 use hoengtila_harness::thin_call::ThinCall;
-use hoengtila_harness::wrong::{asked, Wrong};
+use hoengtila_harness::widths::{most_kept, narrow};
+use hoengtila_harness::wrong::{right_length, Wrong};
 
 /// Each side of 1 with each other side that it may have.
 const THIN: [[u32; 2]; 6] = [[1, 4], [1, 8], [1, 16], [4, 1], [8, 1], [16, 1]];
@@ -22,11 +23,10 @@ fn call(random: &mut Random, shape: Shape, c: &[i64], longer: [usize; 2]) -> Thi
 }
 
 fn call_of(random: &mut Random, shape: Shape, c: &[i64], lengths: [usize; 2]) -> ThinCall {
-    let short = |z: &i64| i16::try_from(*z).expect("a call takes numbers of 16 bits");
     let [first, second] = lengths.map(|n| (0..n).map(|_| random.bits() as i32).collect());
     ThinCall {
         shape,
-        input: c.iter().map(short).collect(),
+        input: narrow(c),
         first,
         second,
     }
@@ -58,7 +58,7 @@ fn line_of(shape: &Shape) -> (u32, usize) {
 
 /// Compared with the model; then that the second area stayed, that the kind of the side of 1 says nothing, and that a line on its side
 /// is the same line.
-fn compare_thin(c: &mut Tally, shape: Shape, input: &[i64]) {
+fn compare_thin(c: &mut Comparison, shape: Shape, input: &[i64]) {
     let longer = longer(&mut c.random);
     let call = call(&mut c.random, shape, input, longer);
     let found = c.outcome(&call);
@@ -101,7 +101,7 @@ fn compare_thin(c: &mut Tally, shape: Shape, input: &[i64]) {
 
 #[test]
 fn thin_blocks() {
-    let mut c = Tally::open("blocks one sample wide or high");
+    let mut c = Comparison::open("blocks one sample wide or high");
     for most in thin_shapes() {
         for shape in [most, keeping_any(&mut c.random, &most)] {
             for pattern in PATTERNS {
@@ -118,7 +118,7 @@ fn thin_blocks() {
 /// One coefficient alone, at every place, about the numbers at which its residuals change.
 #[test]
 fn thin_blocks_about_half_a_level() {
-    let mut c = Tally::open("blocks one sample wide or high, about half a level");
+    let mut c = Comparison::open("blocks one sample wide or high, about half a level");
     for shape in thin_shapes() {
         for place in 0..area(&shape) {
             let weight = c.random.between(1, 90);
@@ -133,24 +133,20 @@ fn thin_blocks_about_half_a_level() {
 }
 
 /// Two stages: the residuals and the rail count of the inverse, and the middle values in the first area, 0 in columns not kept.
-fn compare_two(c: &mut Tally, shape: Shape, input: &[i64]) -> u32 {
+fn compare_two(c: &mut Comparison, shape: Shape, input: &[i64]) -> u32 {
     let longer = longer(&mut c.random);
     let call = call(&mut c.random, shape, input, longer);
     let found = c.outcome(&call);
     let n = input.len();
-    let single = c.others(&[Call {
-        what: What::Inverse(shape),
-        order: vec![],
-        input: call.input.clone(),
-        held: call.second[..n].to_vec(),
-    }]);
-    let answer = single[0].answer;
+    let held = call.second[..n].to_vec();
+    let single = c.other(&Call::new(What::Inverse(shape), call.input.clone(), held));
+    let answer = single.answer;
     assert_eq!(
         [found.told.number, found.told.place],
         [answer.number, answer.place]
     );
     assert_eq!(found.told.rails, answer.rails);
-    assert_eq!(found.second[..n], single[0].output);
+    assert_eq!(found.second[..n], single.output);
     assert_eq!(found.second[n..], call.second[n..]);
     assert_eq!(found.first[n..], call.first[n..]);
     if answer.number == 0 {
@@ -162,7 +158,7 @@ fn compare_two(c: &mut Tally, shape: Shape, input: &[i64]) -> u32 {
 
 #[test]
 fn two_stages() {
-    let mut c = Tally::open("two stages over lent areas");
+    let mut c = Comparison::open("two stages over lent areas");
     let mut rails = 0;
     for (k, most) in shapes().into_iter().enumerate() {
         for shape in [most, keeping_any(&mut c.random, &most)] {
@@ -183,7 +179,7 @@ fn two_stages() {
 /// Every set of the tests that the call can meet, on shapes with a side of 1 and on others; both areas stay as they were.
 #[test]
 fn refused_thin_blocks() {
-    let mut c = Tally::open("blocks over lent areas, refused for every set of reasons");
+    let mut c = Comparison::open("blocks over lent areas, refused for every set of reasons");
     for (bits, thin) in (0..512).flat_map(|bits| [false, true, true].map(|thin| (bits, thin))) {
         for _ in 0..4 {
             let wrong = Wrong::among(&[1, 2, 3, 4, 5, 20, 6, 7, 8], bits);
@@ -220,7 +216,7 @@ fn sides(random: &mut Random, thin: bool, wrong: &Wrong) -> [u32; 2] {
 fn call_with(random: &mut Random, thin: bool, wrong: &Wrong) -> ThinCall {
     let sides = sides(random, thin, wrong);
     let shape = wrong.shape(random, sides, 12);
-    let right = asked(&shape);
+    let right = right_length(&shape);
     let numbers = wrong.coefficients(random, &shape, &[1, -1, 32767, -32768]);
     let spared = random.below(3);
     let lengths = [0, 1].map(|k| {
@@ -237,7 +233,7 @@ fn call_with(random: &mut Random, thin: bool, wrong: &Wrong) -> ThinCall {
 /// Every pair of sides from 0 to 33, and that the sides of a refused call are told in their order.
 #[test]
 fn every_pair_of_sides() {
-    let mut c = Tally::open("blocks over lent areas, every pair of sides");
+    let mut c = Comparison::open("blocks over lent areas, every pair of sides");
     for (w, h) in (0..=33).flat_map(|w| (0..=33).map(move |h| (w, h))) {
         let shape = most_kept([w, h, 1, 2, 9]);
         let input = vec![0; area(&shape)];
@@ -256,7 +252,7 @@ fn every_pair_of_sides() {
 /// Every pair of lengths of the areas of a thin block, from 0 to one too many, and each length of its input.
 #[test]
 fn lengths_of_areas() {
-    let mut c = Tally::open("blocks over lent areas of every length");
+    let mut c = Comparison::open("blocks over lent areas of every length");
     for [w, h] in THIN.into_iter().chain([[4, 4]]) {
         let shape = most_kept([w, h, 0, 1, 12]);
         let n = area(&shape);

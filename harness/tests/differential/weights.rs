@@ -21,7 +21,7 @@ fn weights() {
             }
         }
     }
-    c.close();
+    c.close(&[0]);
 }
 
 /// The sine or cosine that a weight stands for, scaled as H.266 scales its tables.
@@ -46,13 +46,13 @@ fn weights_are_near_the_real_ones() {
     for kind in KINDS {
         for n in SIZES {
             for (i, j) in (0..n).flat_map(|i| (0..n).map(move |j| (i, j))) {
-                let weight = c.outcome(Call::weight(kind, n, i, j)).output[0];
+                let weight = c.outcome(&Call::weight(kind, n, i, j)).output[0];
                 let distance = (f64::from(weight) - real_weight(kind, n, i, j)).abs();
                 assert!(distance < 1.5, "kind {kind}, {n} points, ({i}, {j})");
                 farthest = farthest.max(distance);
             }
         }
     }
-    c.close();
+    c.close(&[0]);
     eprintln!("no weight is farther than {farthest:.3} from the real one");
 }

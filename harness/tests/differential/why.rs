@@ -2,7 +2,8 @@
 //! residual which the library's own inverse gives; and every set of refusals.
 
 use crate::calls::{area, KINDS, SIZES};
-use hoengtila_harness::call::{most_kept, Call, What};
+use hoengtila_harness::call::{Call, What};
+use hoengtila_harness::compare::Comparison;
 use hoengtila_harness::header::numbers;
 use hoengtila_harness::library::{Parts, Shape};
 use hoengtila_harness::long_call::LongCall;
@@ -11,9 +12,9 @@ use hoengtila_harness::patterns::{
     block, block_about_the_rails, clear_outside, is_kept, keeping_any, LAYOUTS, SIXTEEN_BITS,
 };
 use hoengtila_harness::random::Random;
-use hoengtila_harness::tally::Tally;
 use hoengtila_harness::why_call::WhyCall;
-use hoengtila_harness::wrong::{asked, Wrong};
+use hoengtila_harness::widths::{most_kept, narrow};
+use hoengtila_harness::wrong::{right_length, Wrong};
 
 /// No switch, and the switch as a caller may write it, with the deepest depth of each.
 const SWITCHES: [(Option<u32>, u32); 4] = [
@@ -22,11 +23,6 @@ const SWITCHES: [(Option<u32>, u32); 4] = [
     (Some(1), 16),
     (Some(u32::MAX), 16),
 ];
-
-fn narrow(numbers: &[i64]) -> Vec<i32> {
-    let number = |z: &i64| i32::try_from(*z).expect("a call takes numbers of 32 bits");
-    numbers.iter().map(number).collect()
-}
 
 fn is_on(extended: Option<u32>) -> bool {
     extended.is_some_and(|switch| switch != 0)
@@ -66,17 +62,15 @@ fn shapes(random: &mut Random, deepest: u32) -> Vec<Shape> {
 }
 
 /// The residuals that the library's inverse gives, of the same numbers.
-fn residuals(c: &mut Tally, shape: Shape, extended: Option<u32>, input: &[i64]) -> (u32, Vec<i32>) {
+fn residuals(
+    c: &mut Comparison,
+    shape: Shape,
+    extended: Option<u32>,
+    input: &[i64],
+) -> (u32, Vec<i32>) {
     let held = vec![0; area(&shape)];
     let outcome = match extended {
-        None => c
-            .others(&[Call {
-                what: What::Inverse(shape),
-                order: vec![],
-                input: input.iter().map(|z| *z as i16).collect(),
-                held,
-            }])
-            .remove(0),
+        None => c.other(&Call::new(What::Inverse(shape), narrow(input), held)),
         Some(extended) => c.other(&LongCall {
             shape,
             extended,
@@ -102,7 +96,7 @@ fn sum(parts: &Parts) -> i128 {
 
 /// "Put over 2^(27-d) the four add up to the residual exactly": at some places, the corners among them. How many parts of clipping
 /// were not 0.
-fn compare_places(c: &mut Tally, shape: Shape, extended: Option<u32>, input: &[i64]) -> usize {
+fn compare_places(c: &mut Comparison, shape: Shape, extended: Option<u32>, input: &[i64]) -> usize {
     let (rails, residuals) = residuals(c, shape, extended, input);
     let all = area(&shape);
     let mut places: Vec<usize> = (0..6).map(|_| c.random.below(all)).collect();
@@ -120,7 +114,7 @@ fn compare_places(c: &mut Tally, shape: Shape, extended: Option<u32>, input: &[i
 
 #[test]
 fn parts_of_residuals() {
-    let mut c = Tally::open("parts of a residual");
+    let mut c = Comparison::open("parts of a residual");
     let mut clipped = 0;
     for (extended, deepest) in SWITCHES {
         for (k, shape) in shapes(&mut c.random, deepest).into_iter().enumerate() {
@@ -138,7 +132,7 @@ fn parts_of_residuals() {
 /// Coefficients whose middle values stand about an end of the range, and small ones, of which none is clipped.
 #[test]
 fn parts_about_the_rails() {
-    let mut c = Tally::open("parts of a residual about the rails");
+    let mut c = Comparison::open("parts of a residual about the rails");
     let (mut clipped, mut fair) = (0, 0);
     for (k, shape) in shapes(&mut c.random, 12).into_iter().enumerate() {
         let extended = [None, Some(0)][k % 2];
@@ -155,7 +149,7 @@ fn parts_about_the_rails() {
 /// All places of a block of each size, and the first that is none.
 #[test]
 fn parts_at_every_place() {
-    let mut c = Tally::open("parts of a residual at every place");
+    let mut c = Comparison::open("parts of a residual at every place");
     for (k, (w, h)) in SIZES
         .iter()
         .flat_map(|w| SIZES.map(|h| (*w, h)))
@@ -176,7 +170,7 @@ fn parts_at_every_place() {
 /// With the switch off, numbers of 16 bits have the same parts by either call.
 #[test]
 fn parts_with_the_switch_off() {
-    let mut c = Tally::open("parts of a residual, the switch off beside 16 bits");
+    let mut c = Comparison::open("parts of a residual, the switch off beside 16 bits");
     for shape in shapes(&mut c.random, 12) {
         let mut input = block(&mut c.random, LAYOUTS[0], &shape, SIXTEEN_BITS);
         if !c.random.once_in(4) {
@@ -192,7 +186,7 @@ fn parts_with_the_switch_off() {
 /// Every set of the tests that a question can meet: those of the inverse without 7, then 27 of the long numbers and 15.
 #[test]
 fn refused_questions() {
-    let mut c = Tally::open("parts of a residual, refused for every set of reasons");
+    let mut c = Comparison::open("parts of a residual, refused for every set of reasons");
     for (bits, switch) in (0..1024).flat_map(|bits| SWITCHES.map(|switch| (bits, switch))) {
         let wrong = Wrong::among(&[1, 2, 3, 4, 5, 20, 6, 8, 9, 7], bits);
         let call = call_with(&mut c.random, switch, &wrong);
@@ -210,7 +204,7 @@ fn call_with(
 ) -> WhyCall {
     let sides = wrong.sides(random);
     let shape = wrong.shape(random, sides, deepest);
-    let right = asked(&shape);
+    let right = right_length(&shape);
     let mut numbers = wrong.coefficients(random, &shape, &[1, -1]);
     if shape.width > 0 && extended.is_some() {
         let [low, high] = ends_of(&shape, extended);

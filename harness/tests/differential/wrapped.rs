@@ -85,8 +85,7 @@ fn wrapped_lines() {
         }
     }
     eprintln!("wrapped: {additions} additions in {wrapped} of {calls} calls");
-    let c = c.close();
-    assert_eq!(c.met[0], calls, "these lines are taken");
+    c.close(&[0]);
 }
 
 /// Every set of the tests that such a line can meet: 21 after the others.
@@ -100,8 +99,7 @@ fn refused_wrapped_lines() {
             c.add(call);
         }
     }
-    let c = c.close();
-    assert_eq!(c.numbers(), numbers(&["line_forward_wrapped"]));
+    c.close(&numbers(&["line_forward_wrapped"]));
 }
 
 fn refused(random: &mut Random, wrong: &Wrong, bad: bool) -> Call {
@@ -137,7 +135,6 @@ fn spoil(random: &mut Random, order: &mut Vec<u32>) {
 #[test]
 fn orders_that_are_none() {
     let mut c = Comparison::open("lines whose sums wrap, with orders that are none");
-    let mut refused = 0;
     for (n, direction) in SIZES.into_iter().flat_map(|n| DIRECTIONS.map(|d| (n, d))) {
         let places = || (0..n as usize).flat_map(|a| (0..n as usize).map(move |b| (a, b)));
         for (a, b) in places() {
@@ -152,9 +149,7 @@ fn orders_that_are_none() {
             let numbers = [n, random.choose(&KINDS), start(random)];
             let call = wrapped_call(random, direction, numbers, &order, &x, n as usize);
             c.add(call);
-            refused += 1;
         }
     }
-    let c = c.close();
-    assert_eq!(c.met[21], refused, "21 alone");
+    c.close(&[21]);
 }

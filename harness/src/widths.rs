@@ -1,0 +1,113 @@
+//! Between the library's numbers, of 16 and 32 bits, and the model's, of 64.
+
+use crate::library::{Answer, Parts, Shape, Taken, Thin};
+use crate::model;
+use std::any::type_name;
+
+pub fn wide<T: Copy + Into<i64>>(numbers: &[T]) -> Vec<i64> {
+    numbers.iter().map(|z| (*z).into()).collect()
+}
+
+/// Fewer bits have to hold each number: the scope says that they do, and the model, on 64, would show it.
+pub fn narrow<T: TryFrom<i64>>(numbers: &[i64]) -> Vec<T> {
+    numbers.iter().map(|z| number(*z)).collect()
+}
+
+pub fn number<T: TryFrom<i64>>(z: i64) -> T {
+    T::try_from(z).unwrap_or_else(|_| panic!("{z} leaves {}", type_name::<T>()))
+}
+
+/// In the header's order.
+pub fn shape_numbers(shape: &Shape) -> [u32; 7] {
+    [
+        shape.width,
+        shape.height,
+        shape.horizontal,
+        shape.vertical,
+        shape.depth,
+        shape.columns,
+        shape.rows,
+    ]
+}
+
+/// A shape that keeps the most, by the model: tests that reach the library through a peer cannot call it here.
+pub fn most_kept(numbers: [u32; 5]) -> Shape {
+    let [width, height, horizontal, vertical, depth] = numbers.map(i64::from);
+    model::Shape::new(width, height, horizontal, vertical, depth).into()
+}
+
+impl From<Shape> for model::Shape {
+    fn from(shape: Shape) -> model::Shape {
+        model::Shape::of(shape_numbers(&shape).map(i64::from))
+    }
+}
+
+impl From<model::Shape> for Shape {
+    fn from(shape: model::Shape) -> Shape {
+        let [width, height, horizontal, vertical, depth, columns, rows] =
+            shape.numbers().map(number);
+        Shape {
+            width,
+            height,
+            horizontal,
+            vertical,
+            depth,
+            columns,
+            rows,
+        }
+    }
+}
+
+impl From<Answer> for model::Answer {
+    fn from(answer: Answer) -> model::Answer {
+        model::Answer {
+            number: answer.number.into(),
+            place: answer.place.into(),
+            rails: answer.rails.into(),
+        }
+    }
+}
+
+impl From<model::Answer> for Answer {
+    fn from(answer: model::Answer) -> Answer {
+        Answer {
+            number: number(answer.number),
+            place: number(answer.place),
+            rails: number(answer.rails),
+        }
+    }
+}
+
+impl From<model::thin::Thin> for Thin {
+    fn from(thin: model::thin::Thin) -> Thin {
+        Thin {
+            number: number(thin.answer.number),
+            place: number(thin.answer.place),
+            rails: number(thin.answer.rails),
+            area: number(thin.area),
+        }
+    }
+}
+
+impl From<model::steps::Taken> for Taken {
+    fn from(taken: model::steps::Taken) -> Taken {
+        Taken {
+            number: number(taken.number),
+            count: number(taken.count),
+        }
+    }
+}
+
+impl From<model::why::Parts> for Parts {
+    fn from(parts: model::why::Parts) -> Parts {
+        let part = |z: i128| i64::try_from(z).expect("a part of the model leaves 64 bits");
+        Parts {
+            number: number(parts.number),
+            place: number(parts.place),
+            exact: part(parts.exact),
+            middle_roundings: part(parts.middle_roundings),
+            clippings: part(parts.clippings),
+            last_rounding: part(parts.last_rounding),
+        }
+    }
+}
