@@ -3,7 +3,7 @@
 //! The library answers through `peer/picture.c` (`HOENGTILA_PICTURES` gives its command line) and, where the build links it,
 //! directly. `tests/pictures` at the root of the repository gives both.
 
+mod calls;
 mod cases;
 mod program;
-mod subject;
 mod tools;

@@ -1,8 +1,9 @@
 //! The Netpbm tools and ImageMagick: they read what the library writes, sample by sample, and the library reads what they write.
 
+use crate::calls::{subject, ReadCall, WriteCall};
 use crate::cases::{block, header, SIZES};
-use crate::subject::{Call, Library};
 use hoengtila_harness::random::{seeded, Random};
+use hoengtila_harness::subject::{Answered, Subject};
 use std::io::Write;
 use std::process::{Command, Stdio};
 
@@ -51,21 +52,23 @@ fn plain(text: &[u8]) -> (u32, u32, Vec<i64>) {
     (numbers[0] as u32, numbers[1] as u32, numbers[3..].to_vec())
 }
 
-fn written(library: &mut Library, width: u32, height: u32, residuals: &[i32]) -> Vec<u8> {
-    let outcome = library.run(&Call::Write {
+fn written(library: &mut Subject, width: u32, height: u32, residuals: &[i32]) -> Vec<u8> {
+    let outcome = library.ask(&WriteCall {
         width,
         height,
         residuals: residuals.to_vec(),
         held: vec![0; 15 + 2 * residuals.len()],
     });
     assert_eq!(outcome.number(), 0);
-    outcome.bytes[..outcome.answer[1] as usize].to_vec()
+    outcome.picture().to_vec()
 }
 
-fn read(library: &mut Library, file: Vec<u8>, count: usize) -> (Vec<u32>, Vec<i32>) {
-    let held = vec![0; count];
-    let outcome = library.run(&Call::Read { file, held });
-    (outcome.answer, outcome.numbers)
+/// The residuals of a picture, which has these sides.
+fn read(library: &mut Subject, file: Vec<u8>, width: u32, height: u32) -> Vec<i32> {
+    let held = vec![0; (width * height) as usize];
+    let outcome = library.ask(&ReadCall { file, held });
+    assert!(outcome.is_taken(width, height), "{outcome:?}");
+    outcome.output
 }
 
 /// Every size with a block of its own.
@@ -91,7 +94,7 @@ const READERS: [&[&str]; 2] = [
 
 #[test]
 fn tools_read_what_is_written() {
-    let mut library = Library::open();
+    let mut library = subject();
     let mut random = seeded();
     for tool in READERS {
         let mut samples = 0;
@@ -129,7 +132,7 @@ const WRITERS: [&[&str]; 3] = [
 
 #[test]
 fn what_tools_write_is_read() {
-    let mut library = Library::open();
+    let mut library = subject();
     let mut random = seeded();
     for tool in WRITERS {
         let (mut samples, mut comments) = (0, 0);
@@ -143,8 +146,7 @@ fn what_tools_write_is_read() {
                 break;
             };
             comments += usize::from(file[..20.min(file.len())].contains(&b'#'));
-            let (answer, back) = read(&mut library, file, residuals.len());
-            assert_eq!(answer, [0, width, height], "{tool:?}");
+            let back = read(&mut library, file, width, height);
             assert_eq!(back, residuals, "{tool:?}");
             samples += residuals.len();
         }
@@ -157,7 +159,7 @@ fn what_tools_write_is_read() {
 /// Headers in any spelling: what the library reads, Netpbm reads.
 #[test]
 fn netpbm_reads_the_same_headers() {
-    let mut library = Library::open();
+    let mut library = subject();
     let mut random = seeded();
     let mut files = 0;
     for _ in 0..300 {
@@ -170,8 +172,7 @@ fn netpbm_reads_the_same_headers() {
             return;
         };
         assert_eq!(plain(&text), (width, height, samples), "{file:02x?}");
-        let (answer, back) = read(&mut library, file, residuals.len());
-        assert_eq!((answer, back), (vec![0, width, height], residuals));
+        assert_eq!(read(&mut library, file, width, height), residuals);
         files += 1;
     }
     println!("pictures: {files} headers in any spelling are read as Netpbm reads them");

@@ -5,4 +5,5 @@
 //! of the repository gives both.
 
 mod calls;
+mod cases;
 mod program;

@@ -156,7 +156,7 @@ fn no_files_and_no_blocks() {
     assert_eq!(run.found(&[empty.clone(), empty]), wanted);
     let missing = run.folder.join("missing");
     assert_eq!(
-        run.found(&[missing.clone()]),
+        run.found(std::slice::from_ref(&missing)),
         (
             String::new(),
             format!("{} could not be read\n", missing.display())

@@ -1,12 +1,13 @@
 //! The library against the model, and what is proved of it as checks: kept and dropped stretches cover the file once and in order,
 //! an undamaged file comes back unchanged, and what is written is read to its end.
 
+use crate::calls::{peer, subject, Call, Outcome};
 use crate::files::{damage, strays, whole, worst};
-use crate::subject::{by_model, Call, Library, Outcome};
+use hoengtila_harness::compare::Comparison;
 use hoengtila_harness::files::stored;
-use hoengtila_harness::header::each_set;
+use hoengtila_harness::header::{each_set, numbers};
 use hoengtila_harness::model::Cursor;
-use hoengtila_harness::random::seeded;
+use hoengtila_harness::subject::{Answered, Asked};
 
 const FILES: usize = 10_000;
 
@@ -36,55 +37,53 @@ fn without(file: &[u8], dropped: &[(usize, usize)]) -> Vec<u8> {
     rest
 }
 
-fn check_theorems(library: &mut Library, call: &Call, outcome: &Outcome) {
-    if outcome.answer[0] != 0 {
-        assert_eq!(outcome.answer[1..], [0, 0]);
+fn check_theorems(c: &mut Comparison, call: &Call, outcome: &Outcome) {
+    if outcome.number() != 0 {
+        assert_eq!([outcome.told.bytes, outcome.told.stretches], [0, 0]);
         assert_eq!((&outcome.out, &outcome.list), (&call.out, &call.list));
         return;
     }
     let saved = outcome.saved();
     assert_eq!(without(&call.file, &outcome.dropped()), saved);
-    assert_eq!(is_undamaged(&call.file), outcome.answer[2] == 0);
+    assert_eq!(is_undamaged(&call.file), outcome.told.stretches == 0);
     assert!(is_undamaged(saved));
-    let again = library.run(&Call::of(saved));
-    assert_eq!((again.saved(), again.answer[2]), (saved, 0));
+    let again = c.other(&Call::of(saved));
+    assert_eq!((again.saved(), again.told.stretches), (saved, 0));
 }
 
-fn compare(library: &mut Library, call: &Call) -> Outcome {
-    let outcome = library.run(call);
-    if outcome != by_model(call) {
-        panic!("the library and the model differ on {:02x?}", call.file);
-    }
-    check_theorems(library, call, &outcome);
+/// Compared with the model, and the theorems on it.
+fn compare(c: &mut Comparison, call: &Call) -> Outcome {
+    let outcome = c.outcome(call);
+    check_theorems(c, call, &outcome);
     outcome
 }
 
 #[test]
 fn broken_files() {
-    let mut library = Library::open();
-    let mut random = seeded();
+    let mut c = Comparison::of(subject(), "salvage: stored and broken files");
     let (mut dropped, mut bytes) = (0, 0);
     for case in stored() {
-        compare(&mut library, &Call::of(&case.file));
+        compare(&mut c, &Call::of(&case.file));
     }
     for _ in 0..FILES {
-        let mut file = whole(&mut random);
-        for _ in 0..random.below(5) {
-            damage(&mut random, &mut file);
+        let mut file = whole(&mut c.random);
+        for _ in 0..c.random.below(5) {
+            damage(&mut c.random, &mut file);
         }
-        let outcome = compare(&mut library, &Call::of(&file));
-        dropped += outcome.answer[2];
+        let outcome = compare(&mut c, &Call::of(&file));
+        dropped += outcome.told.stretches;
         bytes += file.len();
     }
     println!(
         "salvage: {FILES} files of {bytes} bytes, {dropped} dropped stretches, are the model's"
     );
+    c.close(&[0, 14]);
 }
 
 #[test]
 fn refusals() {
-    let mut library = Library::open();
-    let mut number = |call: Call| compare(&mut library, &call).answer[0];
+    let mut c = Comparison::of(subject(), "salvage: files about each refusal");
+    let mut number = |call: Call| compare(&mut c, &call).number();
     let with = |file: Vec<u8>, out: usize, list: usize| Call {
         file,
         out: vec![0xEE; out],
@@ -100,13 +99,14 @@ fn refusals() {
     assert_eq!(number(with(strays(1025), 45_099, 2050)), 7);
     assert_eq!(number(with(strays(1489), 65_536, 2978)), 26);
     assert_eq!(number(with(vec![], 0, 2048)), 0);
-    println!("salvage: 14, 7 and 26 are met where the model meets them");
+    c.close(&numbers(&["salvage"]));
 }
 
 /// Every set of refusals. For 14 a file goes on with bytes that belong to the last stretch.
 #[test]
 fn orders() {
-    let mut library = Library::open();
+    let title = "salvage: every set of refusals, in the header's order";
+    let mut c = Comparison::of(subject(), title);
     each_set("salvage", |set| {
         let mut file = strays(set.pick(26, 1025, 3));
         file.resize(set.pick(14, 65_537, file.len()), 9);
@@ -115,23 +115,29 @@ fn orders() {
             list: vec![7; 2048],
             file,
         };
-        compare(&mut library, &call).answer[0]
+        compare(&mut c, &call).number()
     });
-    println!("salvage: every set of refusals, in the header's order");
+    c.close(&numbers(&["salvage"]));
 }
 
 #[test]
 fn worst_files() {
-    let mut library = Library::open();
+    let mut c = Comparison::of(subject(), "salvage: the worst files");
+    let mut peer = peer();
     let mut most = (0, "");
     for (name, file) in worst() {
         assert_eq!(file.len(), 65_536);
         let call = Call::of(&file);
-        compare(&mut library, &call);
-        let took = (0..3).map(|_| library.timed(&call).1).min().expect("a run");
+        compare(&mut c, &call);
+        let mut timed = |_| {
+            peer.exchange(call.request(), |replies| call.timed(replies))
+                .1
+        };
+        let took = (0..3).map(&mut timed).min().expect("a run");
         assert!(took < MOST_MICROSECONDS, "{name}: {took} microseconds");
         most = most.max((took, name));
     }
+    c.close(&[0]);
     println!(
         "salvage: the worst file of 65,536 bytes ({}) takes {} ms",
         most.1,

@@ -3,7 +3,7 @@
 //! The library answers through `peer/salvage.c` (`HOENGTILA_SALVAGE` gives its command line) and, where the build links it,
 //! directly. `tests/salvage` at the root of the repository gives both.
 
+mod calls;
 mod cases;
 mod files;
 mod program;
-mod subject;
