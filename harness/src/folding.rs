@@ -1,12 +1,12 @@
 //! Where a fast path may add numbers of a line before it multiplies: rows of weights repeat themselves up to a sign, and
 //! whoever uses that adds the inputs that meet the same weight. Such a sum of 16-bit inputs needs more than 16 bits;
-//! tests put large numbers of one sign where it would overflow.
+//! tests put large numbers of one sign where it would overflow. The lists of steps (`steps`) add the same sums.
 
 /// Places of a line, from 0, with the sign that each is added with.
 pub type Folded = Vec<(usize, i64)>;
 
 /// 2n+1 as a product of two, which decides the classes of rows; a prime has no classes.
-fn factors(n: usize) -> Option<[usize; 2]> {
+pub fn factors(n: usize) -> Option<[usize; 2]> {
     match n {
         4 => Some([3, 3]),
         16 => Some([3, 11]),
@@ -26,8 +26,8 @@ pub fn sums(n: usize) -> Vec<Folded> {
     all
 }
 
-/// "Sharing between weights": each of the last places is a signed sum of earlier ones in most rows.
-fn sharing_sums(n: usize, p: usize, q: usize) -> Vec<Folded> {
+/// "Sharing between weights": each of the last places is a signed sum of earlier ones in most rows. One of those, then the last.
+pub fn sharing_sums(n: usize, p: usize, q: usize) -> Vec<Folded> {
     let half = (q - 1) / 2;
     let first_of = |k: usize| match p {
         3 => vec![(k, 1), (q - k, 1)],
@@ -44,7 +44,7 @@ fn sharing_sums(n: usize, p: usize, q: usize) -> Vec<Folded> {
 
 /// Rows that repeat a few values: place b*q + k meets the weight of place k, with the sign of (-1)^b, and b*q - k with
 /// the other one.
-fn repeating_sums(n: usize, q: usize) -> Vec<Folded> {
+pub fn repeating_sums(n: usize, q: usize) -> Vec<Folded> {
     (1..=(q - 1) / 2)
         .map(|k| (1..=n).filter_map(|place| repeated(place, q, k)).collect())
         .collect()

@@ -230,5 +230,5 @@ impl Asked for ForwardCall {
 }
 
 fn has_list(n: u32) -> bool {
-    LISTED.iter().any(|l| l.0 == n as usize)
+    LISTED.contains(&(n as usize))
 }

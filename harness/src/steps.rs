@@ -1,22 +1,18 @@
-//! The lists of steps of the forward DST-VII (document 02, Wish 6), made by folding, and written down in the two places where
-//! they are stored: the definitions (`crates/steps/specs/Lists.antt`) and the data (`crates/step_lists/src/stored.rt`).
+//! The lists of steps of the forward DST-VII (document 02, Wish 6), made by folding, and written down as they are stored: as
+//! definitions (`crates/steps/specs/Lists.antt`), as data (`crates/step_lists/src/stored.rt`) and as the command prints them
+//! (`crates/print_steps/stdout`).
 //!
 //! With L = 2N+1 = p*q the rows fall into three classes. Rows whose 2i+1 neither p nor q divides are folded over their first
 //! N-h places, h = (q-1)/2; those that p divides over the first h, those that only q divides over the first (p-1)/2. Inputs are
 //! added first and multiplied once; among the rows of the first class the products at the places that q divides are shared.
 
+use crate::folding::{factors, repeating_sums, sharing_sums, Folded};
 use crate::model::steps::{Step, StepList};
-use crate::model::weights::weight;
+use crate::model::weights::dst_vii;
 use std::collections::HashMap;
 
-/// The points that have a list, each with p and q.
-pub const LISTED: [(usize, usize, usize); 3] = [(4, 3, 3), (16, 3, 11), (32, 5, 13)];
-
-/// The kind of DST-VII.
-const DST_VII: i64 = 1;
-
-/// A place of a line, from 1, with the sign that it is added by.
-type Term = (i64, usize);
+/// The points that have a list.
+pub const LISTED: [usize; 3] = [4, 16, 32];
 
 struct Maker {
     n: usize,
@@ -28,7 +24,7 @@ struct Maker {
 
 /// The list of n points.
 pub fn make(n: usize) -> StepList {
-    let (n, p, q) = *LISTED.iter().find(|l| l.0 == n).expect("n has a list");
+    let [p, q] = factors(n).expect("n has a list");
     let (cells, steps) = (n, vec![]);
     Maker {
         n,
@@ -40,15 +36,10 @@ pub fn make(n: usize) -> StepList {
     .list()
 }
 
-/// The cell of an input, or of the folded input that stands in its place.
-fn input(place: usize) -> usize {
-    place - 1
-}
-
 impl Maker {
-    /// The weight of row i at a place.
+    /// The weight of row i at a place, from 1.
     fn weight(&self, i: usize, place: usize) -> i64 {
-        weight(DST_VII, self.n, i, place - 1)
+        dst_vii(self.n, i, place - 1)
     }
 
     fn fresh(&mut self) -> usize {
@@ -81,29 +72,18 @@ impl Maker {
         (0..self.n).any(|i| self.class(i) == class)
     }
 
-    /// The folded inputs of a class whose rows repeat with period q: place b*q + k adds to k with the sign (-1)^b, place
-    /// b*q - k with the other.
+    /// The folded inputs of a class whose rows repeat with period q.
     fn periodic(&mut self, q: usize) -> Vec<usize> {
-        let half = (q - 1) / 2;
-        let terms = |k: usize| -> Vec<Term> {
-            let sign = |b: usize| if b % 2 == 0 { 1 } else { -1 };
-            let pair = |b: usize| [(-sign(b), (b * q).wrapping_sub(k)), (sign(b), b * q + k)];
-            let inside = |term: &Term| (1..=self.n).contains(&term.1);
-            (0..=(self.n + half) / q)
-                .flat_map(pair)
-                .filter(inside)
-                .collect()
-        };
-        let all: Vec<Vec<Term>> = (1..=half).map(terms).collect();
-        all.iter().map(|terms| self.folded(terms)).collect()
+        let sums = repeating_sums(self.n, q);
+        sums.iter().map(|terms| self.folded(terms)).collect()
     }
 
-    /// The sum of terms, of which the first is added, in a fresh cell.
-    fn folded(&mut self, terms: &[Term]) -> usize {
+    /// The sum of inputs, of which the first is added, in a fresh cell. A place from 0 is the cell of its input.
+    fn folded(&mut self, terms: &Folded) -> usize {
         let cell = self.fresh();
-        let mut so_far = input(terms[0].1);
-        for (sign, place) in &terms[1..] {
-            self.signed(*sign, cell, so_far, input(*place));
+        let mut so_far = terms[0].0;
+        for (input, sign) in &terms[1..] {
+            self.signed(*sign, cell, so_far, *input);
             so_far = cell;
         }
         cell
@@ -111,35 +91,30 @@ impl Maker {
 
     /// The folded inputs of the first class, in place: each of the last h inputs is added into the first n-h.
     fn leading(&mut self) {
-        let (q, h) = (self.q, (self.q - 1) / 2);
-        for k in 1..=h {
-            let into: Vec<Term> = if self.p == 3 {
-                vec![(1, k), (1, q - k)]
-            } else {
-                vec![(-1, k), (-1, q - k), (1, q + k), (1, 2 * q - k)]
-            };
-            for (sign, g) in into {
-                self.signed(sign, input(g), input(g), input(self.n - h + k));
-            }
+        for sum in sharing_sums(self.n, self.p, self.q) {
+            let ((first, sign), (last, _)) = (sum[0], sum[1]);
+            self.signed(sign, first, first, last);
         }
     }
 
-    /// The places of the first class that q divides, and the rows' weights there: a sign, and the pattern with the first positive.
-    fn shared_places(&self) -> Vec<usize> {
+    /// The first n-h places, from 1: those that q divides, or the others.
+    fn first_places(&self, divided: bool) -> Vec<usize> {
         let last = self.n - (self.q - 1) / 2;
-        (1..=last).filter(|g| g % self.q == 0).collect()
+        let wanted = |g: &usize| g.is_multiple_of(self.q) == divided;
+        (1..=last).filter(wanted).collect()
     }
 
+    /// The weights of a row of the first class at the places that q divides: a sign, and the pattern with the first positive.
     fn pattern(&self, i: usize) -> (i64, Vec<i64>) {
-        let weights = self.shared_places().into_iter().map(|g| self.weight(i, g));
-        let weights: Vec<i64> = weights.collect();
+        let places = self.first_places(true).into_iter();
+        let weights: Vec<i64> = places.map(|g| self.weight(i, g)).collect();
         let sign = weights[0].signum();
         (sign, weights.into_iter().map(|w| sign * w).collect())
     }
 
     /// One cell for each pattern, its products shared among the patterns.
     fn shared(&mut self) -> HashMap<Vec<i64>, usize> {
-        let places = self.shared_places();
+        let places = self.first_places(true);
         let mut products: HashMap<(usize, i64), usize> = HashMap::new();
         let mut patterns = HashMap::new();
         for i in (0..self.n)
@@ -170,7 +145,7 @@ impl Maker {
     fn product(&mut self, made: &mut HashMap<(usize, i64), usize>, g: usize, w: i64) -> usize {
         *made.entry((g, w)).or_insert_with(|| {
             let cell = self.fresh();
-            self.multiply(cell, input(g), w);
+            self.multiply(cell, g - 1, w);
             cell
         })
     }
@@ -193,6 +168,12 @@ impl Maker {
         }
     }
 
+    /// The folded inputs that a row of the first class multiplies by itself, with its weights.
+    fn own_terms(&self, i: usize) -> Vec<(usize, i64)> {
+        let places = self.first_places(false).into_iter();
+        places.map(|g| (g - 1, self.weight(i, g))).collect()
+    }
+
     fn list(mut self) -> StepList {
         let second = self.periodic(self.q);
         let third = if self.has_class(3) {
@@ -202,28 +183,19 @@ impl Maker {
         };
         self.leading();
         let patterns = self.shared();
-        let shared = self.shared_places();
         let scratch = self.fresh();
         let outs: Vec<usize> = (0..self.n).map(|_| self.fresh()).collect();
-        for i in 0..self.n {
-            let class = self.class(i);
-            let folded = |cells: &[usize]| {
-                (0..cells.len())
-                    .map(|k| (cells[k], self.weight(i, k + 1)))
-                    .collect()
+        for (i, out) in outs.iter().enumerate() {
+            let weighted = |(place, cell): (usize, &usize)| (*cell, self.weight(i, place));
+            let (terms, sum) = match self.class(i) {
+                1 => {
+                    let (sign, pattern) = self.pattern(i);
+                    (self.own_terms(i), Some((sign, patterns[&pattern])))
+                }
+                2 => ((1..).zip(&second).map(weighted).collect(), None),
+                _ => ((1..).zip(&third).map(weighted).collect(), None),
             };
-            let own = |g: &usize| !shared.contains(g);
-            let first = (1..=self.n - (self.q - 1) / 2).filter(own);
-            let terms: Vec<(usize, i64)> = match class {
-                1 => first.map(|g| (input(g), self.weight(i, g))).collect(),
-                2 => folded(&second),
-                _ => folded(&third),
-            };
-            let sum = (class == 1).then(|| {
-                let (sign, pattern) = self.pattern(i);
-                (sign, patterns[&pattern])
-            });
-            self.output(&terms, sum, scratch, outs[i]);
+            self.output(&terms, sum, scratch, *out);
         }
         StepList {
             inputs: self.n,
@@ -240,7 +212,7 @@ pub fn definitions() -> String {
         use mathlib.Core.List.{List, [], _∷_}\n\
         use lib.IntN.{pos, negsuc}\n\
         use Rattle.steps.specs.Steps.{Step, add, sub, mul, StepList}\n";
-    let lists = LISTED.map(|(n, ..)| definition(n, &make(n)));
+    let lists = LISTED.map(|n| definition(n, &make(n)));
     format!("{head}\n{}", lists.join("\n"))
 }
 
@@ -280,7 +252,7 @@ pub fn stored() -> String {
         ghost use lib.IntN.{pos};\n\
         ghost use Rattle.steps.specs.Lists.{list4, list16, list32};\n\
         ghost use Rattle.steps.specs.Numbers.{encode};\n";
-    let lists = LISTED.map(|(n, ..)| stored_list(n, &make(n)));
+    let lists = LISTED.map(|n| stored_list(n, &make(n)));
     format!("{head}\n{}", lists.join("\n"))
 }
 

@@ -7,7 +7,7 @@ fn main() {
     let text = match std::env::args().nth(1).as_deref() {
         Some("definitions") => definitions(),
         Some("stored") => stored(),
-        Some("printed") => LISTED.map(|(n, ..)| printed(n)).concat(),
+        Some("printed") => LISTED.map(printed).concat(),
         _ => panic!("say which file: definitions, stored or printed"),
     };
     print!("{text}");

@@ -59,7 +59,7 @@ pub fn dct_ii(n: usize, i: usize, j: usize) -> i64 {
     if n == 1 {
         return 64;
     }
-    if i % 2 == 0 {
+    if i.is_multiple_of(2) {
         return dct_ii(n / 2, i / 2, j.min(n - 1 - j));
     }
     let turn = i * (2 * j + 1) % (4 * n);

@@ -44,14 +44,14 @@ fn run_of(list: &StepList, x: Vec<i16>, held: Vec<i32>) -> RunCall {
 #[test]
 fn stored_lists_run() {
     let mut c = Comparison::open("lists of steps, runs of the three that are stored");
-    for ((n, ..), most) in LISTED.iter().zip([8, 127, 620]) {
-        let list = make(*n);
+    for (n, most) in LISTED.into_iter().zip([8, 127, 620]) {
+        let list = make(n);
         assert!(list.multiplying() <= most && list.steps.len() <= 2048 && list.cells <= 2048);
-        for x in inputs(&mut c.random, *n) {
-            let before = held(&mut c.random, *n);
+        for x in inputs(&mut c.random, n) {
+            let before = held(&mut c.random, n);
             let run = c.outcome(&run_of(&list, x.clone(), before.clone()));
             let line = c.outcome(&ForwardCall {
-                n: *n as u32,
+                n: n as u32,
                 x,
                 held: before,
             });
@@ -68,9 +68,10 @@ fn stored_lists_handed_out() {
     let mut c = Comparison::open("lists of steps, handed out and refused");
     let points = (0..=40).chain([64, 1 << 16, u32::MAX]);
     for n in points {
-        let (steps, outs) = match LISTED.iter().find(|l| l.0 == n as usize) {
-            Some((n, ..)) => (make(*n).numbers().len(), *n),
-            None => (72, 4),
+        let points = n as usize;
+        let (steps, outs) = match LISTED.contains(&points) {
+            true => (make(points).numbers().len(), points),
+            false => (72, 4),
         };
         let near = [(0, 0), (1, 0), (0, 1), (1, 1), (2, 1), (1, 2)];
         for (steps, outs) in near.map(|(a, b)| (steps + a - 1, outs + b - 1)) {
