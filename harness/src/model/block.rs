@@ -1,29 +1,43 @@
 //! "Blocks": both directions, with the middle rounding, the clip, the rail count and the hunt.
 
-use super::call::{first_refusal, Answer, Shape};
+use super::call::{refusal_at, Answer, Shape};
 use super::line::{forward_sums, inverse_sums};
 
 /// Both ends of what a middle value may be.
 pub const RAILS: [i64; 2] = [-32768, 32767];
 
-/// The inverse of a block of coefficients.
+/// The inverse of a block of coefficients: its last shift is "20-d".
 pub fn inverse(shape: &Shape, coefficients: &[i64], residuals: &mut [i64]) -> Answer {
-    let place = |shape: &Shape| first_outside(shape, coefficients);
-    if let Some(refusal) = refusal(shape, coefficients.len(), residuals.len(), 8, place) {
-        return refusal;
-    }
+    let refusal = shape
+        .refusal()
+        .or_else(|| shape.length_refusal(coefficients.len(), residuals.len()))
+        .or_else(|| refusal_at(8, first_outside(shape, coefficients)));
+    refusal.unwrap_or_else(|| stages(shape, RAILS, 20 - shape.depth, coefficients, residuals))
+}
+
+/// Both stages of an inverse that is taken, over the range of its middle values and its last shift s.
+pub fn stages(
+    shape: &Shape,
+    range: [i64; 2],
+    s: i64,
+    coefficients: &[i64],
+    residuals: &mut [i64],
+) -> Answer {
     let unclipped = unclipped(shape, coefficients);
-    let column = |values: &Vec<i64>| values.iter().map(|m| clipped(*m)).collect();
+    let column = |values: &Vec<i64>| values.iter().map(|m| clipped(*m, range)).collect();
     let middles: Vec<Vec<i64>> = unclipped.iter().map(column).collect();
-    let rows = (0..shape.height).flat_map(|y| residual_row(shape, &middles, y));
+    let rows = (0..shape.height).flat_map(|y| residual_row(shape, s, &middles, y));
     residuals.copy_from_slice(&rows.collect::<Vec<i64>>());
-    Answer::accepted(rail_count(&unclipped))
+    Answer::accepted(rail_count(&unclipped, range))
 }
 
 /// The forward of a block of residuals.
 pub fn forward(shape: &Shape, residuals: &[i64], coefficients: &mut [i64]) -> Answer {
-    let place = |shape: &Shape| first_too_large(shape, residuals);
-    if let Some(refusal) = refusal(shape, residuals.len(), coefficients.len(), 9, place) {
+    let refusal = shape
+        .refusal()
+        .or_else(|| shape.length_refusal(residuals.len(), coefficients.len()))
+        .or_else(|| refusal_at(9, first_too_large(shape, residuals)));
+    if let Some(refusal) = refusal {
         return refusal;
     }
     let columns = forward_columns(shape, &forward_rows(shape, residuals));
@@ -37,25 +51,6 @@ pub fn forward(shape: &Shape, residuals: &[i64], coefficients: &mut [i64]) -> An
         };
     }
     Answer::accepted(0)
-}
-
-/// The shape's, 6 and 7, then the hunt's number with its place. The hunt runs only where those do not apply.
-fn refusal(
-    shape: &Shape,
-    input: usize,
-    output: usize,
-    number: i64,
-    hunt: impl Fn(&Shape) -> Option<usize>,
-) -> Option<Answer> {
-    shape
-        .refusal()
-        .or_else(|| {
-            first_refusal(&[
-                (6, input as i64 != shape.area()),
-                (7, output as i64 != shape.area()),
-            ])
-        })
-        .or_else(|| hunt(shape).map(|place| Answer::refused(number, place as i64)))
 }
 
 /// "Place x + y*w is column x, row y."
@@ -99,11 +94,11 @@ fn rounded(e: i64) -> i64 {
 
 /// "The middle value is (e+64)>>7, clipped to -32768..32767."
 pub fn middle(e: i64) -> i64 {
-    clipped(rounded(e))
+    clipped(rounded(e), RAILS)
 }
 
-fn clipped(m: i64) -> i64 {
-    m.clamp(RAILS[0], RAILS[1])
+fn clipped(m: i64, [low, high]: [i64; 2]) -> i64 {
+    m.clamp(low, high)
 }
 
 /// "Each kept column goes through the vertical line over its kept rows, giving h sums e."
@@ -117,15 +112,15 @@ pub fn column_sums(shape: &Shape, coefficients: &[i64]) -> Vec<Vec<i64>> {
 }
 
 /// The h middle values of each kept column before the clip.
-pub fn unclipped(shape: &Shape, coefficients: &[i64]) -> Vec<Vec<i64>> {
+fn unclipped(shape: &Shape, coefficients: &[i64]) -> Vec<Vec<i64>> {
     let column = |sums: Vec<i64>| sums.into_iter().map(rounded).collect();
     let columns = column_sums(shape, coefficients).into_iter();
     columns.map(column).collect()
 }
 
 /// "how many middle values of kept columns, over all h rows": document 02, Wish 2, "only where the clip altered it".
-fn rail_count(unclipped: &[Vec<i64>]) -> i64 {
-    let altered = |m: &&i64| clipped(**m) != **m;
+fn rail_count(unclipped: &[Vec<i64>], range: [i64; 2]) -> i64 {
+    let altered = |m: &&i64| clipped(**m, range) != **m;
     unclipped.iter().flatten().filter(altered).count() as i64
 }
 
@@ -137,12 +132,11 @@ pub fn fair_ends(shape: &Shape, coefficients: &[i64]) -> usize {
 }
 
 /// "Then each row goes through the horizontal line over its kept columns, giving r. The residual is
-/// (r + 2^(19-d)) >> (20-d)".
-fn residual_row(shape: &Shape, middles: &[Vec<i64>], y: i64) -> Vec<i64> {
+/// (r + 2^(19-d)) >> (20-d)"; document 02, Wish 14: "s stands for 20-d".
+fn residual_row(shape: &Shape, s: i64, middles: &[Vec<i64>], y: i64) -> Vec<i64> {
     let row: Vec<i64> = middles.iter().map(|column| column[y as usize]).collect();
     let sums = inverse_sums(shape.horizontal, shape.width as usize, &row);
-    let residual = |r| floor_shift(r + (1 << (19 - shape.depth)), 20 - shape.depth);
-    sums.into_iter().map(residual).collect()
+    sums.into_iter().map(|r| round_shift(r, s)).collect()
 }
 
 fn log2(n: i64) -> i64 {

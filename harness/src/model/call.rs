@@ -71,13 +71,26 @@ impl Shape {
 
     /// The same with another deepest depth.
     pub fn refusal_to(&self, deepest: i64) -> Option<Answer> {
+        self.refusal_by([is_size(self.width), is_size(self.height)], deepest)
+    }
+
+    /// The same, with whether the call takes the width and the height.
+    pub fn refusal_by(&self, takes: [bool; 2], deepest: i64) -> Option<Answer> {
         first_refusal(&[
-            (1, !is_size(self.width)),
-            (2, !is_size(self.height)),
+            (1, !takes[0]),
+            (2, !takes[1]),
             (3, !is_kind(self.horizontal)),
             (4, !is_kind(self.vertical)),
             (5, !(8..=deepest).contains(&self.depth)),
             (20, !self.keeps()),
+        ])
+    }
+
+    /// 6 and 7: a length that is not w*h.
+    pub fn length_refusal(&self, input: usize, output: usize) -> Option<Answer> {
+        first_refusal(&[
+            (6, input as i64 != self.area()),
+            (7, output as i64 != self.area()),
         ])
     }
 }
@@ -116,6 +129,11 @@ pub fn first_refusal(tests: &[(i64, bool)]) -> Option<Answer> {
     Some(Answer::refused(*number, 0))
 }
 
+/// A refusal for a number at a place, where there is such a place.
+pub fn refusal_at(number: i64, place: Option<usize>) -> Option<Answer> {
+    place.map(|place| Answer::refused(number, place as i64))
+}
+
 pub fn is_size(n: i64) -> bool {
     [4, 8, 16, 32].contains(&n)
 }
@@ -128,8 +146,4 @@ pub fn is_kind(kind: i64) -> bool {
 /// What can be kept in a direction: 16 at most, but "All 32 columns or rows are kept in a direction of kind 0".
 pub fn most(kind: i64, n: i64) -> i64 {
     n.min(if kind == 0 { 32 } else { 16 })
-}
-
-pub fn is_depth(d: i64) -> bool {
-    (8..=12).contains(&d)
 }

@@ -1,9 +1,8 @@
 //! Document 02, Wish 14: "The second edition's long numbers". The inverse of a block whose range and last shift follow the
 //! extended-precision switch; `docs/DECISIONS.md` has where the two rules come from.
 
-use super::block::{first_outside, round_shift, unclipped};
-use super::call::{first_refusal, Answer, Shape};
-use super::line::inverse_sums;
+use super::block::{first_outside, stages};
+use super::call::{refusal_at, Answer, Shape};
 
 /// R: coefficients and middle values are -2^R .. 2^R - 1.
 pub fn reach(extended: bool, depth: i64) -> i64 {
@@ -11,6 +10,20 @@ pub fn reach(extended: bool, depth: i64) -> i64 {
         (depth + 6).clamp(15, 20)
     } else {
         15
+    }
+}
+
+/// s, the last shift.
+pub fn last_shift(extended: bool, depth: i64) -> i64 {
+    5 + reach(extended, depth) - depth
+}
+
+/// "5 accepts 13..16 only with the switch on".
+pub fn deepest(extended: bool) -> i64 {
+    if extended {
+        16
+    } else {
+        12
     }
 }
 
@@ -34,40 +47,15 @@ pub fn inverse_long(
     coefficients: &[i64],
     residuals: &mut [i64],
 ) -> Answer {
-    if let Some(refusal) = refusal(shape, extended, coefficients, residuals.len()) {
-        return refusal;
-    }
-    let [low, high] = ends(extended, shape.depth);
-    let unclipped = unclipped(shape, coefficients);
-    let altered = |m: &&i64| !(low..=high).contains(*m);
-    let rails = unclipped.iter().flatten().filter(altered).count();
-    let last = 5 + reach(extended, shape.depth) - shape.depth;
-    for y in 0..shape.height as usize {
-        let row: Vec<i64> = unclipped.iter().map(|c| c[y].clamp(low, high)).collect();
-        let sums = inverse_sums(shape.horizontal, shape.width as usize, &row);
-        let from = y * shape.width as usize;
-        for (x, sum) in sums.into_iter().enumerate() {
-            residuals[from + x] = round_shift(sum, last);
-        }
-    }
-    Answer::accepted(rails as i64)
-}
-
-/// "5 accepts 13..16 only with the switch on; 27 for a coefficient outside the range, after 8, with its place".
-fn refusal(shape: &Shape, extended: bool, c: &[i64], output: usize) -> Option<Answer> {
-    let lengths = || {
-        first_refusal(&[
-            (6, c.len() as i64 != shape.area()),
-            (7, output as i64 != shape.area()),
-        ])
-    };
-    let outside = || first_outside(shape, c).map(|place| Answer::refused(8, place as i64));
-    let beyond = || first_beyond(shape, extended, c).map(|place| Answer::refused(27, place as i64));
-    shape
-        .refusal_to(if extended { 16 } else { 12 })
-        .or_else(lengths)
-        .or_else(outside)
-        .or_else(beyond)
+    // "27 for a coefficient outside the range, after 8, with its place"
+    let refusal = shape
+        .refusal_to(deepest(extended))
+        .or_else(|| shape.length_refusal(coefficients.len(), residuals.len()))
+        .or_else(|| refusal_at(8, first_outside(shape, coefficients)))
+        .or_else(|| refusal_at(27, first_beyond(shape, extended, coefficients)));
+    let range = ends(extended, shape.depth);
+    let s = last_shift(extended, shape.depth);
+    refusal.unwrap_or_else(|| stages(shape, range, s, coefficients, residuals))
 }
 
 #[cfg(test)]
@@ -78,7 +66,7 @@ mod tests {
     /// The rules, depth by depth: R and the last shift.
     #[test]
     fn rules_of_the_switch() {
-        let of = |extended, d| (reach(extended, d), 5 + reach(extended, d) - d);
+        let of = |extended, d| (reach(extended, d), last_shift(extended, d));
         assert_eq!([8, 9].map(|d| of(true, d)), [(15, 12), (15, 11)]);
         for d in 10..=14 {
             assert_eq!(of(true, d), (d + 6, 11));

@@ -1,9 +1,9 @@
 //! Document 02, Wish 7: "Blocks one sample wide or high", and the blocks of the inverse by the same call. The final shift is H.266's,
 //! which for one stage is one less of the 2^6 * sqrt(n) that each stage leaves: `docs/DECISIONS.md` has where it comes from.
 
-use super::block::{column_sums, first_outside, inverse, middle};
-use super::call::{first_refusal, is_depth, is_kind, is_size, most, Answer, Shape};
-use super::weights::weight;
+use super::block::{column_sums, first_outside, inverse, middle, round_shift};
+use super::call::{first_refusal, is_size, refusal_at, Answer, Shape};
+use super::line::inverse_sums;
 
 /// What a call hands back: `area` says which area starts with the residuals, 0 where the call was refused.
 #[derive(Clone, Copy, Debug, PartialEq, Eq)]
@@ -37,22 +37,14 @@ fn is_side(n: i64, other: i64) -> bool {
 /// 1 to 5 and 20 with such sides, 6, "19 for a work area shorter than w*h, in place of 7", and 8.
 fn refusal(shape: &Shape, c: &[i64], lengths: [usize; 2]) -> Option<Answer> {
     let [w, h] = [shape.width, shape.height];
-    let keeps = (1..=most(shape.horizontal, w)).contains(&shape.columns)
-        && (1..=most(shape.vertical, h)).contains(&shape.rows);
-    let of_shape = first_refusal(&[
-        (1, !is_side(w, h)),
-        (2, !is_side(h, w)),
-        (3, !is_kind(shape.horizontal)),
-        (4, !is_kind(shape.vertical)),
-        (5, !is_depth(shape.depth)),
-        (20, !keeps),
-    ]);
     let of_lengths = || {
         let short = lengths.iter().any(|n| (*n as i64) < shape.area());
         first_refusal(&[(6, c.len() as i64 != shape.area()), (19, short)])
     };
-    let outside = || first_outside(shape, c).map(|place| Answer::refused(8, place as i64));
-    of_shape.or_else(of_lengths).or_else(outside)
+    shape
+        .refusal_by([is_side(w, h), is_side(h, w)], 12)
+        .or_else(of_lengths)
+        .or_else(|| refusal_at(8, first_outside(shape, c)))
 }
 
 /// "H.266 runs one stage on them, with no middle rounding and no middle clip": the line of the side that is not 1, over what is kept
@@ -63,16 +55,9 @@ fn one_stage(shape: &Shape, c: &[i64]) -> Vec<i64> {
     } else {
         [shape.horizontal, shape.width, shape.columns]
     };
-    let shift = 21 - shape.depth;
-    let residual = |j: i64| {
-        let product = |i: i64| {
-            i128::from(weight(kind, n as usize, i as usize, j as usize)) * i128::from(c[i as usize])
-        };
-        let sum: i128 = (0..kept).map(product).sum();
-        // the floor, for negative sums too
-        (sum + (1 << (shift - 1))).div_euclid(1 << shift) as i64
-    };
-    (0..n).map(residual).collect()
+    let sums = inverse_sums(kind, n as usize, &c[..kept as usize]);
+    let residual = |sum| round_shift(sum, 21 - shape.depth);
+    sums.into_iter().map(residual).collect()
 }
 
 /// "the first holds the middle values, 0 in columns not kept": at x + y*w.
@@ -86,6 +71,7 @@ fn middles(shape: &Shape, c: &[i64]) -> Vec<i64> {
 #[cfg(test)]
 mod tests {
     use super::*;
+    use crate::model::weights::weight;
     use crate::random;
 
     /// 1 by 4, DST-VII, d = 10: 64 in the first place gives 64 * (29, 55, 74, 84), rounded by 2^11.

@@ -1,9 +1,9 @@
 //! Document 02, Wish 4: "Why is this residual what it is?" The four parts of one residual, put over 2^(7+s), where s is the last
 //! shift: each is worked out by what it is called, and that they add up is for a test to find.
 
-use super::block::{first_outside, floor_shift, round_shift};
-use super::call::{first_refusal, Answer, Shape};
-use super::long::{ends, first_beyond, reach};
+use super::block::{first_outside, floor_shift, round_shift, RAILS};
+use super::call::{first_refusal, refusal_at, Answer, Shape};
+use super::long::{deepest, ends, first_beyond, last_shift};
 use super::weights::weight;
 
 /// What a call hands back: "Refusals, all four parts 0".
@@ -39,26 +39,19 @@ pub fn why(shape: &Shape, coefficients: &[i64], place: i64) -> Parts {
     let beyond = || None;
     match refusal(shape, 12, coefficients, beyond, place) {
         Some(refusal) => Parts::refused(refusal),
-        None => parts(
-            shape,
-            [-32768, 32767],
-            20 - shape.depth,
-            coefficients,
-            place,
-        ),
+        None => parts(shape, RAILS, 20 - shape.depth, coefficients, place),
     }
 }
 
 /// "in demand 3 and in Wish 4, s stands for 20-d": the same of a block of long coefficients.
 pub fn why_long(shape: &Shape, extended: bool, coefficients: &[i64], place: i64) -> Parts {
     let beyond = || first_beyond(shape, extended, coefficients);
-    let deepest = if extended { 16 } else { 12 };
-    match refusal(shape, deepest, coefficients, beyond, place) {
+    match refusal(shape, deepest(extended), coefficients, beyond, place) {
         Some(refusal) => Parts::refused(refusal),
         None => {
-            let last = 5 + reach(extended, shape.depth) - shape.depth;
             let range = ends(extended, shape.depth);
-            parts(shape, range, last, coefficients, place)
+            let s = last_shift(extended, shape.depth);
+            parts(shape, range, s, coefficients, place)
         }
     }
 }
@@ -71,17 +64,16 @@ fn refusal(
     beyond: impl Fn() -> Option<usize>,
     place: i64,
 ) -> Option<Answer> {
-    let at = |number, place: usize| Answer::refused(number, place as i64);
     shape
         .refusal_to(deepest)
         .or_else(|| first_refusal(&[(6, c.len() as i64 != shape.area())]))
-        .or_else(|| first_outside(shape, c).map(|place| at(8, place)))
-        .or_else(|| beyond().map(|place| at(27, place)))
+        .or_else(|| refusal_at(8, first_outside(shape, c)))
+        .or_else(|| refusal_at(27, beyond()))
         .or_else(|| first_refusal(&[(15, place >= shape.area())]))
 }
 
-/// The parts at a place of a block that is taken, by its range, its last shift and its kept part.
-fn parts(shape: &Shape, [low, high]: [i64; 2], last: i64, c: &[i64], place: i64) -> Parts {
+/// The parts at a place of a block that is taken, by its range, its last shift s and its kept part.
+fn parts(shape: &Shape, [low, high]: [i64; 2], s: i64, c: &[i64], place: i64) -> Parts {
     let [w, h] = [shape.width, shape.height];
     let [x, y] = [place % w, place / w];
     let across = |i: i64| weight(shape.horizontal, w as usize, i as usize, x as usize);
@@ -99,14 +91,14 @@ fn parts(shape: &Shape, [low, high]: [i64; 2], last: i64, c: &[i64], place: i64)
         (0..shape.columns).map(product).sum()
     };
     let r = carried(&after) as i64;
-    // a middle value stands for 128 times as much, and a residual for 2^last times a middle value
+    // a middle value stands for 128 times as much, and a residual for 2^s times a middle value
     Parts {
         number: 0,
         place: 0,
         exact: exact(shape, c, [x, y]),
         middle_roundings: carried(&|i| 128 * before(i) - e(i)),
         clippings: carried(&|i| 128 * (after(i) - before(i))),
-        last_rounding: i128::from(round_shift(r, last) * (1 << last) - r) * 128,
+        last_rounding: i128::from(round_shift(r, s) * (1 << s) - r) * 128,
     }
 }
 
@@ -206,7 +198,7 @@ mod tests {
             let c = block(&mut random, &shape, ends(true, shape.depth));
             let mut residuals = vec![0; c.len()];
             inverse_long(&shape, true, &c, &mut residuals);
-            let s = 5 + reach(true, shape.depth) - shape.depth;
+            let s = last_shift(true, shape.depth);
             for _ in 0..20 {
                 let place = random.below(c.len());
                 let parts = why_long(&shape, true, &c, place as i64);

@@ -7,7 +7,7 @@ use hoengtila_harness::compare::Comparison;
 use hoengtila_harness::header::numbers;
 use hoengtila_harness::library::{Parts, Shape};
 use hoengtila_harness::long_call::LongCall;
-use hoengtila_harness::model::long::{ends, reach};
+use hoengtila_harness::model::long::{ends, last_shift};
 use hoengtila_harness::patterns::{
     block, block_about_the_rails, clear_outside, is_kept, keeping_any, LAYOUTS, SIXTEEN_BITS,
 };
@@ -35,8 +35,7 @@ fn ends_of(shape: &Shape, extended: Option<u32>) -> [i64; 2] {
 
 /// 7 + s: what the parts are put over, as a power of 2.
 fn over(shape: &Shape, extended: Option<u32>) -> i64 {
-    let depth = shape.depth.into();
-    12 + reach(is_on(extended), depth) - depth
+    7 + last_shift(is_on(extended), shape.depth.into())
 }
 
 fn why_call(shape: Shape, extended: Option<u32>, c: &[i64], place: usize) -> WhyCall {
