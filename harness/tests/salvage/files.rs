@@ -75,6 +75,8 @@ pub fn worst() -> Vec<(&'static str, Vec<u8>)> {
     let four = shape(4, 4, 1, 1, 10);
     let with_kept = [four.clone(), kept(4, 4)].concat();
     let nearly = [four.clone(), kept(4, 4), vec![2, 0, 31]].concat();
+    // the bytes behind the last block are a stretch too
+    let stretches = |count: usize| [strays(count - 1), vec![9; 65_580 - 44 * count]].concat();
     vec![
         ("zeros", filled(vec![0])),
         ("tags", filled(vec![1])),
@@ -82,6 +84,7 @@ pub fn worst() -> Vec<(&'static str, Vec<u8>)> {
         ("shapes", filled(four)),
         ("shapes and kept numbers", filled(with_kept)),
         ("blocks but for a length", filled(nearly)),
-        ("1,024 stretches", [strays(1024), vec![9; 20_480]].concat()),
+        ("1,024 stretches", stretches(1024)),
+        ("1,025 stretches", stretches(1025)),
     ]
 }
