@@ -146,11 +146,7 @@ impl Asked for Call {
                 return Outcome::of_numbers(vec![model_stray(kind, n, j)])
             }
             What::Line { path, n, kind } => {
-                let line = match path {
-                    Path::Forward | Path::ForwardProduct => model::forward_line,
-                    Path::Inverse | Path::InverseProduct => model::inverse_line,
-                };
-                line(n.into(), kind.into(), &input, &mut output)
+                model_line(path)(n.into(), kind.into(), &input, &mut output)
             }
             What::Wrapped {
                 forward, n, kind, ..
@@ -269,6 +265,13 @@ fn name(what: &What) -> u32 {
         What::Wrapped { forward: true, .. } => 900,
         What::Wrapped { forward: false, .. } => 901,
         What::Stray { .. } => 1300,
+    }
+}
+
+fn model_line(path: Path) -> fn(i64, i64, &[i64], &mut [i64]) -> model::Answer {
+    match path {
+        Path::Forward | Path::ForwardProduct => model::forward_line,
+        Path::Inverse | Path::InverseProduct => model::inverse_line,
     }
 }
 

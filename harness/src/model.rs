@@ -33,3 +33,5 @@ pub use wrapped::{forward_wrapped, inverse_wrapped};
 
 #[cfg(test)]
 mod numbers;
+#[cfg(test)]
+mod samples;

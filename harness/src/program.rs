@@ -15,7 +15,7 @@ pub fn run_on(command_line: &str, file: &[u8], words: &[&str]) -> (Vec<u8>, Stri
         .spawn()
         .expect("the program starts");
     let mut to = child.stdin.take().expect("a pipe");
-    // a program that refuses a file may leave some of it unread
+    // a program reads all that it takes before it writes, and one that refuses a file may leave some of it unread
     let _ = to.write_all(file);
     drop(to);
     let output = child.wait_with_output().expect("the program ends");

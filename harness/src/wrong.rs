@@ -10,8 +10,8 @@ pub const NO_SIZE: [i64; 8] = [0, 1, 2, 5, 24, 64, 65_536, 4_294_967_295];
 pub const NO_KIND: [i64; 4] = [3, 4, 256, 4_294_967_295];
 pub const NO_DEPTH: [i64; 6] = [0, 7, 13, 255, 65_544, 4_294_967_295];
 
-const SIZES: [i64; 4] = [4, 8, 16, 32];
-const KINDS: [i64; 3] = [0, 1, 2];
+pub const SIZES: [i64; 4] = [4, 8, 16, 32];
+pub const KINDS: [i64; 3] = [0, 1, 2];
 
 /// The table of numbers, in the order in which it is gone through: "20 .. after 5".
 pub const ORDER: [usize; 10] = [1, 2, 3, 4, 5, 20, 6, 7, 8, 9];

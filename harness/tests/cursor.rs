@@ -5,25 +5,14 @@
 
 use hoengtila_harness::files::stored;
 use hoengtila_harness::model::{Cursor, Shape};
+use hoengtila_harness::program::run_on;
 use hoengtila_harness::random::{self, Random};
-use std::io::Write;
-use std::process::{Command, Stdio};
 
 const CASES: usize = 3000;
 
 /// The numbers of a shape; a cursor that holds none has zeros, which 1 refuses.
 fn numbers(shape: Option<Shape>) -> [i64; 7] {
-    shape.map_or([0; 7], |s| {
-        [
-            s.width,
-            s.height,
-            s.horizontal,
-            s.vertical,
-            s.depth,
-            s.columns,
-            s.rows,
-        ]
-    })
+    shape.map_or([0; 7], |shape| shape.numbers())
 }
 
 /// The program's input: a place, a shape and a file.
@@ -52,21 +41,6 @@ fn wanted(cursor: Cursor, file: &[u8]) -> Vec<u8> {
         line(step.next)
     );
     [text.as_bytes(), step.body].concat()
-}
-
-fn found(command_line: &str, input: &[u8]) -> Vec<u8> {
-    let mut words = command_line.split_whitespace();
-    let mut child = Command::new(words.next().expect("a command"))
-        .args(words)
-        .stdin(Stdio::piped())
-        .stdout(Stdio::piped())
-        .spawn()
-        .expect("the program starts");
-    // the program reads all that it takes before it writes
-    let mut pipe = child.stdin.take().expect("standard input is a pipe");
-    let _ = pipe.write_all(input);
-    drop(pipe);
-    child.wait_with_output().expect("the program ends").stdout
 }
 
 /// The places of a file's fields, as far as it is whole.
@@ -142,7 +116,7 @@ fn steps_from_any_cursor() {
         let cursor = Cursor { at, shape };
         met[cursor.step(&file).number as usize] += 1;
         assert_eq!(
-            found(&command_line, &input(cursor, &file)),
+            run_on(&command_line, &input(cursor, &file), &[]).0,
             wanted(cursor, &file),
             "case {k}: {cursor:?}, {} bytes: {file:02x?}",
             file.len()

@@ -65,10 +65,6 @@ fn filled(width: i64, [columns, rows]: [i64; 2], turns: [i64; 2]) -> Vec<i64> {
 /// Width, height, both kinds, depth, kept columns and rows.
 type Numbers = [i64; 7];
 
-fn shape_of([width, height, horizontal, vertical, depth, columns, rows]: Numbers) -> Shape {
-    Shape::new(width, height, horizontal, vertical, depth).keeping(columns, rows)
-}
-
 /// Calls on the first `input` numbers of the block, with `output` marks for the output, and prints the line.
 fn line(
     direction: Direction,
@@ -77,7 +73,7 @@ fn line(
     block: &[i64],
     [input, output]: [usize; 2],
 ) {
-    let shape = shape_of(numbers);
+    let shape = Shape::of(numbers);
     let before: Vec<i64> = (0..output).map(|k| MARKS[k % 2]).collect();
     let mut after = before.clone();
     let answer = direction.run(&shape, &block[..input], &mut after);

@@ -6,12 +6,9 @@
 use hoengtila_harness::model::block::middle;
 use hoengtila_harness::model::weights::weight;
 use hoengtila_harness::model::{self, Answer, Shape};
+use hoengtila_harness::patterns::{self, is_kept, residual_ends, Ends, SIXTEEN_BITS};
 use hoengtila_harness::random::{seed, Random, SEED_VARIABLE};
-use hoengtila_harness::wrong::{Wrong, NO_DEPTH, NO_KIND, NO_SIZE, ORDER};
-
-const SIZES: [i64; 4] = [4, 8, 16, 32];
-const KINDS: [i64; 3] = [0, 1, 2];
-const SIXTEEN_BITS: [i64; 2] = [-32768, 32767];
+use hoengtila_harness::wrong::{Wrong, KINDS, NO_DEPTH, NO_KIND, NO_SIZE, ORDER, SIZES};
 
 /// What the file needs of the definitions' own files.
 const HEAD: &str = "\
@@ -58,15 +55,10 @@ fn list(numbers: &[i64]) -> String {
 }
 
 fn shape_term(shape: &Shape) -> String {
+    let [width, height, horizontal, vertical, depth, columns, rows] = shape.numbers();
     format!(
-        "(record {{ width = {}; height = {}; horizontal = {}; vertical = {}; depth = {}; columns = {}; rows = {} }})",
-        shape.width,
-        shape.height,
-        shape.horizontal,
-        shape.vertical,
-        shape.depth,
-        shape.columns,
-        shape.rows
+        "(record {{ width = {width}; height = {height}; horizontal = {horizontal}; vertical = {vertical}; depth = {depth}; \
+         columns = {columns}; rows = {rows} }})"
     )
 }
 
@@ -157,9 +149,9 @@ impl Direction {
     }
 
     /// The least and the largest number that a block of depth `d` takes in this direction.
-    fn ends(self, d: i64) -> [i64; 2] {
+    fn ends(self, d: i64) -> Ends {
         match self {
-            Forward => [1 - (1 << d), (1 << d) - 1],
+            Forward => residual_ends(d as u32),
             Inverse => SIXTEEN_BITS,
         }
     }
@@ -215,7 +207,7 @@ fn long_case(t: &mut Theorems, extended: bool, shape: &Shape, input: &[i64], hel
 // ---- random numbers that calls take
 
 /// `count` numbers from `low` to `high`: small ones, any, or the ends mostly.
-fn numbers(random: &mut Random, count: usize, [low, high]: [i64; 2]) -> Vec<i64> {
+fn numbers(random: &mut Random, count: usize, [low, high]: Ends) -> Vec<i64> {
     match random.below(3) {
         0 => random.numbers(count, -9, 9),
         1 => random.numbers(count, low, high),
@@ -224,7 +216,7 @@ fn numbers(random: &mut Random, count: usize, [low, high]: [i64; 2]) -> Vec<i64>
 }
 
 /// Both ends of a range and little else.
-fn extremes(random: &mut Random, count: usize, [low, high]: [i64; 2]) -> Vec<i64> {
+fn extremes(random: &mut Random, count: usize, [low, high]: Ends) -> Vec<i64> {
     let any = random.between(low, high);
     (0..count)
         .map(|_| random.choose(&[low, low, high, high, any]))
@@ -246,11 +238,8 @@ fn shape_in_turn(k: usize, width: i64, height: i64) -> Shape {
     most.keeping(1 + k * 5 % most.columns, 1 + k * 3 % most.rows)
 }
 
-/// Zero in every place that is not kept.
 fn clear_outside(shape: &Shape, coefficients: &mut [i64]) {
-    while let Some(place) = model::block::first_outside(shape, coefficients) {
-        coefficients[place] = 0;
-    }
+    patterns::clear_outside(&(*shape).into(), coefficients);
 }
 
 fn accepted_block(t: &mut Theorems, direction: Direction, shape: &Shape) {
@@ -317,9 +306,7 @@ fn lone_bad_number(t: &mut Theorems, direction: Direction, shape: &Shape) {
         Forward => t.random.below(area),
         Inverse => {
             clear_outside(shape, &mut input);
-            let outside = |&p: &usize| {
-                p as i64 % shape.width >= shape.columns || p as i64 / shape.width >= shape.rows
-            };
+            let outside = |place: &usize| !is_kept(&(*shape).into(), *place);
             let places: Vec<usize> = (0..area).filter(outside).collect();
             t.random.choose(&places)
         }

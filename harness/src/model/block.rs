@@ -170,16 +170,12 @@ fn forward_columns(shape: &Shape, rows: &[Vec<i64>]) -> Vec<Vec<i64>> {
 #[cfg(test)]
 mod tests {
     use super::*;
+    use crate::model::samples::{any_coefficients, any_shape, inside};
     use crate::random::{self, Random};
 
+    /// Every other one keeps the most.
     fn random_shape(random: &mut Random) -> Shape {
-        let most = Shape::new(
-            random.choose(&[4, 8, 16, 32]),
-            random.choose(&[4, 8, 16, 32]),
-            random.between(0, 2),
-            random.between(0, 2),
-            random.between(8, 12),
-        );
+        let most = any_shape(random, 12);
         if random.once_in(2) {
             return most;
         }
@@ -270,41 +266,27 @@ mod tests {
         let mut random = random::seeded();
         for _ in 0..30 {
             let less = random_shape(&mut random);
-            let most = Shape::new(
-                less.width,
-                less.height,
-                less.horizontal,
-                less.vertical,
-                less.depth,
-            );
+            let [w, h, horizontal, vertical, depth, ..] = less.numbers();
+            let most = Shape::new(w, h, horizontal, vertical, depth);
             let area = less.area() as usize;
-            let inside = |place: usize| {
-                let (x, y) = column_and_row(&less, place);
-                is_kept(&less, x, y)
-            };
-            let coefficients: Vec<i64> = (0..area)
-                .map(|place| i64::from(inside(place)) * random.between(-32768, 32767))
-                .collect();
+            let coefficients = any_coefficients(&mut random, &less, RAILS);
             let (mut one, mut other) = (vec![0; area], vec![0; area]);
             let answer = inverse(&less, &coefficients, &mut one);
             let rails = answer.rails;
             assert_eq!(inverse(&most, &coefficients, &mut other).rails, rails);
             assert_eq!((answer, &one), (Answer::accepted(rails), &other));
-            if let Some(place) = (0..area).find(|&place| !inside(place)) {
+            if let Some(place) = first_outside(&less, &vec![1; area]) {
                 let mut outside = coefficients.clone();
                 outside[place] = 1;
                 let refused = Answer::refused(8, place as i64);
                 assert_eq!(inverse(&less, &outside, &mut one), refused);
             }
 
-            let largest = (1 << less.depth) - 1;
+            let largest = (1 << depth) - 1;
             let residuals = random.numbers(area, -largest, largest);
             forward(&less, &residuals, &mut one);
             forward(&most, &residuals, &mut other);
-            let rest: Vec<i64> = (0..area)
-                .map(|place| i64::from(inside(place)) * other[place])
-                .collect();
-            assert_eq!(one, rest);
+            assert_eq!(one, inside(&less, other));
         }
     }
 }

@@ -61,7 +61,8 @@ pub fn inverse_long(
 #[cfg(test)]
 mod tests {
     use super::*;
-    use crate::model::inverse;
+    use crate::model::block::{inverse, RAILS};
+    use crate::model::samples::{any_coefficients, any_shape};
 
     /// The rules, depth by depth: R and the last shift.
     #[test]
@@ -82,16 +83,9 @@ mod tests {
     fn off_is_the_other_inverse() {
         let mut random = crate::random::seeded();
         for _ in 0..200 {
-            let side = |random: &mut crate::random::Random| random.choose(&[4, 8, 16, 32]);
-            let (w, h) = (side(&mut random), side(&mut random));
-            let kinds = [random.between(0, 2), random.between(0, 2)];
-            let shape = Shape::new(w, h, kinds[0], kinds[1], random.between(8, 12));
-            let area = shape.area() as usize;
-            let mut c = random.numbers(area, -32768, 32767);
-            while let Some(place) = first_outside(&shape, &c) {
-                c[place] = 0;
-            }
-            let (mut one, mut other) = (vec![1; area], vec![2; area]);
+            let shape = any_shape(&mut random, 12);
+            let c = any_coefficients(&mut random, &shape, RAILS);
+            let (mut one, mut other) = (vec![1; c.len()], vec![2; c.len()]);
             let answer = inverse(&shape, &c, &mut one);
             assert_eq!(inverse_long(&shape, false, &c, &mut other), answer);
             assert_eq!(one, other);

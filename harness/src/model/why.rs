@@ -152,23 +152,9 @@ fn level(z: i128, power: i64) -> String {
 #[cfg(test)]
 mod tests {
     use super::*;
+    use crate::model::samples::{any_coefficients, any_shape};
     use crate::model::{inverse, inverse_long};
-    use crate::random::{self, Random};
-
-    fn random_shape(random: &mut Random, deepest: i64) -> Shape {
-        let side = |random: &mut Random| random.choose(&[4, 8, 16, 32]);
-        let (w, h) = (side(random), side(random));
-        let kinds = [random.between(0, 2), random.between(0, 2)];
-        Shape::new(w, h, kinds[0], kinds[1], random.between(8, deepest))
-    }
-
-    fn block(random: &mut Random, shape: &Shape, [low, high]: [i64; 2]) -> Vec<i64> {
-        let mut c = random.numbers(shape.area() as usize, low, high);
-        while let Some(place) = first_outside(shape, &c) {
-            c[place] = 0;
-        }
-        c
-    }
+    use crate::random;
 
     /// "Put over 2^(27-d) the four add up to the residual exactly", and over 2^(7+s) for the long numbers. What clipping added is 0
     /// where nothing was clipped.
@@ -177,9 +163,9 @@ mod tests {
         let mut random = random::seeded();
         let mut clipped = 0;
         for turn in 0..120 {
-            let shape = random_shape(&mut random, 12);
+            let shape = any_shape(&mut random, 12);
             let most = random.choose(&[20, 900, 32767]);
-            let c = block(&mut random, &shape, [-most - 1, most]);
+            let c = any_coefficients(&mut random, &shape, [-most - 1, most]);
             let mut residuals = vec![0; c.len()];
             let answer = inverse(&shape, &c, &mut residuals);
             for _ in 0..20 {
@@ -194,8 +180,8 @@ mod tests {
         }
         assert!(clipped > 100);
         for _ in 0..120 {
-            let shape = random_shape(&mut random, 16);
-            let c = block(&mut random, &shape, ends(true, shape.depth));
+            let shape = any_shape(&mut random, 16);
+            let c = any_coefficients(&mut random, &shape, ends(true, shape.depth));
             let mut residuals = vec![0; c.len()];
             inverse_long(&shape, true, &c, &mut residuals);
             let s = last_shift(true, shape.depth);

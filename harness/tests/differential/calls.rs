@@ -100,8 +100,13 @@ pub fn area(shape: &Shape) -> usize {
     (shape.width * shape.height) as usize
 }
 
+/// Every pair of a width and a height.
+pub fn sides() -> impl Iterator<Item = [u32; 2]> {
+    SIZES.into_iter().flat_map(|w| SIZES.map(|h| [w, h]))
+}
+
 /// Every shape of these sides that keeps the most.
-fn shapes_of_sides(width: u32, height: u32) -> Vec<Shape> {
+fn shapes_of_sides([width, height]: [u32; 2]) -> Vec<Shape> {
     let mut shapes = vec![];
     for horizontal in KINDS {
         for vertical in KINDS {
@@ -114,16 +119,27 @@ fn shapes_of_sides(width: u32, height: u32) -> Vec<Shape> {
 
 /// All 720 shapes that keep the most.
 pub fn shapes() -> Vec<Shape> {
-    let of_width = |w| SIZES.iter().flat_map(move |h| shapes_of_sides(w, *h));
-    SIZES.into_iter().flat_map(of_width).collect()
+    sides().flat_map(shapes_of_sides).collect()
 }
 
 /// One shape for each pair of sides, and one that keeps any part: kinds and depths take turns.
 pub fn shapes_in_turn(random: &mut Random) -> Vec<Shape> {
-    let sides = SIZES.iter().flat_map(|w| SIZES.map(|h| (*w, h)));
-    let shape = |(k, (w, h))| {
-        let most = shapes_of_sides(w, h)[7 * k % 45];
+    let shape = |(k, sides)| {
+        let most = shapes_of_sides(sides)[7 * k % 45];
         [most, keeping_any(random, &most)]
     };
-    sides.enumerate().flat_map(shape).collect()
+    sides().enumerate().flat_map(shape).collect()
+}
+
+/// Every pair of sides with any kinds and every depth to `deepest`; every other shape keeps any part.
+pub fn shapes_to(random: &mut Random, deepest: u32) -> Vec<Shape> {
+    let mut all = vec![];
+    for [w, h] in sides() {
+        for depth in 8..=deepest {
+            let kinds = [random.choose(&KINDS), random.choose(&KINDS)];
+            let most = most_kept([w, h, kinds[0], kinds[1], depth]);
+            all.extend([most, keeping_any(random, &most)]);
+        }
+    }
+    all
 }

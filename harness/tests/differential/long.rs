@@ -1,16 +1,14 @@
 //! Blocks of long numbers: every depth of either switch with every layout of numbers, middle values about the ends of the
 //! range, every set of refusals, and the switch off beside the other inverse.
 
-use crate::calls::{area, held, SIZES};
+use crate::calls::{area, held, shapes_to, KINDS};
 use hoengtila_harness::call::{Call, What};
 use hoengtila_harness::compare::Comparison;
 use hoengtila_harness::header::numbers;
 use hoengtila_harness::library::Shape;
 use hoengtila_harness::long_call::LongCall;
 use hoengtila_harness::model::long::ends;
-use hoengtila_harness::patterns::{
-    block, clear_outside, is_kept, keeping_any, LAYOUTS, SIXTEEN_BITS,
-};
+use hoengtila_harness::patterns::{block, clear_outside, is_kept, LAYOUTS, SIXTEEN_BITS};
 use hoengtila_harness::random::Random;
 use hoengtila_harness::widths::{most_kept, narrow};
 use hoengtila_harness::wrong::{right_length, Wrong};
@@ -31,25 +29,12 @@ fn ends_of(shape: &Shape, extended: u32) -> [i64; 2] {
     ends(extended != 0, shape.depth.into())
 }
 
-/// Every pair of sides with any kinds and every depth of the switch; every other shape keeps any part.
-fn shapes(random: &mut Random, deepest: u32) -> Vec<Shape> {
-    let mut all = vec![];
-    for (w, h) in SIZES.iter().flat_map(|w| SIZES.map(|h| (*w, h))) {
-        for depth in 8..=deepest {
-            let kinds = [random.choose(&[0, 1, 2]), random.choose(&[0, 1, 2])];
-            let most = most_kept([w, h, kinds[0], kinds[1], depth]);
-            all.extend([most, keeping_any(random, &most)]);
-        }
-    }
-    all
-}
-
 #[test]
 fn long_blocks() {
     let mut c = Comparison::open("blocks of long numbers");
     let mut rails = 0;
     for (extended, deepest) in SWITCHES {
-        for (k, shape) in shapes(&mut c.random, deepest).iter().enumerate() {
+        for (k, shape) in shapes_to(&mut c.random, deepest).iter().enumerate() {
             let layout = LAYOUTS[k % LAYOUTS.len()];
             for ends in [ends_of(shape, extended), SIXTEEN_BITS] {
                 let mut input = block(&mut c.random, layout, shape, ends);
@@ -71,7 +56,7 @@ fn long_blocks_about_the_ends() {
     for round in 0..6000 {
         let (extended, deepest) = SWITCHES[round % 2];
         let depth = 8 + c.random.below((deepest - 7) as usize) as u32;
-        let shape = most_kept([4, 4, c.random.choose(&[0, 1, 2]), 1, depth]);
+        let shape = most_kept([4, 4, c.random.choose(&KINDS), 1, depth]);
         let [low, high] = ends_of(&shape, extended);
         let mut input = vec![0; 16];
         let x = c.random.below(4);
@@ -92,7 +77,7 @@ fn long_blocks_about_the_ends() {
 #[test]
 fn long_blocks_with_the_switch_off() {
     let mut c = Comparison::open("blocks of long numbers, beside the other inverse");
-    for (k, shape) in shapes(&mut c.random, 12).iter().enumerate() {
+    for (k, shape) in shapes_to(&mut c.random, 12).iter().enumerate() {
         let layout = LAYOUTS[k % LAYOUTS.len()];
         let mut input = block(&mut c.random, layout, shape, SIXTEEN_BITS);
         if k % 3 != 0 {
@@ -138,7 +123,7 @@ fn call_with(random: &mut Random, (extended, deepest): (u32, u32), wrong: &Wrong
 fn one_number_beyond_the_range_at_each_place() {
     let mut c = Comparison::open("blocks of long numbers, one of them beyond the range");
     for (extended, deepest) in &SWITCHES[..2] {
-        for shape in shapes(&mut c.random, *deepest).iter().step_by(7) {
+        for shape in shapes_to(&mut c.random, *deepest).iter().step_by(7) {
             let [low, high] = ends_of(shape, *extended);
             for place in 0..area(shape) {
                 let mut input = block(&mut c.random, LAYOUTS[0], shape, [low, high]);

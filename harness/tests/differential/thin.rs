@@ -69,33 +69,36 @@ fn compare_thin(c: &mut Comparison, shape: Shape, input: &[i64]) {
     assert_eq!(found.second, call.second);
     let n = input.len();
     assert_eq!(found.first[n..], call.first[n..]);
-    let other = match shape.width {
-        1 => Shape {
-            horizontal: (shape.horizontal + 1) % 3,
-            ..shape
-        },
-        _ => Shape {
-            vertical: (shape.vertical + 1) % 3,
-            ..shape
-        },
+    let other = with_another_kind(shape);
+    for shape in [other, turned(other)] {
+        let same = ThinCall {
+            shape,
+            ..call.clone()
+        };
+        assert_eq!(c.outcome(&same), found);
+    }
+}
+
+/// The side of 1 has another kind.
+fn with_another_kind(mut shape: Shape) -> Shape {
+    let kind = match shape.width {
+        1 => &mut shape.horizontal,
+        _ => &mut shape.vertical,
     };
-    let turned = Shape {
-        width: other.height,
-        height: other.width,
-        horizontal: other.vertical,
-        vertical: other.horizontal,
-        columns: other.rows,
-        rows: other.columns,
-        ..other
-    };
-    for shape in [other, turned] {
-        assert_eq!(
-            c.outcome(&ThinCall {
-                shape,
-                ..call.clone()
-            }),
-            found
-        );
+    *kind = (*kind + 1) % 3;
+    shape
+}
+
+/// Columns and rows change places.
+fn turned(shape: Shape) -> Shape {
+    Shape {
+        width: shape.height,
+        height: shape.width,
+        horizontal: shape.vertical,
+        vertical: shape.horizontal,
+        depth: shape.depth,
+        columns: shape.rows,
+        rows: shape.columns,
     }
 }
 

@@ -1,7 +1,7 @@
 //! Why a residual is what it is: the four parts at every place, of both calls, with rails and without; that they add up to the
 //! residual which the library's own inverse gives; and every set of refusals.
 
-use crate::calls::{area, KINDS, SIZES};
+use crate::calls::{area, shapes_to, sides, KINDS};
 use hoengtila_harness::call::{Call, What};
 use hoengtila_harness::compare::Comparison;
 use hoengtila_harness::header::numbers;
@@ -9,7 +9,7 @@ use hoengtila_harness::library::{Parts, Shape};
 use hoengtila_harness::long_call::LongCall;
 use hoengtila_harness::model::long::{ends, last_shift};
 use hoengtila_harness::patterns::{
-    block, block_about_the_rails, clear_outside, is_kept, keeping_any, LAYOUTS, SIXTEEN_BITS,
+    block, block_about_the_rails, clear_outside, is_kept, LAYOUTS, SIXTEEN_BITS,
 };
 use hoengtila_harness::random::Random;
 use hoengtila_harness::why_call::WhyCall;
@@ -45,19 +45,6 @@ fn why_call(shape: Shape, extended: Option<u32>, c: &[i64], place: usize) -> Why
         input: narrow(c),
         place: place as u32,
     }
-}
-
-/// Every pair of sides with any kinds and every depth; every other shape keeps any part.
-fn shapes(random: &mut Random, deepest: u32) -> Vec<Shape> {
-    let mut all = vec![];
-    for (w, h) in SIZES.iter().flat_map(|w| SIZES.map(|h| (*w, h))) {
-        for depth in 8..=deepest {
-            let kinds = [random.choose(&KINDS), random.choose(&KINDS)];
-            let most = most_kept([w, h, kinds[0], kinds[1], depth]);
-            all.extend([most, keeping_any(random, &most)]);
-        }
-    }
-    all
 }
 
 /// The residuals that the library's inverse gives, of the same numbers.
@@ -116,7 +103,7 @@ fn parts_of_residuals() {
     let mut c = Comparison::open("parts of a residual");
     let mut clipped = 0;
     for (extended, deepest) in SWITCHES {
-        for (k, shape) in shapes(&mut c.random, deepest).into_iter().enumerate() {
+        for (k, shape) in shapes_to(&mut c.random, deepest).into_iter().enumerate() {
             let layout = LAYOUTS[k % LAYOUTS.len()];
             let ends = ends_of(&shape, extended);
             let mut input = block(&mut c.random, layout, &shape, ends);
@@ -133,7 +120,7 @@ fn parts_of_residuals() {
 fn parts_about_the_rails() {
     let mut c = Comparison::open("parts of a residual about the rails");
     let (mut clipped, mut fair) = (0, 0);
-    for (k, shape) in shapes(&mut c.random, 12).into_iter().enumerate() {
+    for (k, shape) in shapes_to(&mut c.random, 12).into_iter().enumerate() {
         let extended = [None, Some(0)][k % 2];
         let input = block_about_the_rails(&mut c.random, &shape);
         clipped += compare_places(&mut c, shape, extended, &input);
@@ -149,11 +136,7 @@ fn parts_about_the_rails() {
 #[test]
 fn parts_at_every_place() {
     let mut c = Comparison::open("parts of a residual at every place");
-    for (k, (w, h)) in SIZES
-        .iter()
-        .flat_map(|w| SIZES.map(|h| (*w, h)))
-        .enumerate()
-    {
+    for (k, [w, h]) in sides().enumerate() {
         let (extended, _) = SWITCHES[k % 4];
         let shape = most_kept([w, h, KINDS[k % 3], KINDS[k / 3 % 3], 8 + k as u32 % 5]);
         let ends = ends_of(&shape, extended);
@@ -170,7 +153,7 @@ fn parts_at_every_place() {
 #[test]
 fn parts_with_the_switch_off() {
     let mut c = Comparison::open("parts of a residual, the switch off beside 16 bits");
-    for shape in shapes(&mut c.random, 12) {
+    for shape in shapes_to(&mut c.random, 12) {
         let mut input = block(&mut c.random, LAYOUTS[0], &shape, SIXTEEN_BITS);
         if !c.random.once_in(4) {
             clear_outside(&shape, &mut input);

@@ -1,6 +1,6 @@
 //! The program behind `blocks picture`: whole and damaged block files, and every count, held to the model.
 
-use hoengtila_harness::files::random_file;
+use hoengtila_harness::files::{random_file, whole_case};
 use hoengtila_harness::model::file::{picked, Picked, TAG_COEFFICIENTS};
 use hoengtila_harness::model::{inverse, write_picture};
 use hoengtila_harness::program::run_on;
@@ -55,16 +55,10 @@ fn the_program_writes_what_the_model_does() {
     for count in ["", "x", "1x", "-1", "100000", "99999999999999999999"] {
         let said = (vec![], "there is no such block\n".to_string());
         assert_eq!(
-            run_on(&command_line, &group_of_one(), &[count]),
+            run_on(&command_line, &whole_case(), &[count]),
             said,
             "{count}"
         );
     }
     println!("pictures: the program writes {pictures} pictures and refuses {refused} blocks as the model does");
-}
-
-fn group_of_one() -> Vec<u8> {
-    let mut file = vec![1, 0, 5, 4, 4, 1, 1, 10, 2, 0, 32, 0, 64];
-    file.extend([0; 30]);
-    file
 }

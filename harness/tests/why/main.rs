@@ -2,7 +2,7 @@
 //!
 //! `HOENGTILA_WHY_PROGRAM` gives its command line; `tests/why` at the root of the repository gives it.
 
-use hoengtila_harness::files::random_file;
+use hoengtila_harness::files::{random_file, whole_case};
 use hoengtila_harness::model::file::{picked, Picked, TAG_RESIDUALS};
 use hoengtila_harness::model::why::{text, why};
 use hoengtila_harness::program::run_on;
@@ -79,8 +79,7 @@ fn the_program_prints_what_the_model_does() {
     }
     assert!(printed > 50 && refused > 50 && others > 50);
 
-    let mut file = vec![1, 0, 5, 4, 4, 1, 1, 10, 2, 0, 32, 0, 64];
-    file.extend([0; 30]);
+    let file = whole_case();
     for words in [["x", "5"], ["", "5"], ["1x", "5"], ["-1", "5"], ["2", "5"]] {
         assert_eq!(run(&file, &words).1, "there is no such block\n");
     }
