@@ -3,7 +3,7 @@
 //! tests put large numbers of one sign where it would overflow. The lists of steps (`steps`) add the same sums.
 
 /// Places of a line, from 0, with the sign that each is added with.
-pub type Folded = Vec<(usize, i64)>;
+pub type Sum = Vec<(usize, i64)>;
 
 /// 2n+1 as a product of two, which decides the classes of rows; a prime has no classes.
 pub fn factors(n: usize) -> Option<[usize; 2]> {
@@ -16,7 +16,7 @@ pub fn factors(n: usize) -> Option<[usize; 2]> {
 }
 
 /// Every sum of inputs that the sharing between DST-VII weights allows at `n` points.
-pub fn sums(n: usize) -> Vec<Folded> {
+pub fn sums(n: usize) -> Vec<Sum> {
     let Some([p, q]) = factors(n) else {
         return vec![];
     };
@@ -27,7 +27,7 @@ pub fn sums(n: usize) -> Vec<Folded> {
 }
 
 /// "Sharing between weights": each of the last places is a signed sum of earlier ones in most rows. One of those, then the last.
-pub fn sharing_sums(n: usize, p: usize, q: usize) -> Vec<Folded> {
+pub fn sharing_sums(n: usize, p: usize, q: usize) -> Vec<Sum> {
     let half = (q - 1) / 2;
     let first_of = |k: usize| match p {
         3 => vec![(k, 1), (q - k, 1)],
@@ -44,7 +44,7 @@ pub fn sharing_sums(n: usize, p: usize, q: usize) -> Vec<Folded> {
 
 /// Rows that repeat a few values: place b*q + k meets the weight of place k, with the sign of (-1)^b, and b*q - k with
 /// the other one.
-pub fn repeating_sums(n: usize, q: usize) -> Vec<Folded> {
+pub fn repeating_sums(n: usize, q: usize) -> Vec<Sum> {
     (1..=(q - 1) / 2)
         .map(|k| (1..=n).filter_map(|place| repeated(place, q, k)).collect())
         .collect()

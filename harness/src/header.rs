@@ -61,13 +61,9 @@ pub struct Set {
 }
 
 impl Set {
-    pub fn has(&self, number: u32) -> bool {
-        self.numbers.contains(&number)
-    }
-
     /// One of two, the first where the number is in the set.
     pub fn pick<T>(&self, number: u32, wrong: T, right: T) -> T {
-        if self.has(number) {
+        if self.numbers.contains(&number) {
             wrong
         } else {
             right

@@ -1,9 +1,9 @@
-//! An independent model of document 01 (the scope), and what compares other things with it.
+//! An independent model of document 01 (the scope) and document 02, and what compares other things with it.
 //!
-//! `model` is written from the text of documents 01 and 02 alone, but for two weights that are H.266's, on 64-bit integers,
-//! with no eye to speed.
+//! `model` is written from the text of the two documents, and from a decoder where they leave a rule to H.266 (`docs/DECISIONS.md`), with
+//! no eye to the code and none to speed.
 //! `random` makes the cases, the same ones for the same seed; `patterns`, `folding` and `wrong` know which are hard, `files`
-//! has block files, and `steps` makes the lists of steps that the crates store.
+//! has block files, and `steps` makes the lists of steps that the crates store; `program` runs a program on a file.
 //! `header` has what the C header says of refusals.
 //! `library` is the library for Rust callers, `peer` the library behind a pipe; `call`, `row_call`, `step_call`, `long_call`, `thin_call`
 //! and `why_call` have calls as values, which `subject` runs on either, and `compare` holds what comes back to the model. `widths` goes

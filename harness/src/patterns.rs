@@ -136,7 +136,7 @@ fn folded(random: &mut Random, n: usize) -> Vec<i64> {
 }
 
 /// Where the weights share nothing, any two places do.
-fn sums_or_pairs(random: &mut Random, n: usize) -> Vec<folding::Folded> {
+fn sums_or_pairs(random: &mut Random, n: usize) -> Vec<folding::Sum> {
     let sums = folding::sums(n);
     if sums.is_empty() {
         vec![vec![(random.below(n), 1), (random.below(n), 1)]]
@@ -230,7 +230,7 @@ pub fn block(random: &mut Random, layout: Layout, shape: &Shape, ends: Ends) -> 
 }
 
 /// A number for each place of a block, row by row.
-pub fn grid(w: usize, h: usize, at: impl Fn(usize, usize) -> i64) -> Vec<i64> {
+fn grid(w: usize, h: usize, at: impl Fn(usize, usize) -> i64) -> Vec<i64> {
     (0..w * h).map(|place| at(place % w, place / w)).collect()
 }
 

@@ -4,7 +4,7 @@
 pub const SEED_VARIABLE: &str = "HOENGTILA_SEED";
 
 /// The seed where none is given: a run that nobody steers is the same each time.
-pub const DEFAULT_SEED: u64 = 0x0266_0807;
+const DEFAULT_SEED: u64 = 0x0266_0807;
 
 pub struct Random {
     state: u64,

@@ -6,7 +6,7 @@
 //! N-h places, h = (q-1)/2; those that p divides over the first h, those that only q divides over the first (p-1)/2. Inputs are
 //! added first and multiplied once; among the rows of the first class the products at the places that q divides are shared.
 
-use crate::folding::{factors, repeating_sums, sharing_sums, Folded};
+use crate::folding::{factors, repeating_sums, sharing_sums, Sum};
 use crate::model::steps::{Step, StepList};
 use crate::model::weights::dst_vii;
 use std::collections::HashMap;
@@ -79,7 +79,7 @@ impl Maker {
     }
 
     /// The sum of inputs, of which the first is added, in a fresh cell. A place from 0 is the cell of its input.
-    fn folded(&mut self, terms: &Folded) -> usize {
+    fn folded(&mut self, terms: &Sum) -> usize {
         let cell = self.fresh();
         let mut so_far = terms[0].0;
         for (input, sign) in &terms[1..] {
@@ -287,7 +287,7 @@ fn stored_list(n: usize, list: &StepList) -> String {
 }
 
 /// A step as the command prints it.
-pub fn meant(step: &Step) -> String {
+fn meant(step: &Step) -> String {
     match step {
         Step::Add(to, a, b) => format!("c{to} = c{a} + c{b}"),
         Step::Sub(to, a, b) => format!("c{to} = c{a} - c{b}"),

@@ -428,7 +428,8 @@ fn refused_blocks(t: &mut Theorems, direction: Direction) {
 
 /// Every depth of either switch; then 5, 8 and 27, and 8 before 27.
 fn long_blocks(t: &mut Theorems) {
-    for (extended, deepest) in [(false, 12), (true, 16)] {
+    for extended in [false, true] {
+        let deepest = model::long::deepest(extended);
         for depth in 8..=deepest {
             let ends = model::long::ends(extended, depth);
             for (k, (width, height)) in [(4, 4), (4, 8), (8, 4)].into_iter().enumerate() {

@@ -72,7 +72,7 @@ pub fn first_outside(shape: &Shape, coefficients: &[i64]) -> Option<usize> {
 }
 
 /// 9: "a residual of size above 2^d-1; place of the first".
-pub fn first_too_large(shape: &Shape, residuals: &[i64]) -> Option<usize> {
+fn first_too_large(shape: &Shape, residuals: &[i64]) -> Option<usize> {
     let largest = (1 << shape.depth) - 1;
     residuals.iter().position(|r| r.abs() > largest)
 }
@@ -269,7 +269,7 @@ mod tests {
             let [w, h, horizontal, vertical, depth, ..] = less.numbers();
             let most = Shape::new(w, h, horizontal, vertical, depth);
             let area = less.area() as usize;
-            let coefficients = any_coefficients(&mut random, &less, RAILS);
+            let coefficients = any_coefficients(&mut random, &less, [-32768, 32767]);
             let (mut one, mut other) = (vec![0; area], vec![0; area]);
             let answer = inverse(&less, &coefficients, &mut one);
             let rails = answer.rails;

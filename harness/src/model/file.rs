@@ -114,6 +114,18 @@ impl Cursor {
     }
 }
 
+/// The fields of a file in order, each with the cursor before it: up to the end, or to the first that is refused, with that one.
+pub fn fields(file: &[u8]) -> impl Iterator<Item = (Cursor, Step<'_>)> {
+    let mut next = Some(Cursor::new());
+    std::iter::from_fn(move || {
+        let cursor = next?;
+        let step = cursor.step(file);
+        next = (step.number == 0).then_some(step.next);
+        let is_end = step.number == 0 && step.body.is_empty();
+        (!is_end).then_some((cursor, step))
+    })
+}
+
 /// A block that is named by its count among the data fields, the first being 1.
 #[derive(Clone, Debug, PartialEq, Eq)]
 pub enum Picked {
@@ -131,14 +143,10 @@ pub enum Picked {
 
 /// "A support engineer names a block": field by field, up to the one that is meant.
 pub fn picked(file: &[u8], n: usize) -> Picked {
-    let (mut cursor, mut met) = (Cursor::new(), 0);
-    loop {
-        let step = cursor.step(file);
+    let mut met = 0;
+    for (cursor, step) in fields(file) {
         if step.number != 0 {
             return Picked::Refused(step.number, cursor.at);
-        }
-        if step.body.is_empty() {
-            return Picked::Missing;
         }
         let tag = file[cursor.at];
         if [TAG_COEFFICIENTS, TAG_RESIDUALS].contains(&tag) {
@@ -152,8 +160,8 @@ pub fn picked(file: &[u8], n: usize) -> Picked {
                 };
             }
         }
-        cursor = step.next;
     }
+    Picked::Missing
 }
 
 impl Default for Cursor {
@@ -184,19 +192,14 @@ pub fn numbers_of(body: &[u8]) -> Vec<i64> {
 /// What the program prints of a file.
 pub fn run_file(file: &[u8]) -> String {
     let mut text = String::new();
-    let mut cursor = Cursor::new();
-    loop {
-        let step = cursor.step(file);
-        if step.number == 0 && step.body.is_empty() {
-            return text;
-        }
+    for (cursor, step) in fields(file) {
         match printed(step, file, cursor.at) {
             Ok(line) => text.push_str(&line),
             // "The first refusal ends the run; lines printed before it stand."
             Err(number) => return text + &format!("R {number} {}\n", cursor.at),
         }
-        cursor = step.next;
     }
+    text
 }
 
 /// What the field at a place prints, or the number of its refusal.

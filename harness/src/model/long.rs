@@ -61,7 +61,7 @@ pub fn inverse_long(
 #[cfg(test)]
 mod tests {
     use super::*;
-    use crate::model::block::{inverse, RAILS};
+    use crate::model::block::inverse;
     use crate::model::samples::{any_coefficients, any_shape};
 
     /// The rules, depth by depth: R and the last shift.
@@ -84,7 +84,7 @@ mod tests {
         let mut random = crate::random::seeded();
         for _ in 0..200 {
             let shape = any_shape(&mut random, 12);
-            let c = any_coefficients(&mut random, &shape, RAILS);
+            let c = any_coefficients(&mut random, &shape, [-32768, 32767]);
             let (mut one, mut other) = (vec![1; c.len()], vec![2; c.len()]);
             let answer = inverse(&shape, &c, &mut one);
             assert_eq!(inverse_long(&shape, false, &c, &mut other), answer);

@@ -3,7 +3,7 @@
 
 use super::block::{forward, inverse};
 use super::call::{Answer, Shape};
-use super::file::{numbers_of, Cursor, TAG_RESIDUALS};
+use super::file::{fields, numbers_of, TAG_RESIDUALS};
 
 /// Four for each size and pair of kinds, then how many blocks were refused, then how many were given.
 pub const NUMBERS: usize = 578;
@@ -32,7 +32,7 @@ fn classes() -> Vec<[i64; 4]> {
 }
 
 /// Where the four totals of an accepted shape start.
-pub fn place(shape: &Shape) -> usize {
+fn place(shape: &Shape) -> usize {
     let wanted = [shape.width, shape.height, shape.horizontal, shape.vertical];
     let class = classes().iter().position(|class| *class == wanted);
     4 * class.expect("an accepted shape")
@@ -74,14 +74,9 @@ pub fn add(totals: &mut Totals, shape: &Shape, residuals: &[i64]) -> Answer {
 /// The residual blocks of a block file, up to the field that is refused, or to the block that is one too many: its number and its
 /// offset.
 pub fn add_file(totals: &mut Totals, file: &[u8]) -> Option<(i64, usize)> {
-    let mut cursor = Cursor::new();
-    loop {
-        let step = cursor.step(file);
+    for (cursor, step) in fields(file) {
         if step.number != 0 {
             return Some((step.number, cursor.at));
-        }
-        if step.body.is_empty() {
-            return None;
         }
         if file[cursor.at] == TAG_RESIDUALS {
             let shape = cursor.shape.expect("data follows a shape");
@@ -89,8 +84,8 @@ pub fn add_file(totals: &mut Totals, file: &[u8]) -> Option<(i64, usize)> {
                 return Some((22, cursor.at));
             }
         }
-        cursor = step.next;
     }
+    None
 }
 
 /// A sum over a count to three places, the nearest, halves up.

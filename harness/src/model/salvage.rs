@@ -4,7 +4,7 @@ use super::file::{Cursor, LARGEST_FILE, TAG_COEFFICIENTS, TAG_KEPT, TAG_RESIDUAL
 use std::ops::Range;
 
 /// "26 for more than 1,024 dropped stretches"
-pub const MOST_STRETCHES: usize = 1024;
+const MOST_STRETCHES: usize = 1024;
 
 /// What a call hands back: the number, how many bytes the new file has, and how many stretches were dropped.
 #[derive(Clone, Copy, Debug, PartialEq, Eq)]
@@ -15,7 +15,7 @@ pub struct Saved {
 }
 
 /// The stretches of a file, in order: each a field that was read (`true`) or one that is dropped.
-pub fn stretches(file: &[u8]) -> Vec<(Range<usize>, bool)> {
+fn stretches(file: &[u8]) -> Vec<(Range<usize>, bool)> {
     let mut found = vec![];
     let mut cursor = Cursor::new();
     while cursor.at < file.len() {

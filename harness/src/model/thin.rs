@@ -1,4 +1,4 @@
-//! Document 02, Wish 7: "Blocks one sample wide or high", and the blocks of the inverse by the same call. The final shift is H.266's,
+//! Document 02, Wish 7: "Blocks one sample wide or high", and the blocks of the inverse by the same call. The last shift is H.266's,
 //! which for one stage is one less of the 2^6 * sqrt(n) that each stage leaves: `docs/DECISIONS.md` has where it comes from.
 
 use super::block::{column_sums, first_outside, inverse, middle, round_shift};

@@ -6,7 +6,7 @@ pub const DCT_VIII: i64 = 2;
 
 /// "First rows s1..sN of DST-VII": s1 stands first. s11 and s28 of 32 points are H.266's, 46 and 87,
 /// where document 01 has 45 and 88.
-pub fn first_row(n: usize) -> &'static [i64] {
+fn first_row(n: usize) -> &'static [i64] {
     match n {
         4 => &[29, 55, 74, 84],
         8 => &[17, 32, 46, 60, 71, 78, 85, 86],
@@ -55,7 +55,7 @@ fn odd_rows(n: usize) -> &'static [i64] {
 
 /// DCT-II by its halves: an even row is a row of half the points, and then the same backwards; in an odd row i the
 /// weight of column j is the number of the odd multiple i(2j+1) of a quarter turn over n, with the cosine's sign there.
-pub fn dct_ii(n: usize, i: usize, j: usize) -> i64 {
+fn dct_ii(n: usize, i: usize, j: usize) -> i64 {
     if n == 1 {
         return 64;
     }

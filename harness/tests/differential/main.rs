@@ -1,4 +1,5 @@
-//! The library against the model: every call, on numbers that are hard for it, and every refusal.
+//! The library against the model: every call, on numbers that are hard for it, and every refusal. Those of pictures, broken files
+//! and the report have tests of their own.
 //!
 //! The library is linked (`HOENGTILA_ARCHIVE` at the build) or answers through a peer (`HOENGTILA_PEER`); where it is
 //! neither, each test fails. `tests/library` at the root of the repository gives them one.

@@ -2,11 +2,11 @@
 //! an undamaged file comes back unchanged, and what is written is read to its end.
 
 use crate::calls::{peer, subject, Call, Outcome};
-use crate::files::{damage, strays, whole, worst};
+use crate::files::{damage, stray_bytes, whole, worst};
 use hoengtila_harness::compare::Comparison;
 use hoengtila_harness::files::stored;
 use hoengtila_harness::header::{each_set, numbers};
-use hoengtila_harness::model::Cursor;
+use hoengtila_harness::model::file::fields;
 use hoengtila_harness::subject::{Answered, Asked};
 
 const FILES: usize = 10_000;
@@ -15,14 +15,7 @@ const FILES: usize = 10_000;
 const MOST_MICROSECONDS: u32 = 500_000;
 
 fn is_undamaged(file: &[u8]) -> bool {
-    let mut cursor = Cursor::new();
-    loop {
-        let step = cursor.step(file);
-        if step.number != 0 || step.next.at == cursor.at {
-            return step.number == 0;
-        }
-        cursor = step.next;
-    }
+    fields(file).all(|(_, step)| step.number == 0)
 }
 
 /// The file without its dropped stretches, which have bytes, lie in it, and stand in order and apart.
@@ -92,12 +85,12 @@ fn refusals() {
     assert_eq!(number(with(vec![9; 65_536], 65_536, 2048)), 0);
     assert_eq!(number(with(vec![9; 65_537], 65_537, 2048)), 14);
     assert_eq!(number(with(vec![9; 65_537], 0, 0)), 14);
-    assert_eq!(number(with(strays(1024), 45_056, 2048)), 0);
-    assert_eq!(number(with(strays(1024), 45_055, 2048)), 7);
-    assert_eq!(number(with(strays(1024), 45_056, 2047)), 7);
-    assert_eq!(number(with(strays(1025), 45_100, 2050)), 26);
-    assert_eq!(number(with(strays(1025), 45_099, 2050)), 7);
-    assert_eq!(number(with(strays(1489), 65_536, 2978)), 26);
+    assert_eq!(number(with(stray_bytes(1024), 45_056, 2048)), 0);
+    assert_eq!(number(with(stray_bytes(1024), 45_055, 2048)), 7);
+    assert_eq!(number(with(stray_bytes(1024), 45_056, 2047)), 7);
+    assert_eq!(number(with(stray_bytes(1025), 45_100, 2050)), 26);
+    assert_eq!(number(with(stray_bytes(1025), 45_099, 2050)), 7);
+    assert_eq!(number(with(stray_bytes(1489), 65_536, 2978)), 26);
     assert_eq!(number(with(vec![], 0, 2048)), 0);
     c.close(&numbers(&["salvage"]));
 }
@@ -108,7 +101,7 @@ fn orders() {
     let title = "salvage: every set of refusals, in the header's order";
     let mut c = Comparison::of(subject(), title);
     each_set("salvage", |set| {
-        let mut file = strays(set.pick(26, 1025, 3));
+        let mut file = stray_bytes(set.pick(26, 1025, 3));
         file.resize(set.pick(14, 65_537, file.len()), 9);
         let call = Call {
             out: vec![0xEE; file.len() - set.pick(7, 1, 0)],

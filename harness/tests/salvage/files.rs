@@ -61,7 +61,7 @@ pub fn damage(random: &mut Random, file: &mut Vec<u8>) {
 }
 
 /// `count` blocks of 4 by 4, a stray byte before each.
-pub fn strays(count: usize) -> Vec<u8> {
+pub fn stray_bytes(count: usize) -> Vec<u8> {
     let block = [shape(4, 4, 1, 1, 10), data(TAG_COEFFICIENTS, &[1; 16])].concat();
     [&[9], &block[..]].concat().repeat(count)
 }
@@ -76,7 +76,7 @@ pub fn worst() -> Vec<(&'static str, Vec<u8>)> {
     let with_kept = [four.clone(), kept(4, 4)].concat();
     let nearly = [four.clone(), kept(4, 4), vec![2, 0, 31]].concat();
     // the bytes behind the last block are a stretch too
-    let stretches = |count: usize| [strays(count - 1), vec![9; 65_580 - 44 * count]].concat();
+    let stretches = |count: usize| [stray_bytes(count - 1), vec![9; 65_580 - 44 * count]].concat();
     vec![
         ("zeros", filled(vec![0])),
         ("tags", filled(vec![1])),

@@ -1,6 +1,6 @@
 //! The program behind `blocks salvage`: what it writes, and the lines that it says.
 
-use crate::files::{damage, strays, whole};
+use crate::files::{damage, stray_bytes, whole};
 use hoengtila_harness::model::salvage::saved_of;
 use hoengtila_harness::program::run_on;
 use hoengtila_harness::random::seeded;
@@ -13,7 +13,7 @@ fn the_program_writes_and_says_what_the_model_does() {
     let command_line = std::env::var(VARIABLE).expect(VARIABLE);
     let mut random = seeded();
     let mut lines = 0;
-    let mut files = vec![vec![], vec![9; 65_536], strays(1024)];
+    let mut files = vec![vec![], vec![9; 65_536], stray_bytes(1024)];
     for _ in 0..300 {
         let mut file = whole(&mut random);
         for _ in 0..random.below(4) {
@@ -26,7 +26,10 @@ fn the_program_writes_and_says_what_the_model_does() {
         assert_eq!(outcome, saved_of(file), "{file:02x?}");
         lines += outcome.1.lines().count();
     }
-    for (file, said) in [(vec![9; 65_537], "R 14 0\n"), (strays(1025), "R 26 0\n")] {
+    for (file, said) in [
+        (vec![9; 65_537], "R 14 0\n"),
+        (stray_bytes(1025), "R 26 0\n"),
+    ] {
         assert_eq!(
             run_on(&command_line, &file, &[]),
             (vec![], said.to_string())
