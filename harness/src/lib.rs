@@ -2,7 +2,7 @@
 //!
 //! `model` is written from the text of the two documents, and from a decoder where they leave a rule to H.266 (`docs/DECISIONS.md`), with
 //! no eye to the code and none to speed.
-//! `random` makes the cases, the same ones for the same seed; `patterns`, `folding` and `wrong` know which are hard, `files`
+//! `random` makes the cases, the same ones for the same seed; `patterns`, `direction`, `folding` and `wrong` know which are hard, `files`
 //! has block files, and `steps` makes the lists of steps that the crates store; `program` runs a program on a file.
 //! `header` has what the C header says of refusals.
 //! `library` is the library for Rust callers, `peer` the library behind a pipe; `call`, `row_call`, `step_call`, `long_call`, `thin_call`
@@ -11,6 +11,7 @@
 
 pub mod call;
 pub mod compare;
+pub mod direction;
 pub mod files;
 pub mod folding;
 pub mod header;

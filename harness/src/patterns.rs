@@ -11,11 +11,6 @@ pub type Ends = [i64; 2];
 
 pub const SIXTEEN_BITS: Ends = [-32768, 32767];
 
-/// The ends of what a forward block of depth `d` takes.
-pub fn residual_ends(d: u32) -> Ends {
-    [1 - (1 << d), (1 << d) - 1]
-}
-
 /// How the numbers of a line are chosen.
 #[derive(Clone, Copy, Debug)]
 pub enum Pattern {

@@ -1,7 +1,8 @@
 //! Prints the file `crates/block_cases/stdout`: the lines of the program `block_cases`, with what the model gives.
 //! The cases stand here as in the program's source and in its order; its head says what a line holds.
 
-use hoengtila_harness::model::{forward, forward_4x4, inverse, inverse_4x4, Answer, Shape};
+use hoengtila_harness::direction::Direction::{self, Forward, Inverse};
+use hoengtila_harness::model::{forward_4x4, inverse_4x4, Answer, Shape};
 
 /// What every buffer has room for.
 const ROOM: usize = 1024;
@@ -23,30 +24,6 @@ const PAIRS: [[i64; 2]; 9] = [
     [2, 1],
     [2, 2],
 ];
-
-#[derive(Clone, Copy)]
-enum Direction {
-    Inverse,
-    Forward,
-}
-
-use Direction::{Forward, Inverse};
-
-impl Direction {
-    fn name(self) -> &'static str {
-        match self {
-            Inverse => "inverse",
-            Forward => "forward",
-        }
-    }
-
-    fn run(self, shape: &Shape, input: &[i64], output: &mut [i64]) -> Answer {
-        match self {
-            Inverse => inverse(shape, input, output),
-            Forward => forward(shape, input, output),
-        }
-    }
-}
 
 /// The two numbers by turns in each of the first columns and rows, and 0 elsewhere.
 fn filled(width: i64, [columns, rows]: [i64; 2], turns: [i64; 2]) -> Vec<i64> {
@@ -76,7 +53,7 @@ fn line(
     let shape = Shape::of(numbers);
     let before: Vec<i64> = (0..output).map(|k| MARKS[k % 2]).collect();
     let mut after = before.clone();
-    let answer = direction.run(&shape, &block[..input], &mut after);
+    let answer = direction.by_model(&shape, &block[..input], &mut after);
     print!("{what}: {}", direction.name());
     numbers.iter().for_each(|n| print!(" {n}"));
     print!(" {input} {output}");
@@ -275,7 +252,7 @@ fn by_value(direction: Direction, turns: [i64; 2], [horizontal, vertical, depth]
     };
     let mut lent = [0; 16];
     let shape = Shape::new(4, 4, horizontal, vertical, depth);
-    let answer = direction.run(&shape, &block.concat(), &mut lent);
+    let answer = direction.by_model(&shape, &block.concat(), &mut lent);
     let part = |answer: Answer, numbers: &[i64]| {
         let mut all = vec![
             horizontal,

@@ -3,10 +3,11 @@
 //!
 //! Where the definitions and the model differ, a theorem is false and the checker refuses it.
 
+use hoengtila_harness::direction::Direction::{self, Forward, Inverse};
 use hoengtila_harness::model::block::middle;
 use hoengtila_harness::model::weights::weight;
 use hoengtila_harness::model::{self, Answer, Shape};
-use hoengtila_harness::patterns::{self, is_kept, residual_ends, Ends, SIXTEEN_BITS};
+use hoengtila_harness::patterns::{self, is_kept, Ends, SIXTEEN_BITS};
 use hoengtila_harness::random::{seed, Random, SEED_VARIABLE};
 use hoengtila_harness::wrong::{Wrong, KINDS, NO_DEPTH, NO_KIND, NO_SIZE, ORDER, SIZES};
 
@@ -133,30 +134,6 @@ impl Theorems {
 
 // ---- one case of each kind
 
-#[derive(Clone, Copy)]
-enum Direction {
-    Forward,
-    Inverse,
-}
-use Direction::{Forward, Inverse};
-
-impl Direction {
-    fn word(self) -> &'static str {
-        match self {
-            Forward => "forward",
-            Inverse => "inverse",
-        }
-    }
-
-    /// The least and the largest number that a block of depth `d` takes in this direction.
-    fn ends(self, d: i64) -> Ends {
-        match self {
-            Forward => residual_ends(d as u32),
-            Inverse => SIXTEEN_BITS,
-        }
-    }
-}
-
 /// Every weight of a kind and size, row by row.
 fn weights_case(t: &mut Theorems, kind: i64, n: i64) {
     let points = n as usize;
@@ -178,7 +155,7 @@ fn line_case(t: &mut Theorems, direction: Direction, n: i64, kind: i64, x: &[i64
         Forward => model::forward_line(n, kind, x, &mut y),
         Inverse => model::inverse_line(n, kind, x, &mut y),
     };
-    let call = format!("{}LineOutcome {n} {kind}", direction.word());
+    let call = format!("{}LineOutcome {n} {kind}", direction.name());
     let left = format!("{call} {} {}", list(x), list(held));
     t.state_outcome(LINE, &left, &answer, &y);
 }
@@ -186,11 +163,8 @@ fn line_case(t: &mut Theorems, direction: Direction, n: i64, kind: i64, x: &[i64
 /// A block's outcome, its output holding `held` before the call.
 fn block_case(t: &mut Theorems, direction: Direction, shape: &Shape, input: &[i64], held: &[i64]) {
     let mut output = held.to_vec();
-    let answer = match direction {
-        Forward => model::forward(shape, input, &mut output),
-        Inverse => model::inverse(shape, input, &mut output),
-    };
-    let call = format!("{}Outcome {}", direction.word(), shape_term(shape));
+    let answer = direction.by_model(shape, input, &mut output);
+    let call = format!("{}Outcome {}", direction.name(), shape_term(shape));
     let left = format!("{call} {} {}", list(input), list(held));
     t.state_outcome(BLOCK, &left, &answer, &output);
 }
@@ -244,7 +218,7 @@ fn clear_outside(shape: &Shape, coefficients: &mut [i64]) {
 
 fn accepted_block(t: &mut Theorems, direction: Direction, shape: &Shape) {
     let area = shape.area() as usize;
-    let mut input = numbers(&mut t.random, area, direction.ends(shape.depth));
+    let mut input = numbers(&mut t.random, area, direction.ends(shape.depth as u32));
     if let Inverse = direction {
         clear_outside(shape, &mut input);
     }
@@ -300,7 +274,7 @@ fn refused_block(t: &mut Theorems, direction: Direction, number: usize) {
 /// One bad number alone among good ones, at a random place: 8 or 9 with that place.
 fn lone_bad_number(t: &mut Theorems, direction: Direction, shape: &Shape) {
     let area = shape.area() as usize;
-    let [low, high] = direction.ends(shape.depth);
+    let [low, high] = direction.ends(shape.depth as u32);
     let mut input = numbers(&mut t.random, area, [low, high]);
     let place = match direction {
         Forward => t.random.below(area),
@@ -411,11 +385,7 @@ fn at_the_rail(t: &mut Theorems) {
 }
 
 fn refused_blocks(t: &mut Theorems, direction: Direction) {
-    let hunt = match direction {
-        Forward => 9,
-        Inverse => 8,
-    };
-    for number in [1, 2, 3, 4, 5, 20, 6, 7, hunt] {
+    for number in [1, 2, 3, 4, 5, 20, 6, 7, direction.hunt()] {
         for _ in 0..3 {
             refused_block(t, direction, number);
         }

@@ -1,8 +1,8 @@
 //! Blocks that are taken: every shape with every layout of numbers, and middle values about the rails.
 
-use crate::calls::Direction::{self, Forward, Inverse};
 use crate::calls::{area, block_call, shapes};
 use hoengtila_harness::compare::Comparison;
+use hoengtila_harness::direction::Direction::{self, Forward, Inverse};
 use hoengtila_harness::model::fair_ends;
 use hoengtila_harness::patterns::{
     block, block_about_the_rails, clear_outside, keeping_any, LAYOUTS,

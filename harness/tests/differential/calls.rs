@@ -1,20 +1,21 @@
 //! Calls with random numbers in their outputs, and the shapes that they are made of.
 
 use hoengtila_harness::call::{Call, Path, What};
+use hoengtila_harness::direction::Direction::{self, Forward, Inverse};
 use hoengtila_harness::library::Shape;
-use hoengtila_harness::patterns::{keeping_any, residual_ends, Ends, SIXTEEN_BITS};
+use hoengtila_harness::patterns::{keeping_any, SIXTEEN_BITS};
 use hoengtila_harness::random::Random;
 use hoengtila_harness::widths::{most_kept, narrow};
 
 pub const SIZES: [u32; 4] = [4, 8, 16, 32];
 pub const KINDS: [u32; 3] = [0, 1, 2];
 
-/// What an output holds before a call: any numbers of its type, so that one left untouched is one in 65,536 to be right.
+/// What an output holds before a call: any numbers, so that one left untouched is hardly ever the right one.
 pub fn held(random: &mut Random, count: usize) -> Vec<i32> {
     narrow(&random.numbers(count, i32::MIN.into(), i32::MAX.into()))
 }
 
-/// Any numbers of 16 bits.
+/// The same of 16 bits; an input too.
 pub fn shorts(random: &mut Random, count: usize) -> Vec<i16> {
     let [low, high] = SIXTEEN_BITS;
     narrow(&random.numbers(count, low, high))
@@ -49,33 +50,6 @@ pub fn wrapped_call(
     Call {
         order: order.to_vec(),
         ..Call::new(what, narrow(x), held(random, output))
-    }
-}
-
-#[derive(Clone, Copy, Debug, PartialEq, Eq)]
-pub enum Direction {
-    Forward,
-    Inverse,
-}
-use Direction::{Forward, Inverse};
-
-pub const DIRECTIONS: [Direction; 2] = [Forward, Inverse];
-
-impl Direction {
-    /// The numbers that a block takes.
-    pub fn ends(self, d: u32) -> Ends {
-        match self {
-            Forward => residual_ends(d),
-            Inverse => SIXTEEN_BITS,
-        }
-    }
-
-    /// The number of the hunt's refusal.
-    pub fn hunt(self) -> usize {
-        match self {
-            Forward => 9,
-            Inverse => 8,
-        }
     }
 }
 

@@ -1,9 +1,10 @@
 //! Calls that are turned down: the number, the place, and the output as it was.
 
-use crate::calls::Direction::{self, Forward, Inverse};
-use crate::calls::{area, block_call, line_call, shapes_in_turn, DIRECTIONS, KINDS, SIZES};
+use crate::calls::{area, block_call, line_call, shapes_in_turn, KINDS, SIZES};
 use hoengtila_harness::call::{Call, PATHS};
 use hoengtila_harness::compare::Comparison;
+use hoengtila_harness::direction::Direction::{self, Forward, Inverse};
+use hoengtila_harness::direction::DIRECTIONS;
 use hoengtila_harness::header::numbers;
 use hoengtila_harness::patterns::{block, clear_outside, is_kept, LAYOUTS};
 use hoengtila_harness::random::Random;

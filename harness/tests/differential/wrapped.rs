@@ -1,8 +1,9 @@
 //! Lines whose sums wrap on the way: any order, any start, and every refusal.
 
-use crate::calls::{wrapped_call, Direction, DIRECTIONS, KINDS, SIZES};
+use crate::calls::{wrapped_call, KINDS, SIZES};
 use hoengtila_harness::call::{Call, What};
 use hoengtila_harness::compare::Comparison;
+use hoengtila_harness::direction::{Direction, DIRECTIONS};
 use hoengtila_harness::header::numbers;
 use hoengtila_harness::model::wrapped::{adder, products};
 use hoengtila_harness::patterns::{line, PATTERNS, SIXTEEN_BITS};
