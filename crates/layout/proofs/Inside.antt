@@ -3,7 +3,7 @@
 use mathlib.Core.Path.{_≡_, refl, sym, _∙_, subst}
 use mathlib.Core.Bool.{Bool, true, false, not, _&&_, and-false}
 use mathlib.Core.List.{List}
-use Prim.Native.Nat.{ℕ, _+_, _*_, _≤_, _<_}
+use Prim.Native.Nat.{ℕ, _+_, _*_, _/_, _%_, _≤_, _<_}
 use native.Mathlib.Nat.{mul-comm, zero-add, mul-le-mul-right}
 use native.Mathlib.Omega.{arith}
 use native.Mathlib.Decide.{decLt}
@@ -31,6 +31,13 @@ live-part w h columns rows c narrow low r k =
     pick : (x y : ℕ) → columns ≤ x → x < w → y < h → Dec (y < rows) → at c (x + y * w) ≡ pos 0
     pick x y l g v (yes q) = k x y l g q
     pick x y l g v (no n) = under x y g (omega arith) v
+
+-- the test of place k of a block that is w wide; and by its column and row
+abbrev pub outsideOf : ℕ → ℕ → ℕ → ℕ → ℤ → Bool
+outsideOf w columns rows k z = outsideAt columns rows (k % w) (k / w) z
+
+pub outside-at : (w columns rows x y : ℕ) (z : ℤ) → x < w → outsideOf w columns rows (x + y * w) z ≡ outsideAt columns rows x y z
+outside-at w columns rows x y z h = rw (column-of {x = x} {w = w} y h, row-of {x = x} {w = w} y h)
 
 -- what is kept is not outside, and neither is a 0
 pub kept-not : (columns rows x y : ℕ) (z : ℤ) → x < columns → y < rows → outsideAt columns rows x y z ≡ false
@@ -69,7 +76,7 @@ module _ (p : Plan) (c : List ℤ) (long : length c ≡ p .width * p .height) wh
           let b : 0 + k < firstOutside p c = omega arith in
           let f : outside p (0 + k) (at c k) ≡ false = first-before (outside p) c 0 k m b in
           let f′ : outside p k (at c k) ≡ false = subst (λ (j : ℕ). outside p j (at c k) ≡ false) (zero-add k) f in
-          zero (at c k) (ltb x (p .columns) && ltb y (p .rows)) e (rw (column-of {x = x} {w = w} y g, row-of {x = x} {w = w} y g) at f′)
+          zero (at c k) (ltb x (p .columns) && ltb y (p .rows)) e (sym (outside-at w (p .columns) (p .rows) x y (at c k) g) ∙ f′)
 
   -- any part that lies within the kept one
   pub none-outside : {columns rows : ℕ} → Part w h columns rows c → columns ≤ p .columns → rows ≤ p .rows → firstOutside p c ≡ length c
@@ -79,7 +86,7 @@ module _ (p : Plan) (c : List ℤ) (long : length c ≡ p .width * p .height) wh
       ∙ zero-add (length c)
     where
       one : (x y : ℕ) → x < w → y < h → outside p (x + y * w) (at c (x + y * w)) ≡ false
-      one x y g v = rw (column-of {x = x} {w = w} y g, row-of {x = x} {w = w} y g) (pick (decLt x columns) (decLt y rows))
+      one x y g v = outside-at w (p .columns) (p .rows) x y (at c (x + y * w)) g ∙ pick (decLt x columns) (decLt y rows)
         where
           pick : Dec (x < columns) → Dec (y < rows) → outsideAt (p .columns) (p .rows) x y (at c (x + y * w)) ≡ false
           pick (yes a) (yes b) = kept-not (p .columns) (p .rows) x y (at c (x + y * w)) (omega arith) (omega arith)

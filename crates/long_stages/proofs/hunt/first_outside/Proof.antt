@@ -1,52 +1,37 @@
 -- `first_outside` meets its contract: every place that the hunt has passed fails the test. Assumes nothing.
 use borrow.Author.Needs.{needs}
+use mathlib.Core.Path.{_≡_, sym, ap, _∙_}
+use Prim.Native.Nat.{_+_, _*_, _-_, _<_}
 use native.Mathlib.Omega.{arith}
-use mathlib.Core.Path.{_≡_, refl, sym, ap, _∙_}
-use mathlib.Core.Bool.{Bool}
-use mathlib.Core.List.{List}
-use Prim.Native.Nat.{ℕ, _+_, _*_, _-_, _/_, _%_, _<_, _≤_}
-use native.Mathlib.Nat.{zero-add, zero-mul, add-mul, one-mul, mul-comm, le-antisymm}
-use lib.ListN.{length, drop}
-use lib.IntN.{ℤ}
+use lib.ListN.{length}
 use mir.Syntax.{w32}
 use mir.ValLaws.{toZ-ofZ}
 use Rattle.algebra.specs.Lists.{at}
-use Rattle.algebra.specs.First.{firstAt}
-use Rattle.algebra.proofs.Lists.{place-in, row-of, column-of}
-use Rattle.algebra.proofs.First.{first-on, first-here, first-none}
-use Rattle.meaning.specs.Inverse.{outside, outsideAt}
+use Rattle.meaning.specs.Inverse.{outsideAt}
+use Rattle.layout.proofs.Inside.{outsideOf, outside-at}
+use Rattle.layout.proofs.Hunting.{Hunt, hunt-in, hunt-start, hunt-next, hunt-down, hunt-here, hunt-none}
 use Rattle.long_stages.proofs.hunt.first_outside.Statement.{statement}
 use Rattle.long_stages.proofs.hunt.first_outside.Tie as tie
 
--- the contract's test, by the numbers that the loops have at hand
-abbrev test : ℕ → ℕ → ℕ → ℕ → ℤ → Bool
-test w columns rows k z = outsideAt columns rows (k % w) (k / w) z
-
-abbrev Left : ℕ → ℕ → ℕ → List ℤ → ℕ → Type 0
-Left w columns rows c k = firstAt (test w columns rows) 0 c ≡ firstAt (test w columns rows) k (drop k c)
-
 abbrev Inv-loop : tie.InvT-loop
-Inv-loop c w h columns rows place₀ y x₀ place x = (x ≤ w) × ((place ≡ length c) × Left w columns rows c (x + y * w))
+Inv-loop c w h columns rows place₀ y x₀ place x = Hunt (outsideOf w columns rows) w h c place x y
 
 abbrev μ-loop : tie.MeasureT-loop
 μ-loop c w h columns rows place₀ y x₀ place x = w - x
 
 abbrev Inv-hunt : tie.InvT-hunt
-Inv-hunt c w h columns rows place₀ y₀ place y = (y ≤ h) × ((place ≡ length c) × Left w columns rows c (y * w))
+Inv-hunt c w h columns rows place₀ y₀ place y = Hunt (outsideOf w columns rows) w h c place 0 y
 
 abbrev μ-hunt : tie.MeasureT-hunt
 μ-hunt c w h columns rows place₀ y₀ place y = h - y
 
-abbrev width : tie.Start Inv-loop μ-loop Inv-hunt μ-hunt → ℕ
-width s = s .args .shape .width
+abbrev start : tie.At-hunt Inv-loop μ-loop Inv-hunt μ-hunt → tie.Start Inv-loop μ-loop Inv-hunt μ-hunt
+start H = H .before .before .before .before .before
 
 -- in a turn the place is in the slice
-within : (c : tie.In-loop Inv-loop μ-loop Inv-hunt μ-hunt) → let H = c .before .before .before in let s = H .before .before .before .before .before in
-    c .before .loop .x + H .hunt .y * width s < length (s .args .c .now)
-within c =
-    let H = c .before .before .before in
-    let s = H .before .before .before .before .before in
-    omega (arith, s .pre, mul-comm (s .args .shape .width) (s .args .shape .height), place-in {w = width s} (c .loop-test .taken) (c .before .before .hunt-test .taken))
+within : (c : tie.In-loop Inv-loop μ-loop Inv-hunt μ-hunt) → let H = c .before .before .before in let s = start H in
+    c .before .loop .x + H .hunt .y * s .args .shape .width < length (s .args .c .now)
+within c = let s = start (c .before .before .before) in hunt-in (s .args .c .now) (s .pre) (c .loop-test .taken) (c .before .before .hunt-test .taken)
 
 cast-w : tie.Need-cast-w Inv-loop μ-loop Inv-hunt μ-hunt
 cast-w c = search needs
@@ -61,12 +46,10 @@ cast-rows : tie.Need-cast-rows Inv-loop μ-loop Inv-hunt μ-hunt
 cast-rows c = search needs
 
 hunt-holds : tie.Need-hunt-holds Inv-loop μ-loop Inv-hunt μ-hunt
-hunt-holds c = (omega arith, (refl, rw zero-mul))
+hunt-holds c = hunt-start (c .before .before .before .before .pre)
 
 loop-holds : tie.Need-loop-holds Inv-loop μ-loop Inv-hunt μ-hunt
-loop-holds c =
-    let H = c .before in
-    (omega arith, (H .hunt .inv .1 .0, H .hunt .inv .1 .1 ∙ rw (zero-add (H .hunt .y * width (H .before .before .before .before .before)))))
+loop-holds c = c .before .hunt .inv
 
 mul-at : tie.Need-mul-at Inv-loop μ-loop Inv-hunt μ-hunt
 mul-at c = omega (arith, within c)
@@ -84,19 +67,17 @@ shared-slice-copy-out-outside c = within c
 outside-requires : tie.Need-outside-requires Inv-loop μ-loop Inv-hunt μ-hunt
 outside-requires c κs = search needs
 
-abbrev hunted : tie.Start Inv-loop μ-loop Inv-hunt μ-hunt → ℕ → ℤ → Bool
-hunted s = test (width s) (s .args .shape .columns) (s .args .shape .rows)
-
 -- what `outside` said is the test at this place
 told : (c : tie.After-outside Inv-loop μ-loop Inv-hunt μ-hunt) → let L = c .before .before .before in let H = L .before .before in
-    let s = H .before .before .before .before .before in let k = L .loop .x + H .hunt .y * width s in hunted s k (at (s .args .c .now) k) ≡ c .outside .result
+    let s = start H in let k = L .loop .x + H .hunt .y * s .args .shape .width in
+    outsideOf (s .args .shape .width) (s .args .shape .columns) (s .args .shape .rows) k (at (s .args .c .now) k) ≡ c .outside .result
 told c =
     let L = c .before .before .before in
     let H = L .before .before in
-    let s = H .before .before .before .before .before in
-    let k = L .loop .x + H .hunt .y * width s in
-    rw (column-of {x = L .loop .x} {w = width s} (H .hunt .y) (c .before .before .loop-test .taken), row-of {x = L .loop .x} {w = width s} (H .hunt .y) (c .before .before .loop-test .taken))
-    (sym (c .outside .ensures ∙ rw (toZ-ofZ w32 (at (s .args .c .now) k) (record { sfits = c .before .outside-arg .given }))))
+    let s = start H in
+    let k = L .loop .x + H .hunt .y * s .args .shape .width in
+    outside-at (s .args .shape .width) _ _ (L .loop .x) (H .hunt .y) (at (s .args .c .now) k) (c .before .before .loop-test .taken)
+    ∙ sym (c .outside .ensures ∙ ap (outsideAt _ _ (L .loop .x) (H .hunt .y)) (toZ-ofZ w32 (at (s .args .c .now) k) (record { sfits = c .before .outside-arg .given })))
 
 add-x : tie.Need-add-x Inv-loop μ-loop Inv-hunt μ-hunt
 add-x c = search needs
@@ -106,17 +87,9 @@ loop-less c = search needs
 
 loop-again : tie.Need-loop-again Inv-loop μ-loop Inv-hunt μ-hunt
 loop-again c =
-    let L = c .before .before .before .before in
-    let H = L .before .before in
-    let s = H .before .before .before .before .before in
-    let k = L .loop .x + H .hunt .y * width s in
-    let e : L .loop .x + 1 + H .hunt .y * width s ≡ k + 1 = omega arith in (
-      omega arith,
-      (
-        L .loop .inv .1 .0,
-        L .loop .inv .1 .1 ∙ rw e (first-on (hunted s) (s .args .c .now) k (within (c .before .before .before)) (told (c .before) ∙ c .if1 .left)),
-      ),
-    )
+    let I = c .before .before .before in
+    let T = I .before .before in
+    hunt-next (start (T .before) .pre) (T .hunt-test .taken) (I .before .loop .inv) (I .loop-test .taken) (told (c .before) ∙ c .if1 .left)
 
 add-y : tie.Need-add-y Inv-loop μ-loop Inv-hunt μ-hunt
 add-y c = search needs
@@ -126,28 +99,17 @@ hunt-less c = search needs
 
 hunt-again : tie.Need-hunt-again Inv-loop μ-loop Inv-hunt μ-hunt
 hunt-again c =
-    let L = c .before in
-    let H = L .before .before in
-    let w = width (H .before .before .before .before .before) in
-    let e : L .loop .x + H .hunt .y * w ≡ (H .hunt .y + 1) * w = omega (arith, add-mul (H .hunt .y) 1 w, one-mul w, c .loop-test .left) in
-    (omega arith, (L .loop .inv .1 .0, L .loop .inv .1 .1 ∙ rw e))
+    let T = c .before .before in
+    hunt-down (start (T .before) .pre) (T .hunt-test .taken) (c .before .loop .inv) (c .loop-test .left)
 
 returns : tie.Need-returns Inv-loop μ-loop Inv-hunt μ-hunt
-returns c =
-    let H = c .before in
-    let s = H .before .before .before .before .before in
-    let k = H .hunt .y * width s in
-    let e : H .hunt .y ≡ s .args .shape .height = le-antisymm (H .hunt .inv .0) (c .hunt-test .left) in
-    let n : k ≡ length (s .args .c .now) = ap (λ (y : ℕ). y * width s) e ∙ mul-comm (s .args .shape .height) (width s) ∙ sym (s .pre) in
-    H .hunt .inv .1 .0 ∙ sym n ∙ sym (first-none (hunted s) (s .args .c .now) k (omega arith)) ∙ sym (H .hunt .inv .1 .1)
+returns c = hunt-none (start (c .before) .pre) (c .hunt-test .left) (c .before .hunt .inv)
 
 returns-2 : tie.Need-returns-2 Inv-loop μ-loop Inv-hunt μ-hunt
 returns-2 c =
-    let L = c .before .before .before .before in
-    let H = L .before .before in
-    let s = H .before .before .before .before .before in
-    let k = L .loop .x + H .hunt .y * width s in
-    sym (first-here (hunted s) (s .args .c .now) k (within (c .before .before .before)) (told (c .before) ∙ c .if1 .taken)) ∙ sym (L .loop .inv .1 .1)
+    let I = c .before .before .before in
+    let T = I .before .before in
+    hunt-here (start (T .before) .pre) (T .hunt-test .taken) (I .before .loop .inv) (I .loop-test .taken) (told (c .before) ∙ c .if1 .taken)
 
 pub first-outside-spec : {M : Type 1} → statement M
 first-outside-spec =
