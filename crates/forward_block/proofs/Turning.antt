@@ -23,8 +23,8 @@ use Rattle.meaning.specs.Forward.{rowShift, columnShift, rowValue, columnValue,
 use Rattle.meaning.proofs.Cases.{depth-cases}
 use Rattle.meaning.proofs.Sizes.{weightSize}
 use Rattle.meaning.proofs.Stages.{log-in, rowValue-fits, columnValue-fits}
-use Rattle.product.specs.Product.{spot, Laid, lineSum}
-use Rattle.product.proofs.Laid.{line-is, spot-two}
+use Rattle.product.specs.Product.{Laid, lineSum}
+use Rattle.product.proofs.Laid.{line-is, block-laid}
 use Rattle.forward_block.specs.Stage.{Residuals, lineValue, Stage}
 use Rattle.forward_block.specs.Square.{fourSum, FourLines, fourValue, KindLines, Whole}
 
@@ -39,11 +39,7 @@ four-products a t p o =
 -- ---- the lines of one stage, by the weights of its kind
 module _ (kind shift : ℕ) {a t : List ℤ} (u : Laid 4 2 2 8 (λ i j. weight kind 4 j i) t) (g : KindLines kind a shift) where
   inputs : Laid 4 2 4 2 (λ i j. at a (i + j * 4)) a
-  inputs =
-      record {
-        held = λ i j k v. omega (arith, spot-two i, g .long);
-        right = λ i j k v. let p : 4 * j + spot 2 i ≡ i + j * 4 = omega (arith, spot-two i) in ap (at a) p;
-      }
+  inputs = block-laid (omega arith) (omega (arith, g .long))
 
   turned-is : (o j : ℕ) → o < 4 → j < 4 → lineValue 2 a 4 2 t 8 shift o j ≡ fourValue kind a shift o j
   unfolding forwardSum

@@ -26,10 +26,10 @@ use Rattle.meaning.proofs.Cases.{size-in, depth-cases}
 use Rattle.meaning.proofs.KeptPart.{columns-kept, rows-kept}
 use Rattle.meaning.proofs.Sizes.{weightSize}
 use Rattle.meaning.proofs.Stages.{log-in, rowValue-fits, columnValue-fits}
-use Rattle.product.specs.Product.{spot, Laid}
-use Rattle.product.proofs.Laid.{laid-less, lines-given, line-is}
+use Rattle.product.specs.Product.{Laid}
+use Rattle.product.proofs.Laid.{laid-less, block-laid, lines-given, line-is}
 use Rattle.layout.specs.Zip.{Rows}
-use Rattle.layout.proofs.Zipping.{size-even}
+use Rattle.layout.proofs.Zipping.{size-even, rows-given}
 use Rattle.forward_block.specs.Stage.{Residuals, lineValue, Put, Stage, Outputs, Rooms}
 
 -- a number of rows or columns that is not all of them leaves places
@@ -70,14 +70,7 @@ module _ {sh : Shape} {r t u : List ℤ} {room : ℕ} (g : Residuals sh r) (m : 
 
   -- ---- rows
   row-laid : Laid h (w / 2) w 2 (λ i y. at r (i + y * w)) r
-  row-laid =
-      record {
-        held = λ i y k v. omega (arith, place i y, place-in {x = i} {y = y} {w = w} {h = h} (omega (arith, wide)) v, area, g .long);
-        right = λ i y k v. ap (at r) (place i y);
-      }
-    where
-      place : (i y : ℕ) → w * y + spot 2 i ≡ i + y * w
-      place i y = omega (arith, mul-comm w y)
+  row-laid = block-laid (omega (arith, wide)) (omega (arith, area, g .long))
 
   row-same : (x y : ℕ) → x < columns → y < h → lineValue (w / 2) r w 2 t (2 * w) (rowShift sh) x y ≡ rowValue sh r x y
   unfolding rowValue forwardSum
@@ -104,17 +97,9 @@ module _ {sh : Shape} {r t u : List ℤ} {room : ℕ} (g : Residuals sh r) (m : 
   -- ---- between the stages
   module _ {c c₀ : List ℤ} (long : length c₀ ≡ w * h) (s : Stage columns columns h (lineValue (w / 2) r w 2 t (2 * w) (rowShift sh)) c c₀) where
     pub zip-given : {z : List ℤ} → length z ≡ room → Rows (h / 2) columns columns c z
-    zip-given {z} e =
-        record {
-          some = omega (arith, high);
-          wide = columns-kept sh (g .taken) .some;
-          narrow = omega arith;
-          there = subst (λ (n : ℕ). n * columns ≤ length c) (sym (high .1)) (omega (arith, mul-le-mul-left h (columns-kept sh (g .taken) .within), area, s .long));
-          room = subst (λ (n : ℕ). n ≤ length z) (turned (h / 2) (high .1)) (omega (arith, m .between));
-        }
-      where
-        turned : (k : ℕ) → 2 * k ≡ h → h * columns ≡ k * (2 * columns)
-        turned k e = ap (λ (n : ℕ). n * columns) (sym e) ∙ omega (arith, mul-comm k (2 * columns))
+    zip-given e =
+        rows-given h (g .taken .height) (columns-kept sh (g .taken) .some) (omega arith)
+        (omega (arith, mul-le-mul-left h (columns-kept sh (g .taken) .within), area, s .long)) (omega (arith, m .between))
 
     -- ---- columns
     module _ {z : List ℤ} (zipped : Laid columns (h / 2) 2 (2 * columns) (λ i x. at c (x + i * columns)) z) where

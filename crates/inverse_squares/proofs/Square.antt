@@ -5,7 +5,6 @@ use mathlib.Core.Bool.{true}
 use mathlib.Core.Logic.{inl, inr}
 use mathlib.Core.List.{List}
 use Prim.Native.Nat.{ℕ, _+_, _*_, _-_, _^_, _≤_, _<_}
-use native.Mathlib.Nat.{mul-comm}
 use native.Mathlib.Omega.{arith}
 use lib.IntN.{ℤ, pos, _*ℤ_, *ℤ-comm}
 use lib.ListN.{length}
@@ -13,7 +12,7 @@ use Rattle.algebra.specs.Sum.{sum}
 use Rattle.algebra.specs.Shift.{nearest}
 use Rattle.algebra.specs.Lists.{at, block}
 use Rattle.algebra.proofs.Sum.{sum-cong}
-use Rattle.algebra.proofs.Lists.{block-cong, place-in}
+use Rattle.algebra.proofs.Lists.{block-cong}
 use Rattle.meaning.specs.declared.Shape.{Shape}
 use Rattle.meaning.specs.Shape.{isKind}
 use Rattle.meaning.specs.Weights.{weight}
@@ -22,8 +21,8 @@ use Rattle.meaning.specs.Plan.{planOf}
 use Rattle.meaning.specs.Inverse.{rounded, inverseBlock, residual}
 use Rattle.meaning.proofs.Cases.{kind-cases}
 use Rattle.meaning.proofs.Sizes.{weightSize}
-use Rattle.product.specs.Product.{spot, Laid, lineSum, shifted, Lines}
-use Rattle.product.proofs.Laid.{spot-two, lines-given, lines-are}
+use Rattle.product.specs.Product.{Laid, lineSum, shifted, Lines}
+use Rattle.product.proofs.Laid.{block-laid, lines-given, lines-are}
 use Rattle.inverse_stage.specs.Given.{Given}
 use Rattle.inverse_squares.specs.Square.{Square, downBlock, alongBlock}
 use Rattle.inverse_stage.proofs.Work.{keeps, sums, middles, middle-at}
@@ -58,11 +57,7 @@ module _ {n pairs : ℕ} (kind : ℕ) (e : 2 * pairs ≡ n) (some : 0 < pairs) (
 
   module _ (m : List ℤ) (long : length m ≡ n * n) where
     rows : Laid n pairs n 2 (λ i y. at m (i + y * n)) m
-    rows =
-        record {
-          held = λ i y k v. omega (arith, spot-two i, mul-comm n y, place-in {x = i} {y = y} {w = n} {h = n} (omega arith) v);
-          right = λ i y k v. let q : n * y + spot 2 i ≡ i + y * n = omega (arith, spot-two i, mul-comm n y) in ap (at m) q;
-        }
+    rows = block-laid (omega arith) (omega arith)
 
     pub along-lines : Lines n n pairs m n 2 t (2 * n)
     along-lines = lines-given rows weights some few (λ i j l. inl (weightSize kind n i j))

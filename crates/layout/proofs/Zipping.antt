@@ -3,7 +3,7 @@ use mathlib.Core.Path.{_≡_, refl, sym, ap, _∙_, subst}
 use mathlib.Core.Bool.{true}
 use mathlib.Core.List.{List}
 use Prim.Native.Nat.{ℕ, _+_, _*_, _/_, _%_, _≤_, _<_}
-use native.Mathlib.Nat.{add-mul}
+use native.Mathlib.Nat.{add-mul, mul-assoc, mul-comm}
 use native.Mathlib.Omega.{arith}
 use lib.ListN.{length, set, drop, List·getD-append}
 use lib.IntN.{ℤ, pos}
@@ -13,10 +13,18 @@ use Rattle.meaning.specs.Shape.{isSize}
 use Rattle.meaning.proofs.Cases.{size-cases}
 use Rattle.product.specs.Product.{spot, Laid}
 use Rattle.layout.specs.Zip.{zippedAt}
+use Rattle.layout.specs.Zip as zip
 
 -- a size is even
 pub size-even : (n : ℕ) → isSize n ≡ true → (4 ≤ n) × (2 * (n / 2) ≡ n)
 size-even = size-cases (λ n. (4 ≤ n) × (2 * (n / 2) ≡ n)) (omega arith, refl) (omega arith, refl) (omega arith, refl) (omega arith, refl)
+
+-- rows of a number that is a size may be zipped
+pub rows-given : {n w : ℕ} {c z : List ℤ} (rows : ℕ) → isSize rows ≡ true → 0 < n → n ≤ w → rows * w ≤ length c → rows * n ≤ length z → zip.Rows (rows / 2) n w c z
+rows-given {n} {w} {c} {z} rows s some narrow there room =
+    let e = size-even rows s in
+    let turned : rows / 2 * (2 * n) ≡ 2 * (rows / 2) * n = sym (mul-assoc (rows / 2) 2 n) ∙ ap (λ (k : ℕ). k * n) (mul-comm (rows / 2) 2) in
+    record { some = omega arith; wide = some; narrow = narrow; there = rw (e .1) there; room = rw (turned, e .1) room }
 
 -- a pair more
 pub fill-pair : (x : ℕ) {z z₀ : List ℤ} {f : ℕ → ℤ} (a b : ℤ) → 2 * x + 1 < length z₀ → Filled 0 (2 * x) z z₀ f → a ≡ f (2 * x) → b ≡ f (2 * x + 1)
@@ -28,16 +36,16 @@ fill-pair x {z} {z₀} {f} a b l p ea eb =
 -- the two places of column x
 module _ (a w x : ℕ) where
   pub even-at : a + x ≡ a + 2 * x % 2 * w + 2 * x / 2
-  even-at = place (2 * x % 2) (2 * x / 2) (omega arith) (omega arith)
-    where
-      place : (r q : ℕ) → r ≡ 0 → q ≡ x → a + x ≡ a + r * w + q
-      place r q e f = rw (e, f) (omega arith)
+  even-at =
+      let r : 2 * x % 2 ≡ 0 = omega arith in
+      let q : 2 * x / 2 ≡ x = omega arith in
+      rw (r, q) (omega arith)
 
   pub odd-at : a + w + x ≡ a + (2 * x + 1) % 2 * w + (2 * x + 1) / 2
-  odd-at = place ((2 * x + 1) % 2) ((2 * x + 1) / 2) (omega arith) (omega arith)
-    where
-      place : (r q : ℕ) → r ≡ 1 → q ≡ x → a + w + x ≡ a + r * w + q
-      place r q e f = rw (e, f) (omega arith)
+  odd-at =
+      let r : (2 * x + 1) % 2 ≡ 1 = omega arith in
+      let q : (2 * x + 1) / 2 ≡ x = omega arith in
+      rw (r, q) (omega arith)
 
 -- rows of pairs, one after the other
 module _ (pairs n w : ℕ) (c : List ℤ) where

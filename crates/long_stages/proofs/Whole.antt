@@ -25,11 +25,11 @@ use Rattle.meaning.proofs.Cases.{size-in}
 use Rattle.meaning.proofs.LongRules.{reach-in, last-in, around}
 use Rattle.meaning.proofs.LongSizes.{long-residual-fits}
 use Rattle.product.specs.Product.{spot, Laid}
+use Rattle.product.proofs.Summing.{odd-place}
 use Rattle.tables.specs.Stage.{Weights}
 use Rattle.layout.proofs.Alive as alive
 use Rattle.long_stages.specs.Sums.{dotted}
 use Rattle.long_stages.specs.Work.{columnAt, railOf, Down, rowAt, Along, Given}
-use Rattle.long_stages.proofs.Summing.{odd-spot}
 
 module _ (extended : Bool) (sh : Shape) (rows columns : ℕ) (c out : List ℤ) (g : Given extended sh rows columns c out) where
   abbrev p : Plan
@@ -65,7 +65,7 @@ module _ (extended : Bool) (sh : Shape) (rows columns : ℕ) (c out : List ℤ) 
       q pairs f (omega arith)
 
   odd-held : (kind : ℕ) {n pairs : ℕ} {t : List ℤ} → Laid n pairs 2 (2 * n) (λ i j. weight kind n i j) t → (j k : ℕ) → j < n → k < pairs → 2 * j + k * (2 * n) + 1 < length t
-  odd-held kind {n} q j k v l = omega (arith, q .held (2 * k + 1) j (omega arith) v, odd-spot (2 * j) (2 * n) k)
+  odd-held kind {n} q j k v l = omega (arith, q .held (2 * k + 1) j (omega arith) v, odd-place (2 * n) k (2 * j))
 
   -- ---- the first stage
   module _ (down : List ℤ) (stored : Weights 1024 h false (sh .vertical) h down) where

@@ -1,5 +1,5 @@
 -- Sums two at a time: the pairs of an output are the products of its line. Assumes nothing.
-use mathlib.Core.Path.{_≡_, refl, sym, ap, _∙_, subst}
+use mathlib.Core.Path.{_≡_, refl, sym, _∙_, subst}
 use mathlib.Core.Logic.{⊎-elim}
 use mathlib.Core.List.{List}
 use Prim.Native.Nat.{ℕ, _+_, _*_, _/_, _%_, _≤_, _<_}
@@ -18,23 +18,17 @@ use Rattle.product.specs.Product.{spot, lineSum, pairAt, Light, Column, 
 
 -- ---- the places of pair k
 module _ (gap k : ℕ) where
-  pub even-spot : spot gap (2 * k) ≡ k * gap
-  even-spot = place (2 * k / 2) (2 * k % 2) (omega arith) (omega arith)
-    where
-      place : (q r : ℕ) → q ≡ k → r ≡ 0 → q * gap + r ≡ k * gap
-      place q r e f = rw (e, f) (omega arith)
+  pub even-place : (o : ℕ) → o + spot gap (2 * k) ≡ o + k * gap
+  even-place o =
+      let q : 2 * k / 2 ≡ k = omega arith in
+      let r : 2 * k % 2 ≡ 0 = omega arith in
+      rw (q, r) (omega arith)
 
-  pub odd-spot : spot gap (2 * k + 1) ≡ k * gap + 1
-  odd-spot = place ((2 * k + 1) / 2) ((2 * k + 1) % 2) (omega arith) (omega arith)
-    where
-      place : (q r : ℕ) → q ≡ k → r ≡ 1 → q * gap + r ≡ k * gap + 1
-      place q r e f = rw (e, f) (omega arith)
-
-  even-place : (o : ℕ) → o + spot gap (2 * k) ≡ o + k * gap
-  even-place o = ap (λ (m : ℕ). o + m) even-spot
-
-  odd-place : (o : ℕ) → o + spot gap (2 * k + 1) ≡ o + k * gap + 1
-  odd-place o = ap (λ (m : ℕ). o + m) odd-spot ∙ omega arith
+  pub odd-place : (o : ℕ) → o + spot gap (2 * k + 1) ≡ o + k * gap + 1
+  odd-place o =
+      let q : (2 * k + 1) / 2 ≡ k = omega arith in
+      let r : (2 * k + 1) % 2 ≡ 1 = omega arith in
+      rw (q, r) (omega arith)
 
 -- ---- sizes
 -- 90 * 32768

@@ -2,15 +2,16 @@
 use borrow.Author.Needs.{needs}
 use native.Mathlib.Omega.{arith}
 use mathlib.Core.Path.{_≡_, sym, ap, _∙_, subst}
-use Prim.Native.Nat.{ℕ, _+_, _*_, _-_, _^_, _≤_}
-use lib.IntN.{ℤ, pos, natAbs, _+ℤ_, _*ℤ_}
+use Prim.Native.Nat.{ℕ, _+_, _*_, _-_, _≤_}
+use lib.IntN.{ℤ, natAbs, _+ℤ_, _*ℤ_}
 use mir.Syntax.{w16, w32}
 use mir.Val.{SFits, toZ, ofZ}
 use mir.ValLaws.{toZ-ofZ}
 use Rattle.algebra.specs.Lists.{at, tabulate}
 use Rattle.algebra.specs.Shift.{nearest}
 use Rattle.algebra.proofs.Lists.{Filled, fill-none, fill-first, filled-to}
-use Rattle.product.specs.Product.{shifted, Rounding}
+use Rattle.product.specs.Product.{shifted}
+use Rattle.product.proofs.Laid.{half-is, half-rounds}
 use Rattle.forward_block.specs.Square.{Light4, fourSum}
 use Rattle.forward_block.proofs.four.row.Statement.{statement}
 use Rattle.forward_block.proofs.four.row.Tie as tie
@@ -91,12 +92,6 @@ module _ (c : tie.Start Inv-loop μ-loop) where
   weighed : (p : ℕ) → fourSum (c .args .a .now) p (toZ w16 (ofZ w16 (c .args .t0))) (toZ w16 (ofZ w16 (c .args .t1))) (toZ w16 (ofZ w16 (c .args .t2))) (toZ w16 (ofZ w16 (c .args .t3))) ≡ fourSum (c .args .a .now) p (c .args .t0) (c .args .t1) (c .args .t2) (c .args .t3)
   weighed p = λ i. fourSum (c .args .a .now) p (weight0 i) (weight1 i) (weight2 i) (weight3 i)
 
-half-is : (c : tie.After-half Inv-loop μ-loop) → toZ w32 (ofZ w32 (c .half .result)) ≡ pos (2 ^ (c .before .args .shift - 1))
-half-is c = toZ-ofZ w32 (c .half .result) (search needs) ∙ c .half .ensures .0
-
-rounding : (c : tie.After-half Inv-loop μ-loop) → Rounding (toZ w32 (ofZ w32 (c .half .result))) (c .before .args .shift)
-rounding c = subst (λ (z : ℤ). Rounding z (c .before .args .shift)) (sym (toZ-ofZ w32 (c .half .result) (search needs))) (c .half .ensures .1)
-
 -- the inputs as they are read
 module _ (c : tie.After-output-arg4 Inv-loop μ-loop) where
   abbrev s : tie.Start Inv-loop μ-loop
@@ -116,14 +111,14 @@ module _ (c : tie.After-output-arg4 Inv-loop μ-loop) where
       let x1 = toZ-ofZ w16 (input (place + 1)) (record { sfits = c .before .before .output-arg2 .given }) in
       let x2 = toZ-ofZ w16 (input (place + 2)) (record { sfits = c .before .output-arg3 .given }) in
       let x3 = toZ-ofZ w16 (input (place + 3)) (record { sfits = c .output-arg4 .given }) in
-      λ i. shifted (half-is (c .before .before .before .before .before .before) i) (s .args .shift)
+      λ i. shifted (half-is (c .before .before .before .before .before .before .half .ensures) i) (s .args .shift)
       (x0 i *ℤ toZ w16 (ofZ w16 (s .args .t0)) +ℤ x1 i *ℤ toZ w16 (ofZ w16 (s .args .t1)) +ℤ x2 i *ℤ toZ w16 (ofZ w16 (s .args .t2)) +ℤ x3 i *ℤ toZ w16 (ofZ w16 (s .args .t3)))
 
 output-requires : tie.Need-output-requires Inv-loop μ-loop
 output-requires c κs = (
   light (s c),
   (
-    rounding (c .before .before .before .before .before .before),
+    half-rounds (c .before .before .before .before .before .before .half .ensures),
     subst (SFits w16) (sym (value c ∙ ap (nearest (s c .args .shift)) (weighed (s c) (place c))))
         (s c .pre .0 .fits (c .before .before .before .before .before .loop .j) (c .before .before .before .before .loop-test .taken)),
   ),

@@ -2,15 +2,14 @@
 use borrow.Author.Needs.{needs}
 use native.Mathlib.Omega.{arith}
 use mathlib.Core.Path.{_≡_, sym, _∙_, subst}
-use Prim.Native.Nat.{ℕ, _+_, _*_, _-_, _^_, _<_, _≤_}
+use Prim.Native.Nat.{ℕ, _+_, _*_, _-_, _<_, _≤_}
 use lib.ListN.{length, take, drop}
-use lib.IntN.{ℤ, pos}
 use mir.Syntax.{w16, w32}
 use mir.Val.{SFits, toZ, ofZ}
-use mir.ValLaws.{toZ-ofZ}
 use Rattle.algebra.specs.Lists.{at}
 use Rattle.algebra.proofs.Lists.{row-in, tab-cong}
-use Rattle.product.specs.Product.{Line, Rounding}
+use Rattle.product.specs.Product.{Line}
+use Rattle.product.proofs.Laid.{half-is, half-rounds}
 use Rattle.forward_block.specs.Stage.{lineValue, Stage}
 use Rattle.forward_block.proofs.Places.{part-in, part-filled, stage-none, stage-next}
 use Rattle.forward_block.proofs.OneLine.{one-line, one-long, one-value}
@@ -65,17 +64,11 @@ part-lines-end c = omega arith
 slice-aggregate-lines : tie.Need-slice-aggregate-lines Inv-loop μ-loop
 slice-aggregate-lines c = search needs
 
-half-is : (c : tie.After-half Inv-loop μ-loop) → toZ w32 (ofZ w32 (c .half .result)) ≡ pos (2 ^ (c .before .args .shift - 1))
-half-is c = toZ-ofZ w32 (c .half .result) (search needs) ∙ c .half .ensures .0
-
-rounding : (c : tie.After-half Inv-loop μ-loop) → Rounding (toZ w32 (ofZ w32 (c .half .result))) (c .before .args .shift)
-rounding c = subst (λ (z : ℤ). Rounding z (c .before .args .shift)) (sym (toZ-ofZ w32 (c .half .result) (search needs))) (c .half .ensures .1)
-
 lines-requires : tie.Need-lines-requires Inv-loop μ-loop
 lines-requires c κs =
     let I = c .before .before in
     let s = I .before .before .before in
-    (one-line (s .args .step) (this I) (s .pre .lines .some), (rounding (I .before .before), omega (arith, s .pre .few, I .before .loop .inv .1 .0)))
+    (one-line (s .args .step) (this I) (s .pre .lines .some), (half-rounds (I .before .before .half .ensures), omega (arith, s .pre .few, I .before .loop .inv .1 .0)))
 
 slice-aggregate-narrow : tie.Need-slice-aggregate-narrow Inv-loop μ-loop
 slice-aggregate-narrow c = search needs
@@ -98,7 +91,7 @@ worked : (c : tie.After-lines Inv-loop μ-loop) → let I = c .before .before .b
 worked c =
     let I = c .before .before .before in
     let s = I .before .before .before .args in
-    one-value (s .step) (this I) (s .shift) (drop (1 * s .kept) (I .before .loop .e)) (half-is (I .before .before)) (c .lines .ensures)
+    one-value (s .step) (this I) (s .shift) (drop (1 * s .kept) (I .before .loop .e)) (half-is (I .before .before .half .ensures)) (c .lines .ensures)
 
 long : (c : tie.After-lines Inv-loop μ-loop) → length (c .lines .last .1 .1 .1 .1 .1 .1 .1 .1 .1 .1 .0) ≡ 32
 long c =

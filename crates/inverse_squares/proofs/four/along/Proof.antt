@@ -1,17 +1,17 @@
 -- `four::along` meets its contract: in each case the kind is the one whose weights are taken. Assumes nothing.
 use borrow.Author.Needs.{needs}
 use native.Mathlib.Omega.{arith}
-use mathlib.Core.Path.{_≡_, refl, sym, ap, _∙_, subst}
+use mathlib.Core.Path.{_≡_, refl, sym, ap, _∙_}
 use mathlib.Core.List.{List, _++_}
 use Prim.Native.Nat.{ℕ, _*_, _≤_}
 use lib.ListN.{length, drop}
 use lib.IntN.{ℤ}
 use mir.Syntax.{w32}
 use mir.Val.{toZ, ofZ}
-use mir.ValLaws.{toZ-ofZ}
 use Rattle.algebra.specs.Lists.{block}
 use Rattle.algebra.proofs.Lists.{block-length}
 use Rattle.product.specs.Product.{lineSum, shifted, Rounding, Lines}
+use Rattle.product.proofs.Laid.{half-is, half-rounds}
 use Rattle.inverse_squares.specs.Square.{alongBlock}
 use Rattle.inverse_stage.proofs.Work.{all-written}
 use Rattle.inverse_squares.proofs.Square.{Of, of-kind, of-other, along-lines, along-sums}
@@ -20,13 +20,6 @@ use Rattle.inverse_squares.proofs.four.along.Tie as tie
 
 half-requires : tie.Need-half-requires
 half-requires c κs = c .pre .1 .0
-
--- what the rounding is, as it is handed on
-abbrev held : tie.After-half → ℤ
-held c = toZ w32 (ofZ w32 (c .half .result))
-
-half-is : (c : tie.After-half) → held c ≡ c .half .result
-half-is c = toZ-ofZ w32 (c .half .result) (search needs)
 
 -- the lines, by the weights of the kind
 module _ (c : tie.After-half) {t : List ℤ} (weights : Of (c .before .args .kind) 4 2 t) where
@@ -39,16 +32,20 @@ module _ (c : tie.After-half) {t : List ℤ} (weights : Of (c .before .args .kin
   abbrev last : ℕ
   last = c .before .args .last
 
-  asks : Lines 4 4 2 m 4 2 t 8 × (Rounding (held c) last × (16 ≤ length r))
+  -- the rounding, as it is handed on
+  abbrev held : ℤ
+  held = toZ w32 (ofZ w32 (c .half .result))
+
+  asks : Lines 4 4 2 m 4 2 t 8 × (Rounding held last × (16 ≤ length r))
   asks = (
     along-lines (c .before .args .kind) refl (omega arith) (omega arith) weights m (c .before .pre .1 .1 .0),
-    (subst (λ (z : ℤ). Rounding z last) (sym (half-is c)) (c .half .ensures .1), omega (arith, c .before .pre .1 .1 .1)),
+    (half-rounds (c .half .ensures), omega (arith, c .before .pre .1 .1 .1)),
   )
 
-  gives : block 4 4 (λ x y. shifted (held c) last (lineSum m (4 * y) 2 t 8 2 x)) ++ drop 16 r ≡ alongBlock (c .before .args .kind) 4 4 m last
+  gives : block 4 4 (λ x y. shifted held last (lineSum m (4 * y) 2 t 8 2 x)) ++ drop 16 r ≡ alongBlock (c .before .args .kind) 4 4 m last
   gives =
-      all-written 16 (block 4 4 (λ x y. shifted (held c) last (lineSum m (4 * y) 2 t 8 2 x))) r (omega (arith, c .before .pre .1 .1 .1))
-      ∙ along-sums (c .before .args .kind) refl (omega arith) (omega arith) weights m (c .before .pre .1 .1 .0) last (half-is c ∙ c .half .ensures .0)
+      all-written 16 (block 4 4 (λ x y. shifted held last (lineSum m (4 * y) 2 t 8 2 x))) r (omega (arith, c .before .pre .1 .1 .1))
+      ∙ along-sums (c .before .args .kind) refl (omega arith) (omega arith) weights m (c .before .pre .1 .1 .0) last (half-is (c .half .ensures))
 
   as-long : {l : List ℤ} → l ≡ alongBlock (c .before .args .kind) 4 4 m last → length l ≡ length r
   as-long e = ap length e ∙ block-length 4 4 _ ∙ sym (c .before .pre .1 .1 .1)

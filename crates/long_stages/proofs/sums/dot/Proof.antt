@@ -13,7 +13,8 @@ use Rattle.algebra.specs.Sum.{sum}
 use Rattle.algebra.specs.Lists.{at}
 use Rattle.product.specs.Product.{spot}
 use Rattle.long_stages.specs.Sums.{dotted}
-use Rattle.long_stages.proofs.Summing.{sum-start, two-more, even-spot, odd-spot, odd-input}
+use Rattle.product.proofs.Summing.{sum-none-yet, even-place, odd-place}
+use Rattle.long_stages.proofs.Summing.{two-more, odd-input}
 use Rattle.long_stages.proofs.sums.dot.Statement.{statement}
 use Rattle.long_stages.proofs.sums.dot.Tie as tie
 
@@ -36,7 +37,7 @@ there c =
     omega (arith, c .before .before .pre .there (c .before .loop .k) (c .loop-test .taken), odd-input (s .p) (s .gap) (c .before .loop .k))
 
 loop-holds : tie.Need-loop-holds Inv-loop μ-loop
-loop-holds c = let s = c .args in (omega arith, (sum-start (term (s .t .now) (s .o) (s .apart) (s .v .now) (s .p) (s .gap)), omega arith))
+loop-holds c = let s = c .args in (omega arith, (sum-none-yet (term (s .t .now) (s .o) (s .apart) (s .v .now) (s .p) (s .gap)), omega arith))
 
 mul-a : tie.Need-mul-a Inv-loop μ-loop
 mul-a c = omega (arith, held c)
@@ -115,9 +116,9 @@ loop-again c =
     let s = L .before .args in
     let k = L .loop .k in
     let f = term (s .t .now) (s .o) (s .apart) (s .v .now) (s .p) (s .gap) in
-    let w₀ = toZ-ofZ w16 (at (s .t .now) (s .o + k * s .apart)) (record { sfits = M .before .before .mac-arg .given }) ∙ ap (at (s .t .now)) (even-spot (s .o) (s .apart) k) in
+    let w₀ = toZ-ofZ w16 (at (s .t .now) (s .o + k * s .apart)) (record { sfits = M .before .before .mac-arg .given }) ∙ ap (at (s .t .now)) (sym (even-place (s .apart) k (s .o))) in
     let v₀ = toZ-ofZ w32 (at (s .v .now) (s .p + 2 * k * s .gap)) (record { sfits = M .before .mac-arg2 .given }) in
-    let w₁ = toZ-ofZ w16 (at (s .t .now) (s .o + k * s .apart + 1)) (record { sfits = c .before .before .mac-arg3 .given }) ∙ ap (at (s .t .now)) (odd-spot (s .o) (s .apart) k) in
+    let w₁ = toZ-ofZ w16 (at (s .t .now) (s .o + k * s .apart + 1)) (record { sfits = c .before .before .mac-arg3 .given }) ∙ ap (at (s .t .now)) (sym (odd-place (s .apart) k (s .o))) in
     let v₁ = toZ-ofZ w32 (at (s .v .now) (s .p + 2 * k * s .gap + s .gap)) (record { sfits = c .before .mac-arg4 .given }) ∙ ap (at (s .v .now)) (odd-input (s .p) (s .gap) k) in
     let e = even-is M ∙ M .mac .ensures .0 ∙ (λ i. L .loop .inv .1 .0 i +ℤ w₀ i *ℤ v₀ i) in
     let r = toZ-ofZ w64 (c .mac2 .result) (search needs) in (
