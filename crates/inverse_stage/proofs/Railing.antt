@@ -1,10 +1,13 @@
 -- The rail count of a list, number by number. Assumes nothing.
-use mathlib.Core.Path.{_≡_, refl}
+use mathlib.Core.Path.{_≡_, refl, sym, ap, _∙_}
 use mathlib.Core.Bool.{Bool, true, false}
 use mathlib.Core.List.{List}
 use Prim.Native.Nat.{ℕ, _+_, _≤_}
 use native.Mathlib.Omega.{arith}
 use lib.IntN.{ℤ}
+use mir.Syntax.{w16, w32}
+use mir.Val.{SFits, toZ, ofZ}
+use mir.ValLaws.{toZ-ofZ}
 use Rattle.algebra.specs.Sum.{sumℕ}
 use Rattle.algebra.specs.Lists.{at}
 use Rattle.algebra.proofs.Sum.{sumℕ-next, sumℕ-mono, sumℕ-const}
@@ -16,9 +19,13 @@ module _ (e m : List ℤ) where
   unfolding railsOf sumℕ
   rails-none = refl
 
-  pub rails-next : (k : ℕ) → railsOf (k + 1) e m ≡ railsOf k e m + count (railed (at e k) (at m k))
+  -- one more, by what `rail` said of the numbers that were read
+  pub rails-next : (k : ℕ) {b : Bool} → SFits w32 (at e k) → SFits w16 (at m k) → b ≡ railed (toZ w32 (ofZ w32 (at e k))) (toZ w16 (ofZ w16 (at m k)))
+      → railsOf (k + 1) e m ≡ railsOf k e m + count b
   unfolding railsOf
-  rails-next k = sumℕ-next k (λ k. count (railed (at e k) (at m k)))
+  rails-next k f g s =
+      sumℕ-next k (λ k. count (railed (at e k) (at m k)))
+      ∙ ap (λ (b : Bool). sumℕ k (λ k. count (railed (at e k) (at m k))) + count b) (sym (s ∙ (λ i. railed (toZ-ofZ w32 (at e k) f i) (toZ-ofZ w16 (at m k) g i))))
 
   pub rails-in : (n : ℕ) → railsOf n e m ≤ n
   unfolding railsOf

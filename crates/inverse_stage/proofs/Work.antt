@@ -1,20 +1,22 @@
 -- Both stages over the live part of a block: what their lines are given, and what they are. Stated once, over the number of pairs
 -- and the room for weights. Assumes nothing.
-use mathlib.Core.Path.{_≡_, refl, sym, ap, _∙_, subst}
+use mathlib.Core.Path.{_≡_, refl, sym, ap, _∙_}
 use mathlib.Core.Bool.{true, false}
 use mathlib.Core.Logic.{inl, inr}
 use mathlib.Core.List.{List, _++_, append-nil}
 use Prim.Native.Nat.{ℕ, _+_, _*_, _-_, _/_, _^_, _≤_, _<_}
-use native.Mathlib.Nat.{mul-comm, mul-le-mul, mul-le-mul-right, mul-assoc}
+use native.Mathlib.Nat.{mul-comm, mul-le-mul, mul-le-mul-left, mul-le-mul-right, mul-assoc}
 use native.Mathlib.Omega.{arith}
 use lib.IntN.{ℤ, pos, _*ℤ_, *ℤ-comm}
-use lib.ListN.{length, drop, length-append, length-drop, drop-of-length-le, List·getD-append}
+use lib.ListN.{length, take, drop, length-append, length-drop, drop-of-length-le, List·getD-append}
+use mir.Syntax.{w32}
+use mir.Val.{toZ, ofZ}
 use Rattle.algebra.specs.Sum.{sum}
 use Rattle.algebra.specs.Clip.{clip}
 use Rattle.algebra.specs.Shift.{nearest}
 use Rattle.algebra.specs.Lists.{at, tabulate, block}
 use Rattle.algebra.proofs.Sum.{sum-cong, sumℕ-cong}
-use Rattle.algebra.proofs.Lists.{block-at, block-length, block-cong, tab-at, tab-length, place-in}
+use Rattle.algebra.proofs.Lists.{block-at, block-length, block-cong, tab-at, tab-length, place-in, part-long, part-same}
 use Rattle.meaning.specs.declared.Shape.{Shape}
 use Rattle.meaning.specs.Shape.{isSize}
 use Rattle.meaning.specs.Weights.{weight}
@@ -22,32 +24,32 @@ use Rattle.meaning.specs.Plan.{Plan, planOf, shortRange}
 use Rattle.meaning.specs.Inverse.{columnSum, rounded, railed, count, rails, residual, inverseBlock}
 use Rattle.meaning.proofs.Cases.{size-cases, size-in}
 use Rattle.meaning.proofs.Sizes.{weightSize}
-use Rattle.product.specs.Product.{spot, Laid, lineSum, shifted, Lines}
-use Rattle.product.proofs.Laid.{laid-less, lines-given, lines-are}
+use Rattle.product.specs.Product.{Laid, lineSum, shifted, Rounding, Lines}
+use Rattle.product.proofs.Laid.{laid-less, block-laid, lines-given, lines-are, half-is, half-rounds}
 use Rattle.tables.specs.Stage.{Weights}
 use Rattle.layout.specs.Zip.{Rows}
-use Rattle.layout.proofs.Zipping.{size-even}
+use Rattle.layout.proofs.Zipping.{size-even, rows-given}
 use Rattle.inverse_stage.specs.Given.{Given, Room}
 use Rattle.inverse_stage.specs.Settled.{railsOf}
 use Rattle.inverse_stage.proofs.Blocks.{block-count}
 use Rattle.layout.proofs.Alive.{column-is, mid, row-is, rails-are}
 
 -- a size is known by the numbers that it lies between
-pub four : (n : ℕ) → isSize n ≡ true → n ≤ 4 → 2 * 2 ≡ n
-four = size-cases (λ n. n ≤ 4 → 2 * 2 ≡ n) (λ h. refl) (λ h. absurd (omega arith)) (λ h. absurd (omega arith)) (λ h. absurd (omega arith))
+pub four : {n : ℕ} → isSize n ≡ true → n ≤ 4 → 2 * 2 ≡ n
+four {n} = size-cases (λ n. n ≤ 4 → 2 * 2 ≡ n) (λ h. refl) (λ h. absurd (omega arith)) (λ h. absurd (omega arith)) (λ h. absurd (omega arith)) n
 
-pub eight : (n : ℕ) → isSize n ≡ true → 4 < n → n ≤ 8 → 2 * 4 ≡ n
-eight = size-cases (λ n. 4 < n → n ≤ 8 → 2 * 4 ≡ n) (λ h g. absurd (omega arith)) (λ h g. refl) (λ h g. absurd (omega arith)) (λ h g. absurd (omega arith))
+pub eight : {n : ℕ} → isSize n ≡ true → 4 < n → n ≤ 8 → 2 * 4 ≡ n
+eight {n} = size-cases (λ n. 4 < n → n ≤ 8 → 2 * 4 ≡ n) (λ h g. absurd (omega arith)) (λ h g. refl) (λ h g. absurd (omega arith)) (λ h g. absurd (omega arith)) n
 
-pub sixteen : (n : ℕ) → isSize n ≡ true → 8 < n → n ≤ 16 → 2 * 8 ≡ n
-sixteen = size-cases (λ n. 8 < n → n ≤ 16 → 2 * 8 ≡ n) (λ h g. absurd (omega arith)) (λ h g. absurd (omega arith)) (λ h g. refl) (λ h g. absurd (omega arith))
+pub sixteen : {n : ℕ} → isSize n ≡ true → 8 < n → n ≤ 16 → 2 * 8 ≡ n
+sixteen {n} = size-cases (λ n. 8 < n → n ≤ 16 → 2 * 8 ≡ n) (λ h g. absurd (omega arith)) (λ h g. absurd (omega arith)) (λ h g. refl) (λ h g. absurd (omega arith)) n
 
-pub thirty-two : (n : ℕ) → isSize n ≡ true → 16 < n → 2 * 16 ≡ n
-thirty-two = size-cases (λ n. 16 < n → 2 * 16 ≡ n) (λ h. absurd (omega arith)) (λ h. absurd (omega arith)) (λ h. absurd (omega arith)) (λ h. refl)
+pub thirty-two : {n : ℕ} → isSize n ≡ true → 16 < n → 2 * 16 ≡ n
+thirty-two {n} = size-cases (λ n. 16 < n → 2 * 16 ≡ n) (λ h. absurd (omega arith)) (λ h. absurd (omega arith)) (λ h. absurd (omega arith)) (λ h. refl) n
 
--- a size that is not above h, of which h fit in 128
-pub few : (n : ℕ) → isSize n ≡ true → (h : ℕ) → n ≤ h → n * h ≤ 128 → n ≤ 8
-few = size-cases (λ n. (h : ℕ) → n ≤ h → n * h ≤ 128 → n ≤ 8) (λ h l k. omega arith) (λ h l k. omega arith) (λ h l k. absurd (omega arith)) (λ h l k. absurd (omega arith))
+-- 8 is the only size above 4 and not above h of which h fit in 128
+pub eight-of : {n h : ℕ} → isSize n ≡ true → n ≤ h → n * h ≤ 128 → 4 < n → 2 * 4 ≡ n
+eight-of {n} {h} = size-cases (λ n. n ≤ h → n * h ≤ 128 → 4 < n → 2 * 4 ≡ n) (λ l k g. absurd (omega arith)) (λ l k g. refl) (λ l k g. absurd (omega arith)) (λ l k g. absurd (omega arith)) n
 
 -- as many inputs as there are, and their weights by pairs
 by-pairs : (pairs n m : ℕ) → 2 * pairs ≡ n → pairs * (2 * m) ≡ n * m
@@ -71,52 +73,11 @@ module _ {sh : Shape} {rows columns : ℕ} {c r : List ℤ} (g : Given sh rows c
   unfolding shortRange
   keeps = refl
 
-  pub even-rows : (4 ≤ rows) × (2 * (rows / 2) ≡ rows)
+  even-rows : (4 ≤ rows) × (2 * (rows / 2) ≡ rows)
   even-rows = size-even rows (g .size-rows)
 
-  pub even-columns : (4 ≤ columns) × (2 * (columns / 2) ≡ columns)
+  even-columns : (4 ≤ columns) × (2 * (columns / 2) ≡ columns)
   even-columns = size-even columns (g .size-columns)
-
-  -- ---- down the columns
-  pub zip-given : {room : ℕ} {z : List ℤ} → Room room sh rows columns → length z ≡ room → Rows (rows / 2) columns w c z
-  zip-given {room} {z} fits long =
-      let e = even-rows in
-      let k = even-columns in
-      let l : rows * columns ≤ length z = omega (arith, fits .between, mul-le-mul-right columns (g .live .low)) in
-      record {
-        some = omega arith;
-        wide = omega arith;
-        narrow = g .live .narrow;
-        there = subst (λ (n : ℕ). n * w ≤ length c) (sym (e .1)) (omega (arith, g .block .long, mul-comm w h, mul-le-mul-right w (g .live .low)));
-        room = subst (λ (n : ℕ). n ≤ length z) (turned (rows / 2) (e .1)) l;
-      }
-    where
-      turned : (m : ℕ) → 2 * m ≡ rows → rows * columns ≡ m * (2 * columns)
-      turned m e = sym (by-pairs m rows columns e)
-
-  abbrev down : ℕ → ℕ → ℤ
-  down i x = at c (x + i * w)
-
-  abbrev weightDown : ℕ → ℕ → ℤ
-  weightDown i y = weight (sh .vertical) h i y
-
-  module _ {room : ℕ} {u z : List ℤ} (fits : Room room sh rows columns)
-      (weights : Weights room h false (sh .vertical) h u) (zipped : Laid columns (rows / 2) 2 (2 * columns) down z)
-      (pairs : ℕ) (e : 2 * pairs ≡ rows) where
-    here : Laid columns pairs 2 (2 * columns) down z
-    here = laid-less (omega arith) (omega arith) (λ i j _ _. refl) zipped
-
-    there : Laid h pairs 2 (2 * h) weightDown u
-    there = weights pairs (omega (arith, g .live .low)) (omega (arith, fits .down, by-pairs pairs rows h e))
-
-    pub down-given : Lines h columns pairs u 2 (2 * h) z (2 * columns)
-    down-given = lines-given there here (omega (arith, even-rows)) (omega (arith, size-in rows (g .size-rows))) (λ i j l. inr (weightSize (sh .vertical) h i l))
-
-    pub down-is : block columns h (λ x y. shifted (pos 64) 7 (lineSum u (2 * y) (2 * h) z (2 * columns) pairs x)) ≡ block columns h (λ x y. rounded (columnSum p c x y))
-    down-is =
-        lines-are there here (pos 64) 7
-        ∙ block-cong columns h _ _ (λ x y k v. ap rounded (ap (λ (n : ℕ). sum n (λ i. weightDown i y *ℤ down i x)) e
-        ∙ column-is p keeps c columns rows (g .live) (g .kept) x y (omega (arith, g .live .narrow))))
 
   -- ---- between the stages
   abbrev pub sums : List ℤ
@@ -128,7 +89,7 @@ module _ {sh : Shape} {rows columns : ℕ} {c r : List ℤ} (g : Given sh rows c
   abbrev pub middles : List ℤ
   middles = tabulate (length sums) (λ k. clip shortRange (at sums k))
 
-  pub middles-long : length middles ≡ h * columns
+  middles-long : length middles ≡ h * columns
   middles-long = tab-length (length sums) (λ k. clip shortRange (at sums k)) ∙ sums-long
 
   pub middle-at : (i y : ℕ) → i < columns → y < h → at middles (i + y * columns) ≡ mid p keeps c columns rows (g .live) (g .kept) i y
@@ -136,73 +97,138 @@ module _ {sh : Shape} {rows columns : ℕ} {c r : List ℤ} (g : Given sh rows c
       tab-at (length sums) (λ k. clip shortRange (at sums k)) (i + y * columns) (omega (arith, sums-long, place-in {x = i} {y = y} {w = columns} {h = h} k v))
       ∙ ap (clip shortRange) (block-at columns h (λ x y. rounded (columnSum p c x y)) i y k v)
 
-  pub settled-rails : railsOf (length sums) sums middles ≡ rails p c
+  settled-rails : railsOf (length sums) sums middles ≡ rails p c
   unfolding railsOf
   settled-rails =
       sumℕ-cong (length sums) _ _ (λ k l. ap (λ (z : ℤ). count (railed (at sums k) z)) (tab-at (length sums) (λ k. clip shortRange (at sums k)) k l))
       ∙ block-count columns h (λ x y. rounded (columnSum p c x y)) (λ z. count (railed z (clip shortRange z)))
       ∙ rails-are p keeps c columns rows (g .live) (g .kept)
 
-  pub block-long : length (inverseBlock p c) ≡ length r
+  -- what `settle` makes of them, in whatever list they stand
+  module _ {l m : List ℤ} {n : ℕ} (e : l ≡ sums) (s : (m ≡ tabulate (length l) (λ k. clip shortRange (at l k))) × (n ≡ railsOf (length l) l m)) where
+    pub settled : m ≡ middles
+    settled = s .0 ∙ ap (λ (l : List ℤ). tabulate (length l) (λ k. clip shortRange (at l k))) e
+
+    pub counted : n ≡ rails p c
+    counted = s .1 ∙ (λ i. railsOf (length (e i)) (e i) (settled i)) ∙ settled-rails
+
+  -- the block is as long as the list that it was written to
+  pub block-long : {l : List ℤ} → l ≡ inverseBlock p c → length l ≡ length r
   unfolding inverseBlock
-  block-long = block-length w h (residual p c) ∙ mul-comm h w ∙ sym (g .block .room)
+  block-long e = ap length e ∙ block-length w h (residual p c) ∙ mul-comm h w ∙ sym (g .block .room)
 
-  -- ---- along the rows: middle values at the front of a list
-  pub record Between (m : List ℤ) : Type 0 where
-    pub long : h * columns ≤ length m
-    pub same : (k : ℕ) → k < h * columns → at m k ≡ at middles k
+  -- ---- down the columns, by weights u and the block's rows z, zipped, in rooms of one size
+  pub zip-given : {room : ℕ} {z : List ℤ} → Room room sh rows columns → length z ≡ room → Rows (rows / 2) columns w c z
+  zip-given fits long =
+      rows-given rows (g .size-rows) (omega (arith, even-columns)) (g .live .narrow)
+      (omega (arith, g .block .long, mul-comm w h, mul-le-mul-right w (g .live .low))) (omega (arith, fits .between, mul-le-mul-right columns (g .live .low)))
 
-  pub between : (l rest : List ℤ) → l ≡ middles → Between (l ++ rest)
-  between l rest e =
-      record {
-        long = omega (arith, length-append l rest, longer);
-        same = λ k i. List·getD-append l rest (pos 0) k (omega (arith, longer)) ∙ ap (λ (l : List ℤ). at l k) e;
-      }
-    where
-      longer : length l ≡ h * columns
-      longer = ap length e ∙ middles-long
+  pub record Down (room : ℕ) (u z : List ℤ) : Type 0 where
+    pub fits : Room room sh rows columns
+    pub weights : Weights room h false (sh .vertical) h u
+    pub zipped : Laid columns (rows / 2) 2 (2 * columns) (λ i x. at c (x + i * w)) z
 
-  abbrev weightAlong : ℕ → ℕ → ℤ
-  weightAlong i x = weight (sh .horizontal) w i x
+  -- the sums have room in r, and stand at its front
+  sums-room : h * columns ≤ length r
+  sums-room = omega (arith, g .block .room, mul-comm w h, mul-le-mul-left h (g .live .narrow))
 
-  abbrev middleOf : ℕ → ℕ → ℤ
-  middleOf i y = mid p keeps c columns rows (g .live) (g .kept) i y
+  abbrev pub First : List ℤ → Type 0
+  First l = l ≡ sums ++ drop (h * columns) r
 
-  module _ {room : ℕ} {m t : List ℤ} (fits : Room room sh rows columns)
-      (weights : Weights room w false (sh .horizontal) w t) (between : Between m) (pairs : ℕ) (e : 2 * pairs ≡ columns) where
-    place : (i y : ℕ) → columns * y + spot 2 i ≡ i + y * columns
-    place i y = omega (arith, mul-comm columns y)
+  -- what is settled of them, into the front of a room
+  module _ {l : List ℤ} (first : First l) where
+    pub first-long : length l ≡ w * h
+    first-long =
+        ap length first ∙ length-append sums (drop (h * columns) r)
+        ∙ omega (arith, sums-long, length-drop (h * columns) r, sums-room, g .block .room)
 
-    inside : (i y : ℕ) → i < 2 * pairs → y < h → columns * y + spot 2 i < h * columns
-    inside i y k v = omega (arith, place i y, place-in {x = i} {y = y} {w = columns} {h = h} (omega arith) v)
+    pub first-room : h * columns ≤ length l
+    first-room = omega (arith, first-long, sums-room, g .block .room)
 
-    rows-laid : Laid h pairs columns 2 middleOf m
-    rows-laid =
-        record {
-          held = λ i y k v. omega (arith, inside i y k v, between .long);
-          right = λ i y k v. between .same (columns * y + spot 2 i) (inside i y k v) ∙ ap (at middles) (place i y) ∙ middle-at i y (omega arith) v;
-        }
+    pub first-part : take (h * columns - 0) l ≡ sums
+    first-part = ap (take (h * columns - 0)) first ∙ part-same (h * columns) sums (drop (h * columns) r) sums-long
 
-    along-laid : Laid w pairs 2 (2 * w) weightAlong t
-    along-laid = weights pairs (omega (arith, g .live .narrow)) (omega (arith, fits .along, by-pairs pairs columns w e))
+    pub settle-given : {room : ℕ} (z : List ℤ) → Room room sh rows columns → length z ≡ room → room ≤ 1024
+        → (length (take (h * columns - 0) l) ≡ length (take (h * columns - 0) z)) × (length (take (h * columns - 0) l) ≤ 1024)
+    settle-given z fits long k =
+        let e : length (take (h * columns - 0) l) ≡ h * columns = ap length first-part ∙ sums-long in
+        (e ∙ sym (part-long (h * columns) z (omega (arith, fits .between))), omega (arith, fits .between))
 
-    pub along-given : Lines h w pairs m columns 2 t (2 * w)
-    along-given = lines-given rows-laid along-laid (omega (arith, even-columns)) (omega (arith, size-in columns (g .size-columns))) (λ i j l. inl (weightSize (sh .horizontal) w i j))
+  -- ---- along the rows, by middle values m at the front of z, and weights t; l is written over
+  pub record Along (room : ℕ) (l m z t : List ℤ) (half : ℤ) (last : ℕ) : Type 0 where
+    pub fits : Room room sh rows columns
+    pub first : First l
+    pub settled : m ≡ middles
+    pub long : length z ≡ room
+    pub weights : Weights room w false (sh .horizontal) w t
+    pub rounding : (half ≡ pos (2 ^ (last - 1))) × Rounding half last
+    pub shift : last ≡ p .last
 
-    -- the block, where the list that it was written to has no more room
-    pub along-is : {half : ℤ} {last : ℕ} (o : List ℤ) → half ≡ pos (2 ^ (last - 1)) → last ≡ p .last → length o ≡ w * h
-        → block w h (λ x y. shifted half last (lineSum m (columns * y) 2 t (2 * w) pairs x)) ++ drop (h * w) o ≡ inverseBlock p c
-    unfolding inverseBlock residual
-    along-is {half} {last} o q s l =
-        all-written (h * w) (block w h (λ x y. shifted half last (lineSum m (columns * y) 2 t (2 * w) pairs x))) o (omega (arith, mul-comm w h))
-        ∙ lines-are rows-laid along-laid half last
-        ∙ block-cong w h _ _ (λ x y k v. (λ i. shifted (q i) last (sum (e i) (λ i. middleOf i y *ℤ weightAlong i x)))
-        ∙ (λ i. nearest (s i) ((sum-cong columns _ _ (λ i _. *ℤ-comm (middleOf i y) (weightAlong i x))
-        ∙ row-is p keeps c columns rows (g .live) (g .kept) x y) i)))
+-- ---- what the lines of either stage ask, and what they leave
+module _ {sh : Shape} {rows columns : ℕ} {c r : List ℤ} {g : Given sh rows columns c r} {room : ℕ} where
+  module _ {u z : List ℤ} (d : Down g room u z) (pairs : ℕ) (e : 2 * pairs ≡ rows) where
+    here : Laid columns pairs 2 (2 * columns) (λ i x. at c (x + i * sh .width)) z
+    here = laid-less (omega arith) (omega arith) (λ i j _ _. refl) (d .zipped)
 
--- ---- a list at the front of a room of n numbers
-pub room-full : (n a : ℕ) (l z : List ℤ) → length l ≡ a → length z ≡ n → a ≤ n → n ≡ length (l ++ drop (a - 0) z)
-room-full n a l z e f k = sym (length-append l (drop (a - 0) z) ∙ omega (arith, length-drop (a - 0) z))
+    there : Laid (sh .height) pairs 2 (2 * sh .height) (λ i y. weight (sh .vertical) (sh .height) i y) u
+    there = d .weights pairs (omega (arith, g .live .low)) (omega (arith, d .fits .down, by-pairs pairs rows (sh .height) e))
+
+    pub down-asks : Lines (sh .height) columns pairs u 2 (2 * sh .height) z (2 * columns) × (Rounding (pos 64) 7 × (sh .height * columns ≤ length r))
+    down-asks = (
+      lines-given there here (omega (arith, even-rows g)) (omega (arith, size-in rows (g .size-rows))) (λ i j l. inr (weightSize (sh .vertical) (sh .height) i l)),
+      (record { small = omega arith; short = omega arith }, sums-room g),
+    )
+
+    pub down-leaves : {l : List ℤ} → l ≡ block columns (sh .height) (λ x y. shifted (pos 64) 7 (lineSum u (2 * y) (2 * sh .height) z (2 * columns) pairs x)) ++ drop (sh .height * columns) r → First g l
+    down-leaves q =
+        q ∙ ap (λ (l : List ℤ). l ++ drop (sh .height * columns) r)
+        (lines-are there here (pos 64) 7
+        ∙ block-cong columns (sh .height) _ _ (λ x y k v. ap rounded (ap (λ (n : ℕ). sum n (λ i. weight (sh .vertical) (sh .height) i y *ℤ at c (x + i * sh .width))) e
+        ∙ column-is (planOf sh) (keeps g) c columns rows (g .live) (g .kept) x y (omega (arith, g .live .narrow)))))
+
+  module _ {l m z t : List ℤ} {half : ℤ} {last : ℕ} (a : Along g room l m z t half last) where
+    abbrev held : List ℤ
+    held = m ++ drop (sh .height * columns - 0) z
+
+    m-long : length m ≡ sh .height * columns
+    m-long = ap length (a .settled) ∙ middles-long g
+
+    pub held-long : room ≡ length held
+    held-long = sym (length-append m (drop (sh .height * columns - 0) z) ∙ omega (arith, m-long, length-drop (sh .height * columns - 0) z, a .long, a .fits .between))
+
+    abbrev middleOf : ℕ → ℕ → ℤ
+    middleOf i y = mid (planOf sh) (keeps g) c columns rows (g .live) (g .kept) i y
+
+    held-at : (i y : ℕ) → i < columns → y < sh .height → at held (i + y * columns) ≡ middleOf i y
+    held-at i y k v =
+        List·getD-append m (drop (sh .height * columns - 0) z) (pos 0) (i + y * columns) (omega (arith, m-long, place-in {x = i} {y = y} {w = columns} {h = sh .height} k v))
+        ∙ ap (λ (l : List ℤ). at l (i + y * columns)) (a .settled) ∙ middle-at g i y k v
+
+    module _ (pairs : ℕ) (e : 2 * pairs ≡ columns) where
+      rows-laid : Laid (sh .height) pairs columns 2 middleOf held
+      rows-laid =
+          laid-less {n = sh .height} {pairs = pairs} (omega arith) (omega arith) (λ i y k v. held-at i y (omega arith) v)
+          (block-laid (omega arith) (omega (arith, held-long, a .fits .between)))
+
+      along-laid : Laid (sh .width) pairs 2 (2 * sh .width) (λ i x. weight (sh .horizontal) (sh .width) i x) t
+      along-laid = a .weights pairs (omega (arith, g .live .narrow)) (omega (arith, a .fits .along, by-pairs pairs columns (sh .width) e))
+
+      pub along-asks : Lines (sh .height) (sh .width) pairs held columns 2 t (2 * sh .width) × (Rounding (toZ w32 (ofZ w32 half)) last × (sh .height * sh .width ≤ length l))
+      along-asks = (
+        lines-given rows-laid along-laid (omega (arith, even-columns g)) (omega (arith, size-in columns (g .size-columns))) (λ i j l. inl (weightSize (sh .horizontal) (sh .width) i j)),
+        (half-rounds (a .rounding), omega (arith, first-long g (a .first), mul-comm (sh .width) (sh .height))),
+      )
+
+      -- the block: the list that it is written to has no more room
+      pub along-leaves : {k : List ℤ} → k ≡ block (sh .width) (sh .height) (λ x y. shifted (toZ w32 (ofZ w32 half)) last (lineSum held (columns * y) 2 t (2 * sh .width) pairs x)) ++ drop (sh .height * sh .width) l
+          → k ≡ inverseBlock (planOf sh) c
+      unfolding inverseBlock residual
+      along-leaves q =
+          q ∙ all-written (sh .height * sh .width) _ l (omega (arith, first-long g (a .first), mul-comm (sh .width) (sh .height)))
+          ∙ lines-are rows-laid along-laid (toZ w32 (ofZ w32 half)) last
+          ∙ block-cong (sh .width) (sh .height) _ _ (λ x y k v. (λ i. shifted (half-is (a .rounding) i) last (sum (e i) (λ i. middleOf i y *ℤ weight (sh .horizontal) (sh .width) i x)))
+          ∙ (λ i. nearest (a .shift i) ((sum-cong columns _ _ (λ i _. *ℤ-comm (middleOf i y) (weight (sh .horizontal) (sh .width) i x))
+          ∙ row-is (planOf sh) (keeps g) c columns rows (g .live) (g .kept) x y) i)))
 
 -- ---- all of the block
 pub whole : {sh : Shape} {rows columns : ℕ} {c r : List ℤ} → Given sh rows columns c r → Given sh (sh .height) (sh .width) c r

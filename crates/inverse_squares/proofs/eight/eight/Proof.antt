@@ -9,16 +9,13 @@ use lib.ListN.{length}
 use lib.IntN.{ℤ, pos}
 use mir.Syntax.{w32}
 use mir.Val.{toZ, ofZ}
-use mir.ValLaws.{toZ-ofZ}
-use Rattle.algebra.specs.Clip.{clip}
-use Rattle.algebra.specs.Lists.{at, tabulate, block}
-use Rattle.meaning.specs.Plan.{planOf, shortRange}
-use Rattle.meaning.specs.Inverse.{rails, inverseBlock}
-use Rattle.product.specs.Product.{Laid, lineSum, shifted, Rounding, Lines}
+use Rattle.algebra.specs.Lists.{at, block}
+use Rattle.algebra.proofs.Lists.{tab-length}
+use Rattle.product.specs.Product.{Laid, lineSum, shifted, Lines}
+use Rattle.product.proofs.Laid.{half-is, half-rounds}
 use Rattle.inverse_stage.specs.Given.{Given}
-use Rattle.inverse_stage.specs.Settled.{railsOf}
 use Rattle.inverse_squares.specs.Square.{Square, downBlock, alongBlock}
-use Rattle.inverse_stage.proofs.Work.{all-written, sums, sums-long, middles, middles-long, settled-rails, block-long}
+use Rattle.inverse_stage.proofs.Work.{all-written, sums, sums-long, settled, counted, block-long}
 use Rattle.inverse_squares.proofs.Square.{of-square, down-lines, down-sums, along-lines, along-sums, whole-sums, whole-block}
 use Rattle.inverse_squares.proofs.eight.eight.Statement.{statement}
 use Rattle.inverse_squares.proofs.eight.eight.Tie as tie
@@ -115,14 +112,8 @@ work c = c .before .before .before .before
 abbrev origin : tie.After-settle → tie.Start
 origin c = start (down (work c))
 
-settled : (c : tie.After-settle) → c .settle .last .1 .0 ≡ middles (given (origin c))
-settled c = c .settle .ensures .0 ∙ ap (λ (l : List ℤ). tabulate (length l) (λ k. clip shortRange (at l k))) (first (work c))
-
 settled-long : (c : tie.After-settle) → length (c .settle .last .1 .0) ≡ 64
-settled-long c = ap length (settled c) ∙ middles-long (given (origin c)) ∙ area (origin c)
-
-counted : (c : tie.After-settle) → c .settle .result ≡ rails (planOf (origin c .args .shape)) (origin c .args .c .now)
-counted c = c .settle .ensures .1 ∙ (λ i. railsOf (length (first (work c) i)) (first (work c) i) (settled c i)) ∙ settled-rails (given (origin c))
+settled-long c = ap length (c .settle .ensures .0) ∙ tab-length _ _ ∙ first-long (work c) ∙ area (origin c)
 
 last-shift-requires : tie.Need-last-shift-requires
 last-shift-requires c κs = given (origin (c .before)) .block .taken .depth
@@ -140,12 +131,6 @@ middle c = c .before .before .before .before .before
 abbrev shift : tie.After-put2 → ℕ
 shift c = c .before .before .before .last-shift .result
 
-abbrev held : tie.After-put2 → ℤ
-held c = toZ w32 (ofZ w32 (c .before .before .half .result))
-
-half-is : (c : tie.After-put2) → held c ≡ c .before .before .half .result
-half-is c = toZ-ofZ w32 (c .before .before .half .result) (search needs)
-
 slice-aggregate-lines-3 : tie.Need-slice-aggregate-lines-3
 slice-aggregate-lines-3 c = sym (settled-long (middle (c .before)))
 
@@ -159,27 +144,27 @@ lines-requires-2 c κs =
     let s = origin S in (
       of-square (λ w h. Lines h w 4 (S .settle .last .1 .0) 8 2 (P .put2 .last .1 .0) 16) (square s)
           (along-lines (s .args .horizontal) refl (omega arith) (omega arith) (P .put2 .ensures .1) (S .settle .last .1 .0) (settled-long S)),
-      (subst (λ (z : ℤ). Rounding z (shift P)) (sym (half-is P)) (P .before .before .half .ensures .1), omega (arith, first-long (work S))),
+      (half-rounds (P .before .before .half .ensures), omega (arith, first-long (work S))),
     )
 
-done : (c : tie.After-lines2) → let s = origin (middle (c .before .before .before .before)) in c .lines2 .last .1 .1 .1 .1 .1 .1 .1 .1 .1 .1 .0 ≡ inverseBlock (planOf (s .args .shape)) (s .args .c .now)
-done c =
-    let P = c .before .before .before .before in
+returns : tie.Need-returns
+returns c =
+    let P = c .before .before .before .before .before in
     let S = middle P in
     let s = origin S in
     let last = shift P in
-    c .lines2 .ensures
-    ∙ all-written (s .args .shape .height * s .args .shape .width) _ (work S .lines .last .1 .1 .1 .1 .1 .1 .1 .1 .1 .1 .0) (omega (arith, first-long (work S)))
-    ∙ of-square (λ w h. block w h (λ x y. shifted (held P) last (lineSum (S .settle .last .1 .0) (8 * y) 2 (P .put2 .last .1 .0) 16 4 x)) ≡ alongBlock (s .args .horizontal) w h (S .settle .last .1 .0) last) (square s)
-    (along-sums (s .args .horizontal) refl (omega arith) (omega arith) (P .put2 .ensures .1) (S .settle .last .1 .0) (settled-long S) last (half-is P ∙ P .before .before .half .ensures .0))
-    ∙ (λ i. alongBlock (s .pre .1 .1 i) (s .args .shape .width) (s .args .shape .height) (settled S i) (P .before .before .before .last-shift .ensures .0 i))
-    ∙ whole-block (given s)
+    let m = settled (given s) (first (work S)) (S .settle .ensures) in (
+      counted (given s) (first (work S)) (S .settle .ensures),
+      c .before .lines2 .ensures
+          ∙ all-written (s .args .shape .height * s .args .shape .width) _ (work S .lines .last .1 .1 .1 .1 .1 .1 .1 .1 .1 .1 .0) (omega (arith, first-long (work S)))
+          ∙ of-square (λ w h. block w h (λ x y. shifted (toZ w32 (ofZ w32 (P .before .before .half .result))) last (lineSum (S .settle .last .1 .0) (8 * y) 2 (P .put2 .last .1 .0) 16 4 x)) ≡ alongBlock (s .args .horizontal) w h (S .settle .last .1 .0) last) (square s)
+          (along-sums (s .args .horizontal) refl (omega arith) (omega arith) (P .put2 .ensures .1) (S .settle .last .1 .0) (settled-long S) last (half-is (P .before .before .half .ensures)))
+          ∙ (λ i. alongBlock (s .pre .1 .1 i) (s .args .shape .width) (s .args .shape .height) (m i) (P .before .before .before .last-shift .ensures .0 i))
+          ∙ whole-block (given s),
+    )
 
 same-length : tie.Need-same-length
-same-length c = ap length (done (c .before)) ∙ block-long (given (origin (middle (c .before .before .before .before .before))))
-
-returns : tie.Need-returns
-returns c = (counted (middle (c .before .before .before .before .before)), done (c .before))
+same-length c = block-long (given (origin (middle (c .before .before .before .before .before)))) (returns c .1)
 
 pub eight-spec : {M : Type 1} → statement M
 eight-spec =

@@ -2,19 +2,12 @@
 use borrow.Author.Needs.{needs}
 use native.Mathlib.Omega.{arith}
 use mathlib.Core.Path.{_≡_, refl, sym, ap, _∙_}
-use mathlib.Core.List.{List}
 use Prim.Native.Nat.{_*_}
 use lib.ListN.{length}
-use lib.IntN.{ℤ}
-use Rattle.algebra.specs.Clip.{clip}
-use Rattle.algebra.specs.Lists.{at, tabulate}
 use Rattle.algebra.proofs.Lists.{block-length, tab-length}
-use Rattle.meaning.specs.Plan.{planOf, shortRange}
-use Rattle.meaning.specs.Inverse.{rails, inverseBlock}
 use Rattle.inverse_stage.specs.Given.{Given}
-use Rattle.inverse_stage.specs.Settled.{railsOf}
 use Rattle.inverse_squares.specs.Square.{Square, downBlock, alongBlock}
-use Rattle.inverse_stage.proofs.Work.{sums, middles, settled-rails, block-long}
+use Rattle.inverse_stage.proofs.Work.{sums, settled, counted, block-long}
 use Rattle.inverse_squares.proofs.Square.{whole-sums, whole-block}
 use Rattle.inverse_squares.proofs.four.four.Statement.{statement}
 use Rattle.inverse_squares.proofs.four.four.Tie as tie
@@ -56,14 +49,8 @@ settle-requires c κs = let e = first-long (c .before .before) in (e, omega arit
 abbrev downed : tie.After-settle → tie.After-down
 downed c = c .before .before .before
 
-settled : (c : tie.After-settle) → c .settle .last .1 .0 ≡ middles (given (start (downed c)))
-settled c = c .settle .ensures .0 ∙ ap (λ (l : List ℤ). tabulate (length l) (λ k. clip shortRange (at l k))) (first (downed c))
-
 settled-long : (c : tie.After-settle) → length (c .settle .last .1 .0) ≡ 16
 settled-long c = ap length (c .settle .ensures .0) ∙ tab-length _ _ ∙ first-long (downed c)
-
-counted : (c : tie.After-settle) → c .settle .result ≡ rails (planOf (start (downed c) .args .shape)) (start (downed c) .args .c .now)
-counted c = c .settle .ensures .1 ∙ (λ i. railsOf (length (first (downed c) i)) (first (downed c) i) (settled c i)) ∙ settled-rails (given (start (downed c)))
 
 last-shift-requires : tie.Need-last-shift-requires
 last-shift-requires c κs = given (start (downed (c .before .before))) .block .taken .depth
@@ -74,19 +61,20 @@ along-requires c κs =
     let s = start (downed S) in
     (given s .block .taken .horizontal, (c .before .last-shift .ensures .1, (settled-long S, given s .block .room ∙ area s)))
 
-done : (c : tie.After-along) → let s = start (downed (c .before .before .before .before .before)) in c .along .last .1 .1 .1 .0 ≡ inverseBlock (planOf (s .args .shape)) (s .args .c .now)
-done c =
-    let S = c .before .before .before .before .before in
+returns : tie.Need-returns
+returns c =
+    let A = c .before in
+    let S = A .before .before .before .before .before in
     let s = start (downed S) in
-    c .along .ensures
-    ∙ sym (λ i. alongBlock (s .args .shape .horizontal) (square s .width i) (square s .height i) (sym (settled S) i) (sym (c .before .before .last-shift .ensures .0) i))
-    ∙ whole-block (given s)
+    let m = settled (given s) (first (downed S)) (S .settle .ensures) in (
+      counted (given s) (first (downed S)) (S .settle .ensures),
+      A .along .ensures
+          ∙ sym (λ i. alongBlock (s .args .shape .horizontal) (square s .width i) (square s .height i) (sym m i) (sym (A .before .before .last-shift .ensures .0) i))
+          ∙ whole-block (given s),
+    )
 
 same-length : tie.Need-same-length
-same-length c = ap length (done (c .before)) ∙ block-long (given (start (downed (c .before .before .before .before .before .before))))
-
-returns : tie.Need-returns
-returns c = (counted (c .before .before .before .before .before .before), done (c .before))
+same-length c = block-long (given (start (downed (c .before .before .before .before .before .before)))) (returns c .1)
 
 pub four-spec : {M : Type 1} → statement M
 four-spec =
