@@ -1,10 +1,10 @@
 -- One step of the forward line, once over the size: sizes of its sums and differences, and what the line of half the points is given.
 -- Assumes nothing.
-use mathlib.Core.Path.{_≡_, refl, sym, ap, _∙_, subst}
+use mathlib.Core.Path.{_≡_, sym, ap, _∙_, subst}
 use Prim.Native.Nat.{ℕ, zero, suc, _+_, _-_, _*_, _≤_, _<_}
 use native.Mathlib.Nat.{mul-le-mul, mul-le-mul-left, mul-le-mul-right, le-trans, mul-left-comm, mul-add, add-mul, one-mul, mul-zero, le-of-mul-le-mul-left}
 use native.Mathlib.Omega.{arith}
-use lib.IntN.{ℤ, pos, natAbs, negℤ, _+ℤ_, _-ℤ_, _*ℤ_}
+use lib.IntN.{ℤ, natAbs, negℤ, _+ℤ_, _-ℤ_, _*ℤ_}
 use mathlib.Core.List.{List, [], _∷_}
 use lib.ListN.{length}
 use Rattle.algebra.specs.Sum.{sum}
@@ -16,7 +16,7 @@ use Rattle.meaning.specs.Weights.{weight}
 use Rattle.meaning.specs.Line.{forwardSum, forwardLine}
 use Rattle.meaning.specs.Taken.{NoneAbove}
 use Rattle.product.specs.Product.{spot}
-use Rattle.halves.specs.Halves.{sums, differences}
+use Rattle.halves.specs.Halves.{Halves, odd, sums, differences}
 use Rattle.halves.specs.Lines.{Half, Small}
 use Rattle.halves.proofs.Tables.{tab-holds, row-sum}
 
@@ -55,10 +55,6 @@ module _ (h : ℕ) (x y : ℤ) (p : (h + h) * natAbs x ≤ 1048576) (q : (h + h)
 pub sub-low : (h : ℕ) (x y : ℤ) → (h + h) * natAbs x ≤ 1048576 → (h + h) * natAbs y ≤ 1048576 → h * natAbs (x -ℤ y) ≤ 1048576
 sub-low h x y p q = add-low h x (negℤ y) p (subst (λ (m : ℕ). (h + h) * m ≤ 1048576) (sym (abs-neg y)) q)
 
-pub none-yet : (f : ℕ → ℤ) → pos 0 ≡ sum 0 f
-unfolding sum
-none-yet f = refl
-
 -- ---- a list that is small at its places is small past its end too
 everywhere : (h : ℕ) (s : List ℤ) → ((k : ℕ) → k < length s → h * natAbs (at s k) ≤ 1048576) → (k : ℕ) → h * natAbs (at s k) ≤ 1048576
 everywhere h [] p k = omega (arith, mul-zero h)
@@ -80,7 +76,7 @@ sums-small h x s o p e =
       low = tab-low h s (sums (h + h) (at x)) e (λ k l. add-low h (at x k) (at x (h + h - 1 - k)) (p .low k) (p .low (h + h - 1 - k)));
     }
 
-pub differences-small : (h : ℕ) (x d : List ℤ) → 1 ≤ h → Small (h + h) x → d ≡ tabulate h (differences (h + h) (at x)) → Small h d
+differences-small : (h : ℕ) (x d : List ℤ) → 1 ≤ h → Small (h + h) x → d ≡ tabulate h (differences (h + h) (at x)) → Small h d
 differences-small h x d o p e =
     record {
       some = o;
@@ -90,10 +86,16 @@ differences-small h x d o p e =
     }
 
 -- a line over a list is the line over what the list holds
-pub over : (h : ℕ) (s : List ℤ) (f : ℕ → ℤ) → s ≡ tabulate h f → tabulate h (forwardSum 0 h (at s)) ≡ tabulate h (forwardSum 0 h f)
+over : (h : ℕ) (s : List ℤ) (f : ℕ → ℤ) → s ≡ tabulate h f → tabulate h (forwardSum 0 h (at s)) ≡ tabulate h (forwardSum 0 h f)
 unfolding forwardSum
 over h s f e =
     tab-cong h _ _ (λ i q. sum-cong h (λ j. weight 0 h i j *ℤ at s j) (λ j. weight 0 h i j *ℤ f j) (λ j l. ap (λ (z : ℤ). weight 0 h i j *ℤ z) (tab-holds h s f e j l)))
+
+-- what the outputs are woven of: the line of half the points over the sums s, and the differences d
+pub weave-given : {h m : ℕ} {x s d e t : List ℤ} → 1 ≤ h → Small (h + h) x → m ≡ h + h → (s ≡ tabulate h (sums (h + h) (at x))) × (d ≡ tabulate h (differences (h + h) (at x)))
+    → e ≡ tabulate h (forwardSum 0 h (at s)) → Half (odd (h + h)) h t → Halves (h + h) h
+    → (Half (odd (h + h)) h t × Halves (h + h) h) × (Small h d × ((e ≡ tabulate h (forwardSum 0 h (sums (h + h) (at x)))) × ((d ≡ tabulate h (differences (h + h) (at x))) × (m ≡ h + h))))
+weave-given {h} {x = x} {s} {d} o p l q e t v = ((t, v), (differences-small h x d o p (q .1), (e ∙ over h s (sums (h + h) (at x)) (q .0), (q .1, l))))
 
 pub recount : {m n : ℕ} {a a₀ : List ℤ} {f : ℕ → ℤ} → m ≡ n → Filled 0 m a a₀ f → Filled 0 n a a₀ f
 recount {a = a} {a₀} {f} e p = subst (λ (k : ℕ). Filled 0 k a a₀ f) e p

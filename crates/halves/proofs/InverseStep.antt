@@ -6,7 +6,7 @@ use Prim.Native.Nat.{ℕ, _+_, _*_, _≤_, _<_}
 use native.Mathlib.Nat.{zero-add, one-mul, mul-le-mul, mul-add, mul-assoc, mul-comm}
 use native.Mathlib.Omega.{arith}
 use lib.ListN.{length}
-use lib.IntN.{ℤ, natAbs, _*ℤ_}
+use lib.IntN.{ℤ, pos, natAbs, _*ℤ_}
 use Rattle.algebra.specs.Sum.{sum}
 use Rattle.algebra.specs.Lists.{at, tabulate}
 use Rattle.algebra.proofs.Order.{abs-mul}
@@ -16,9 +16,10 @@ use Rattle.meaning.specs.Weights.{weight}
 use Rattle.meaning.specs.Line.{inverseSum, inverseLine}
 use Rattle.meaning.specs.Taken.{TakenLine, NoneAbove}
 use Rattle.meaning.proofs.Sizes.{weightSize}
+use Rattle.product.specs.Product.{lineSum, shifted}
 use Rattle.halves.specs.Halves.{Halves, odd, oddSum, evens}
-use Rattle.halves.specs.Lines.{strided, Inputs, Sums, Joined}
-use Rattle.halves.proofs.Tables.{odd-size, tab-holds, tab-long}
+use Rattle.halves.specs.Lines.{Half, strided, Inputs, Sums, Joined}
+use Rattle.halves.proofs.Tables.{odd-size, tab-holds, tab-long, pairs-hold}
 use Rattle.halves.proofs.Joining.{joined}
 
 -- ---- sizes: no sum of 16 products is near the end of 32 bits
@@ -46,25 +47,28 @@ module _ {h apart : ℕ} {x : List ℤ} (inputs : Inputs (h + h) apart x) where
   pub odds-there : (i : ℕ) → i < h → apart + i * (2 * apart) < length x
   odds-there i l = subst (λ (m : ℕ). m < length x) (sym (between apart i)) (inputs .there (2 * i + 1) (omega arith))
 
-  -- ---- the two halves, and the line
-  module _ (few : h ≤ 16) (e o : List ℤ) (evened : e ≡ tabulate h (inverseSum 0 h h (strided x (2 * apart))))
-      (odded : (j : ℕ) → j < h → at o j ≡ sum h (λ i. odd (h + h) i j *ℤ at x (apart + i * (2 * apart)))) where
-    pub step-given : h ≤ length o → Sums h e o
+  -- ---- the line over the even inputs in e; the odd ones in a, by weights t in o
+  module _ {e a t o : List ℤ} {m : ℕ} (pairs : ℕ) (two : 2 * pairs ≡ h) (full : m ≡ h) (evened : e ≡ tabulate h (inverseSum 0 h h (strided x (2 * apart)))) (stored : Half (odd (h + h)) h t)
+      (dealt : a ≡ tabulate h (λ i. at x (apart + i * (2 * apart)))) (lined : o ≡ tabulate m (λ j. shifted (pos 0) 0 (lineSum a 0 2 t (2 * h) pairs j))) where
+    odded : (j : ℕ) → j < h → at o j ≡ sum h (λ i. odd (h + h) i j *ℤ at x (apart + i * (2 * apart)))
+    odded j l = pairs-hold stored (odd-size (h + h)) pairs two a _ dealt m (omega arith) o lined j (omega arith)
+
+    pub step-given : Sums h e o
     unfolding inverseSum
-    step-given room =
+    step-given =
         record {
-          few = few;
+          few = stored .few;
           evens = tab-long h e _ evened;
-          odds = room;
+          odds = omega (arith, tab-long m o _ lined);
           even = λ j l. subst (λ (z : ℤ). natAbs z ≤ 1000000000) (sym (tab-holds h e _ evened j l))
-              (small-sum h (λ i. weight 0 h i j) (strided x (2 * apart)) few (λ i. weightSize 0 h i j) (λ i. inputs .low (2 * apart * i)));
+              (small-sum h (λ i. weight 0 h i j) (strided x (2 * apart)) (stored .few) (λ i. weightSize 0 h i j) (λ i. inputs .low (2 * apart * i)));
           odd = λ j l. subst (λ (z : ℤ). natAbs z ≤ 1000000000) (sym (odded j l))
-              (small-sum h (λ i. odd (h + h) i j) (λ i. at x (apart + i * (2 * apart))) few (λ i. odd-size (h + h) i j) (λ i. inputs .low (apart + i * (2 * apart))));
+              (small-sum h (λ i. odd (h + h) i j) (λ i. at x (apart + i * (2 * apart))) (stored .few) (λ i. odd-size (h + h) i j) (λ i. inputs .low (apart + i * (2 * apart))));
         }
 
-    pub step : Halves (h + h) h → (out : List ℤ) → Joined h h e o out → out ≡ tabulate (h + h) (inverseSum 0 (h + h) (h + h) (strided x apart))
+    pub step : Halves (h + h) h → {out : List ℤ} → Joined h h e o out → out ≡ tabulate (h + h) (inverseSum 0 (h + h) (h + h) (strided x apart))
     unfolding inverseSum oddSum
-    step p out q =
+    step p {out} q =
         joined p (strided x apart) e o out
         (λ j l. tab-holds h e _ evened j l ∙ sum-cong h (λ i. weight 0 h i j *ℤ at x (2 * apart * i)) (λ i. weight 0 h i j *ℤ at x (apart * (2 * i))) (λ i k. ap (λ (m : ℕ). weight 0 h i j *ℤ at x m) (twice apart i)))
         (λ j l. odded j l ∙ sum-cong h (λ i. odd (h + h) i j *ℤ at x (apart + i * (2 * apart))) (λ i. odd (h + h) i j *ℤ at x (apart * (2 * i + 1))) (λ i k. ap (λ (m : ℕ). odd (h + h) i j *ℤ at x m) (between apart i)))

@@ -1,11 +1,9 @@
 -- `forward::forward_8` meets its contract: the line of 4 points over the sums, and one step. Assumes nothing.
 use borrow.Author.Needs.{needs}
 use native.Mathlib.Omega.{arith}
-use mathlib.Core.Path.{refl, _∙_}
-use Rattle.algebra.specs.Lists.{at}
-use Rattle.halves.specs.Halves.{sums}
+use mathlib.Core.Path.{refl}
 use Rattle.halves.proofs.Halved.{halves-8}
-use Rattle.halves.proofs.ForwardStep.{sums-small, differences-small, over}
+use Rattle.halves.proofs.ForwardStep.{sums-small, weave-given}
 use Rattle.halves.proofs.forward.forward_8.Statement.{statement}
 use Rattle.halves.proofs.forward.forward_8.Tie as tie
 
@@ -48,13 +46,7 @@ weave-requires c κs =
     let E = O .before .before in
     let F = E .before .before .before .before .before in
     let S = F .before .before .before in
-    let x = S .args .x .now in (
-      (O .odd-8 .ensures, halves-8),
-      (
-        differences-small 4 x _ (omega arith) (S .pre .0) (F .fold .ensures .1),
-        (E .forward-4 .ensures ∙ over 4 _ (sums 8 (at x)) (F .fold .ensures .0), (F .fold .ensures .1, S .pre .1)),
-      ),
-    )
+    weave-given (omega arith) (S .pre .0) (S .pre .1) (F .fold .ensures) (E .forward-4 .ensures) (O .odd-8 .ensures) halves-8
 
 same-length : tie.Need-same-length
 same-length c = search needs

@@ -12,7 +12,8 @@ use Rattle.algebra.specs.Sum.{sum}
 use Rattle.algebra.specs.Lists.{at}
 use Rattle.algebra.proofs.Sum.{sum-next}
 use Rattle.algebra.proofs.Word.{small}
-use Rattle.halves.proofs.ForwardStep.{less, row-size, none-yet}
+use Rattle.product.proofs.Summing.{sum-none-yet}
+use Rattle.halves.proofs.ForwardStep.{less, row-size}
 use Rattle.halves.proofs.forward.row.Statement.{statement}
 use Rattle.halves.proofs.forward.row.Tie as tie
 
@@ -23,7 +24,7 @@ abbrev μ-loop : tie.MeasureT-loop
 μ-loop t o h v total₀ j₀ total j = h - j
 
 loop-holds : tie.Need-loop-holds Inv-loop μ-loop
-loop-holds c = (omega arith, none-yet (λ j. at (c .args .t .now) (2 * j + c .args .o) *ℤ at (c .args .v .now) j))
+loop-holds c = (omega arith, sum-none-yet (λ j. at (c .args .t .now) (2 * j + c .args .o) *ℤ at (c .args .v .now) j))
 
 module _ (c : tie.In-loop Inv-loop μ-loop) where
   abbrev h : ℕ

@@ -41,12 +41,6 @@ module _ (c : tie.In-loop Inv-loop μ-loop) where
   few : h ≤ 16
   few = c .before .before .pre .0 .few
 
-  even-here : j < length (c .before .before .args .e .now)
-  even-here = omega (arith, here, c .before .before .pre .0 .evens)
-
-  odd-here : j < length (c .before .before .args .o .now)
-  odd-here = omega (arith, here, c .before .before .pre .0 .odds)
-
   long : length (c .before .loop .out) ≡ h + h
   long = c .before .loop .inv .1 .long
 

@@ -1,14 +1,9 @@
 -- `inverse::inverse_32` meets its contract: the line of 16 points over the even inputs, the odd half, and one step. Assumes nothing.
 use borrow.Author.Needs.{needs}
 use native.Mathlib.Omega.{arith}
-use mathlib.Core.Path.{_≡_, refl}
-use Prim.Native.Nat.{ℕ, _+_, _*_, _<_}
-use lib.IntN.{_*ℤ_}
-use Rattle.algebra.specs.Sum.{sum}
-use Rattle.algebra.specs.Lists.{at}
-use Rattle.halves.specs.Halves.{odd}
+use mathlib.Core.Path.{refl}
 use Rattle.halves.proofs.Halved.{halves-32}
-use Rattle.halves.proofs.Tables.{odd-size, tab-long, pairs-given, pairs-hold}
+use Rattle.halves.proofs.Tables.{odd-size, pairs-given}
 use Rattle.halves.proofs.InverseStep.{evens-in, odds-there, step-given, step}
 use Rattle.halves.proofs.inverse.inverse_32.Statement.{statement}
 use Rattle.halves.proofs.inverse.inverse_32.Tie as tie
@@ -40,31 +35,25 @@ slice-aggregate-line c = search needs
 slice-aggregate-line-2 : tie.Need-slice-aggregate-line-2
 slice-aggregate-line-2 c = search needs
 
--- the odd half, as it is asked for and as it comes
-module _ (c : tie.After-deal) where
-  abbrev S : tie.Start
-  S = c .before .before .before .before .before
-
+-- the odd half, as it is asked for
 line-requires : tie.Need-line-requires
 line-requires c κs =
     let D = c .before .before .before .before .before in (
-      pairs-given (c .before .before .before .odd-32 .ensures) (odd-size 32) 8 refl _ _ (D .deal .ensures) _ (omega (arith, S D .pre .1 .1)),
+      pairs-given (c .before .before .before .odd-32 .ensures) (odd-size 32) 8 refl _ _ (D .deal .ensures) _ (omega (arith, D .before .before .before .before .before .pre .1 .1)),
       record { small = omega arith; short = omega arith },
     )
 
 slice-aggregate-butterfly : tie.Need-slice-aggregate-butterfly
 slice-aggregate-butterfly c = search needs
 
--- from the line of the even inputs and the odd half
-odds : (c : tie.After-line) → let S = c .before .before .before .before .before .before .before .before .before .before .before in (j : ℕ) → j < 16 → at (c .line .last .1 .1 .1 .1 .1 .1 .1 .1 .0) j ≡ sum 16 (λ i. odd 32 i j *ℤ at (S .args .x .now) (S .args .apart + i * (2 * S .args .apart)))
-odds c j l =
-    let D = c .before .before .before .before .before .before in
-    pairs-hold (c .before .before .before .before .odd-32 .ensures) (odd-size 32) 8 refl _ _ (D .deal .ensures) _ (omega (arith, S D .pre .1 .1)) _ (c .line .ensures) j (omega (arith, S D .pre .1 .1))
-
 butterfly-requires : tie.Need-butterfly-requires
 butterfly-requires c κs =
-    let S = c .before .before .before .before .before .before .before .before .before .before .before .before .before .before .before in
-    (step-given {h = 16} (S .pre .0) (omega arith) _ _ (c .before .before .before .before .before .before .before .before .before .before .before .before .before .inverse-16 .ensures) (odds (c .before .before .before .before)) (omega (arith, tab-long _ _ _ (c .before .before .before .before .line .ensures), S .pre .1 .1)), S .pre .1 .0)
+    let L = c .before .before .before .before in
+    let T = L .before .before .before .before in
+    let D = T .before .before in
+    let E = D .before .before .before in
+    let S = E .before .before in
+    (step-given (S .pre .0) 8 refl (S .pre .1 .1) (E .inverse-16 .ensures) (T .odd-32 .ensures) (D .deal .ensures) (L .line .ensures), S .pre .1 .0)
 
 same-length : tie.Need-same-length
 same-length c = search needs
@@ -74,8 +63,12 @@ same-length-2 c = search needs
 
 returns : tie.Need-returns
 returns c =
-    let S = c .before .before .before .before .before .before .before .before .before .before .before .before .before .before .before .before .before in
-    step {h = 16} (S .pre .0) (omega arith) _ _ (c .before .before .before .before .before .before .before .before .before .before .before .before .before .before .before .inverse-16 .ensures) (odds (c .before .before .before .before .before .before)) halves-32 _ (c .before .butterfly .ensures)
+    let L = c .before .before .before .before .before .before in
+    let T = L .before .before .before .before in
+    let D = T .before .before in
+    let E = D .before .before .before in
+    let S = E .before .before in
+    step (S .pre .0) 8 refl (S .pre .1 .1) (E .inverse-16 .ensures) (T .odd-32 .ensures) (D .deal .ensures) (L .line .ensures) halves-32 (c .before .butterfly .ensures)
 
 pub inverse-32-spec : {M : Type 1} → statement M
 inverse-32-spec =
