@@ -1,11 +1,10 @@
 -- That every row of a class is folded so, and that the two sides of a fold are one, is computed: one test for each size over the
 -- whole table of weights, carried to each row and place. Then the law gives each output of a forward line and each place of an
 -- inverse one, over (n, p, q). Assumes nothing.
-use mathlib.Core.Path.{_≡_, refl, sym, ap, _∙_}
+use mathlib.Core.Path.{_≡_, refl, sym, ap, _∙_, subst}
 use mathlib.Core.Bool.{Bool, true, false, cond, not, _&&_, _||_}
 use mathlib.Core.List.{List}
-use Prim.Native.Nat.{ℕ, _+_, _*_, _%_, _<_}
-use native.Mathlib.Omega.{arith}
+use Prim.Native.Nat.{ℕ, _%_, _<_}
 use lib.Dec.{T, eqb}
 use borrow.Author.Tests.{eq-eqb}
 use lib.IntN.{ℤ, pos, _+ℤ_, _*ℤ_, +ℤ-idl, +ℤ-idr, zero-*ℤ, *ℤ-zero}
@@ -19,6 +18,11 @@ use Rattle.meaning.specs.Weights.{S, first}
 use Rattle.folding.specs.Folds.{Part, folded, occurrence, half, classOf, width, parts, into}
 use Rattle.folding.specs.Steps.{Sized, shortSum, only, Class, joined}
 use Rattle.folding.proofs.Law.{below, folded-sum, fold-inputs, fold-sums}
+
+-- a test that is asked only where another one passes
+pub pick : (b d : Bool) → b ≡ true → T (not b || d) → T d
+pick true d e t = t
+pick false d e t = absurd (subst T (sym e) tt)
 
 -- ---- the tests of a class
 abbrev rowFolds : ℕ → ℕ → ℕ → ℕ → ℕ → ℕ → Bool
@@ -57,13 +61,6 @@ module _ (n p q c : ℕ) (t : T (folds n p q c)) where
 
   row-folds : (k i : ℕ) → k < n → i < n → classOf p q i ≡ c → S n i k ≡ folded (S n i) (parts p q c k)
   row-folds k i h l e = eqZ→eq (S n i k) (folded (S n i) (parts p q c k)) (pick (eqb (classOf p q i) c) (eqZ (S n i k) (folded (S n i) (parts p q c k))) (eq-eqb (classOf p q i) c e) (row-of k i h l))
-    where
-      pick : (b d : Bool) → b ≡ true → T (not b || d) → T d
-      pick true d e t = t
-      pick false d e t = absurd (let z : _≡_ {A = ℕ} 0 1 = ap (λ (b : Bool). cond b 1 0) e in never z)
-        where
-          never : _≡_ {A = ℕ} 0 1 → ⊥
-          never z = omega arith
 
   -- a number that the inputs are folded to, seen from the places
   gathered : (x : ℕ → ℤ) (g : ℕ) → g < width p q c → folded x (into n p q c g) ≡ sum n (λ k. occurrence (parts p q c k) g *ℤ x k)

@@ -16,7 +16,7 @@ use Rattle.tables.specs.Table.{Table}
 use Rattle.folding.specs.Folds.{classOf, width}
 use Rattle.folding.specs.Lines.{alternated, reading, kindOf}
 use Rattle.folding.specs.Steps.{Gathered, Ready, Put, Wrote, shortSum}
-use Rattle.folding.proofs.Classes.{folds, short-is}
+use Rattle.folding.proofs.Classes.{pick, folds, short-is}
 use Rattle.folding.proofs.TwoKinds.{eqb-true, output, forward-whole}
 
 eqb-false : (a b : ℕ) → eqb a b ≡ false → a ≡ b → ⊥
@@ -82,10 +82,6 @@ of-class n p q c back x {P} {t} f g e w =
       these = λ k h b. w .these k h b ∙ ap (alternated back k) (short-is n p q c f (reading back n x) t (g .are) k h (eqb→eq (classOf p q k) c (pick (P k) (eqb (classOf p q k) c) b (allTo-at n (λ k. not (P k) || eqb (classOf p q k) c) e k h))));
       others = w .others;
     }
-  where
-    pick : (b d : Bool) → b ≡ true → T (not b || d) → T d
-    pick true d e t = t
-    pick false d e t = absurd (subst T (sym e) tt)
 
 pub all-rows : (back : Bool) {n : ℕ} (x : List ℤ) {P : ℕ → Bool} {y z : List ℤ} → length y ≡ n → T (allTo n P) → Wrote n P (output back n x) y z → z ≡ forwardLine (kindOf back) n (at x)
 all-rows back {n} x {P} l t w = forward-whole back n x (w .long ∙ l) (λ i h. w .these i h (yes (P i) (allTo-at n P t i h)))
