@@ -7,10 +7,10 @@ use lib.ListN.{length}
 use Rattle.meaning.specs.Shape.{isSize}
 use Rattle.meaning.proofs.Cases.{size-cases}
 use Rattle.block_text.specs.Text.{digits, decimal}
-use Rattle.picture.specs.declared.header.Found.{Found}
+use Rattle.picture_header.specs.declared.Found.{Found}
+use Rattle.picture_header.specs.Header.{digit, plain, step, readFrom, headerOf}
+use Rattle.picture_header.proofs.Reading.{read-ended}
 use Rattle.picture.specs.Picture.{headerText}
-use Rattle.picture.specs.Header.{digit, plain, step, readFrom, headerOf}
-use Rattle.picture.proofs.Reading.{read-ended}
 
 abbrev pub ours : ℕ → ℕ → Found
 ours w h =

@@ -11,8 +11,9 @@ use Rattle.meaning.specs.Shape.{isSize}
 use Rattle.meaning.proofs.Cases.{size-cases, size-in}
 use Rattle.block_text.specs.Text.{digits, decimal}
 use Rattle.block_text.specs.Wrote.{Wrote}
-use Rattle.picture.specs.Picture.{headerText, samples, pictureOf}
-use Rattle.picture.proofs.Samples.{samples-length}
+use Rattle.picture_samples.specs.Samples.{samples}
+use Rattle.picture_samples.proofs.Samples.{samples-length}
+use Rattle.picture.specs.Picture.{headerText, pictureOf}
 
 least : (n : ℕ) → isSize n ≡ true → 4 ≤ n
 least = size-cases (λ n. 4 ≤ n) (omega arith) (omega arith) (omega arith) (omega arith)
@@ -24,9 +25,9 @@ pub header-length : (w h : ℕ) → length (headerText w h) ≡ length (decimal 
 unfolding digits decimal headerText
 header-length w h = simp length-append (omega arith)
 
-pub picture-length : (w h : ℕ) (zs : List ℤ) → length zs ≡ w * h → length (pictureOf w h zs) ≡ length (decimal w) + length (decimal h) + 11 + 2 * (w * h)
+pub picture-parts : (w h : ℕ) (zs : List ℤ) → length (pictureOf w h zs) ≡ length (headerText w h) + 2 * length zs
 unfolding pictureOf
-picture-length w h zs l = length-append (headerText w h) (samples zs) ∙ omega (arith, header-length w h, samples-length zs)
+picture-parts w h zs = length-append (headerText w h) (samples zs) ∙ omega (arith, samples-length zs)
 
 -- a text at the start: its length, and all that the output holds then
 pub at-start : {t : List ℕ} {m r : ℕ} {o o₁ : List ℕ} → Wrote t m 0 o o₁ r → (r ≡ length t) × (o₁ ≡ t ++ drop (length t) o)

@@ -1,9 +1,4 @@
-mod Levels
-mod Samples
 mod Lengths
-mod Reading
 mod Headers
-mod Tests
 pub mod RoundTrip
-pub mod Variants
 pub mod Unique

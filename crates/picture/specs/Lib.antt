@@ -1,3 +1,2 @@
 pub mod Picture
-pub mod Header
 pub mod Outcomes

@@ -1,26 +1,28 @@
 -- Document 02, Wish 11: the outcomes of writing and of reading a picture. "bytes beyond the file stay"; "Refusals, output
 -- untouched".
 use mathlib.Core.Bool.{cond, not}
-use mathlib.Core.List.{List, [], _∷_, _++_}
+use mathlib.Core.List.{List, [], _∷_}
 use Prim.Native.Nat.{ℕ, _*_}
 use lib.Dec.{eqb, ltb}
 use lib.IntN.{ℤ}
 use lib.ListN.{length, drop}
+use Rattle.algebra.specs.Lists.{over}
 use Rattle.algebra.specs.Refusals.{Refusal, firstOf}
 use Rattle.meaning.specs.Shape.{isSize}
-use Rattle.meaning.specs.Answer.{test}
+use Rattle.meaning.specs.Answer.{test, inputTest, outputTest}
+use Rattle.picture_header.specs.Header.{headerOf, isPicture}
+use Rattle.picture_samples.specs.Samples.{anyBeyond, residuals}
 use Rattle.picture.specs.declared.write.Written.{Written}
 use Rattle.picture.specs.declared.read.Picture.{Picture}
-use Rattle.picture.specs.Picture.{anyOutside, pictureOf, residuals}
-use Rattle.picture.specs.Header.{headerOf, isPicture}
+use Rattle.picture.specs.Picture.{pictureOf}
 
 -- "writing, 1, 2, 6, then 23 for a residual outside -32768..32767, then 7 for an output too short to hold the file"
 abbrev pub writeTests : ℕ → ℕ → List ℤ → ℕ → List Refusal
 writeTests w h zs room =
     test (not (isSize w)) 1
     ∷ test (not (isSize h)) 2
-    ∷ test (not (eqb (length zs) (w * h))) 6
-    ∷ test (anyOutside zs) 23
+    ∷ inputTest (w * h) (length zs)
+    ∷ test (anyBeyond zs) 23
     ∷ test (ltb room (length (pictureOf w h zs))) 7
     ∷ []
 
@@ -29,7 +31,7 @@ abbrev pub writeOutcome : ℕ → ℕ → List ℤ → List ℕ → Written × L
 writeOutcome w h zs out =
     let file = pictureOf w h zs in
     firstOf (writeTests w h zs (length out)) (λ number place. (record { number = number; bytes = 0 }, out))
-    (record { number = 0; bytes = length file }, file ++ drop (length file) out)
+    (record { number = 0; bytes = length file }, over file out)
 
 -- the bytes behind the header
 abbrev pub behind : List ℕ → List ℕ
@@ -43,7 +45,7 @@ readTests file out =
     let count = head .width * head .height in
     test (not (isPicture head)) 24
     ∷ test (not (eqb (length (behind file)) (2 * count))) 25
-    ∷ test (not (eqb (length out) count)) 7
+    ∷ outputTest count (length out)
     ∷ []
 
 -- the width and the height of the header, but for 24: of a header that is none

@@ -1,12 +1,10 @@
 // "read such a file back".
-use crate::header::header_of;
-use crate::header::is_picture;
+use picture_header::header_of;
+use picture_header::is_picture;
+use picture_samples::read::read_samples;
 ghost use mathlib.Core.Path.{_≡_};
 ghost use mathlib.Core.List.{List};
-ghost use Prim.Native.Nat.{_+_, _*_};
 ghost use lib.IntN.{ℤ};
-ghost use lib.ListN.{length};
-ghost use Rattle.picture.specs.Picture.{residual, residuals};
 ghost use Rattle.picture.specs.Outcomes.{readOutcome};
 
 /// What reading hands back: the number of the refusal or 0, and the width and height of the header, 0 where it is none (24).
@@ -15,26 +13,6 @@ pub struct Picture {
     pub number: u32,
     pub width: u32,
     pub height: u32,
-}
-
-fn residual(high: u8, low: u8) -> i32
-    ensures { λ r. ⌜ r ≡ residual (high * 256 + low) ⌝ }
-{
-    let sample = (high as u32) * 256 + low as u32;
-    sample as i32 - 32768
-}
-
-// Fills `out` with the residuals of the samples.
-fn read_samples(samples: &[u8], out: &mut [i32])
-    requires { ⌜ length (now samples) ≡ 2 * length (now out) ⌝ }
-    ensures { λ _. ⌜ now (out .exit) ≡ residuals (now (samples .entry)) ⌝ }
-{
-    let mut i = 0;
-    while i < out.len() {
-        let z = residual(samples[i + i], samples[i + i + 1]);
-        out[i] = z;
-        i += 1;
-    }
 }
 
 fn answer(number: u32, width: u32, height: u32) -> Picture

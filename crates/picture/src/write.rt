@@ -2,15 +2,17 @@
 use block_text::text::put;
 use block_text::text::put_decimal;
 use meaning::is_size;
+use picture_samples::put::any_beyond;
+use picture_samples::put::put_samples;
 ghost use mathlib.Core.Path.{_≡_};
-ghost use mathlib.Core.Bool.{true, false};
-ghost use mathlib.Core.List.{List, [], _∷_};
-ghost use Prim.Native.Nat.{ℕ, _+_, _*_, _≤_, _<_};
+ghost use mathlib.Core.Bool.{true};
+ghost use mathlib.Core.List.{List};
+ghost use Prim.Native.Nat.{ℕ, _+_, _≤_};
 ghost use lib.ListN.{length};
 ghost use Rattle.meaning.specs.Shape.{isSize};
 ghost use Rattle.block_text.specs.Text.{decimal};
 ghost use Rattle.block_text.specs.Wrote.{Wrote};
-ghost use Rattle.picture.specs.Picture.{number, headerText, outside, anyOutside, level, samples};
+ghost use Rattle.picture.specs.Picture.{number, headerText};
 ghost use Rattle.picture.specs.Outcomes.{writeOutcome};
 
 /// What writing hands back: the number of the refusal or 0, and how many bytes the file has.
@@ -18,28 +20,6 @@ ghost use Rattle.picture.specs.Outcomes.{writeOutcome};
 pub struct Written {
     pub number: u32,
     pub bytes: u32,
-}
-
-fn is_outside(z: i32) -> bool
-    ensures { λ r. ⌜ r ≡ outside z ⌝ }
-{
-    if z < -32768 {
-        return true;
-    }
-    z > 32767
-}
-
-fn any_outside(residuals: &[i32]) -> bool
-    ensures { λ r. ⌜ r ≡ anyOutside (now (residuals .entry)) ⌝ }
-{
-    let mut i = 0;
-    while i < residuals.len() {
-        if is_outside(residuals[i]) {
-            return true;
-        }
-        i += 1;
-    }
-    false
 }
 
 fn digits_of(n: u32) -> usize
@@ -71,38 +51,6 @@ fn put_header(width: u32, height: u32, file: &mut [u8]) -> usize
     put_number(65535, b'\n', file, high)
 }
 
-// "the residual plus 32768".
-fn level(z: i32) -> u32
-    requires { ⌜ outside z ≡ false ⌝ }
-    ensures { λ r. ⌜ (r ≡ level z) × (r < 65536) ⌝ }
-{
-    (z + 32768) as u32
-}
-
-// "high byte first".
-fn put_sample(z: i32, file: &mut [u8], at: usize) -> usize
-    requires { ⌜ (outside z ≡ false) × (at + 2 ≤ length (now file)) ⌝ }
-    ensures { λ r. ⌜ Wrote (samples (z ∷ [])) 2 at (now (file .entry)) (now (file .exit)) r ⌝ }
-{
-    let sample = level(z);
-    let next = put((sample / 256) as u8, file, at);
-    put((sample % 256) as u8, file, next)
-}
-
-fn put_samples(residuals: &[i32], file: &mut [u8], at: usize) -> usize
-    requires { ⌜ (anyOutside (now residuals) ≡ false) × (at + 2 * length (now residuals) ≤ length (now file)) ⌝ }
-    ensures { λ r. ⌜ Wrote (samples (now (residuals .entry))) (2 * length (now (residuals .entry))) at (now (file .entry)) (now (file .exit)) r ⌝ }
-{
-    let mut p = at;
-    let mut i = 0;
-    while i < residuals.len() {
-        let z = residuals[i];
-        p = put_sample(z, file, p);
-        i += 1;
-    }
-    p
-}
-
 fn refused(number: u32) -> Written
     ensures { λ r. ⌜ r ≡ record { number = number; bytes = 0 } ⌝ }
 {
@@ -123,7 +71,7 @@ pub fn write(width: u32, height: u32, residuals: &[i32], file: &mut [u8]) -> Wri
     if residuals.len() != count {
         return refused(6);
     }
-    if any_outside(residuals) {
+    if any_beyond(residuals) {
         return refused(23);
     }
     let bytes = digits_of(width) + digits_of(height) + 11 + 2 * count;

@@ -1,0 +1,4 @@
+pub mod Tests
+pub mod Reading
+pub mod Variants
+pub mod Unique

@@ -1,0 +1,29 @@
+-- Document 02, Wish 11: "each sample being the residual plus 32768, high byte first".
+use mathlib.Core.Bool.{Bool, false, _||_}
+use mathlib.Core.List.{List, [], _∷_}
+use Prim.Native.Nat.{ℕ, _/_, _%_}
+use lib.IntN.{ℤ, pos, natAbs, _+ℤ_, _-ℤ_}
+use Rattle.meaning.specs.Plan.{shortRange}
+use Rattle.meaning.specs.Long.{beyond}
+use Rattle.block_numbers.specs.Numbers.{pairs}
+
+-- "a residual outside -32768..32767"
+unfoldable pub anyBeyond : List ℤ → Bool
+anyBeyond [] = false
+anyBeyond (z ∷ zs) = beyond shortRange z || anyBeyond zs
+
+-- "the residual plus 32768", for a residual in that range
+abbrev pub level : ℤ → ℕ
+level z = natAbs (z +ℤ pos 32768)
+
+-- "high byte first"
+unfoldable pub samples : List ℤ → List ℕ
+samples [] = []
+samples (z ∷ zs) = level z / 256 ∷ level z % 256 ∷ samples zs
+
+-- reading: the sample less 32768
+unfoldable pub residual : ℕ → ℤ
+residual sample = pos sample -ℤ pos 32768
+
+abbrev pub residuals : List ℕ → List ℤ
+residuals bytes = pairs residual bytes
