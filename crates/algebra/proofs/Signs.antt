@@ -1,7 +1,7 @@
 -- What the test `z < 0` tells of a signed number, for its sign and its size; a number of 16 bits in 32. Assumes nothing.
 use mathlib.Core.Path.{_≡_, refl, sym, ap, _∙_}
-use mathlib.Core.Bool.{true, false}
-use Prim.Native.Nat.{ℕ, suc, _-_, _^_, _≤_, _<_}
+use mathlib.Core.Bool.{true, false, true≢false}
+use Prim.Native.Nat.{suc, _-_, _^_, _≤_, _<_}
 use native.Mathlib.Omega.{arith}
 use borrow.Author.Tests.{ltb-true}
 use lib.Dec.{T}
@@ -35,7 +35,7 @@ pub record Plain (z : ℤ) : Type 0 where
 pub plain : (z : ℤ) → SFits w32 z → ltZ (toZ w32 (ofZ w32 z)) (toZ w32 0) ≡ false → Plain z
 plain (pos n) f e = record { shape = refl; is = toZ-ofZ w32 (pos n) f; high = f .sfits }
 plain (negsuc k) f e =
-    absurd (let e′ : ltZ (negsuc k) (pos 0) ≡ false = rw (toZ-ofZ w32 (negsuc k) f) at e in let z : _≡_ {A = ℕ} 0 1 = cc in omega arith)
+    absurd (let e′ : ltZ (negsuc k) (pos 0) ≡ false = rw (toZ-ofZ w32 (negsuc k) f) at e in true≢false e′)
 
 -- ---- the same of any number
 -- below 0, its negative is not, and has its size
@@ -45,7 +45,7 @@ below-turned (negsuc n) e = (tt, omega arith)
 
 pub not-below : (z : ℤ) → ltZ z (pos 0) ≡ false → T (nonNeg z)
 not-below (pos n) e = tt
-not-below (negsuc n) e = let z : _≡_ {A = ℕ} 0 1 = cc in absurd (omega arith)
+not-below (negsuc n) e = absurd (true≢false e)
 
 -- ---- a number of 16 bits in 32
 pub wider : {z : ℤ} → SFits w16 z → SFits w32 z

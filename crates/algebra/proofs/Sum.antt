@@ -2,6 +2,7 @@
 use mathlib.Core.Path.{_≡_, refl, sym, ap, _∙_, subst}
 use mathlib.Core.List.{[], _∷_}
 use Prim.Native.Nat.{ℕ, zero, suc, _+_, _-_, _*_, _≤_, _<_}
+use native.Mathlib.Numerals.{add-one}
 use native.Mathlib.Omega.{arith}
 use native.Mathlib.Nat.{le-trans, le-refl, mul-le-mul-left, mul-le-mul-right, add-mul, zero-mul, add-zero, add-suc, add-le-add, not-suc-le-zero}
 use lib.IntN.{ℤ, pos, negℤ, natAbs, _+ℤ_, _*ℤ_, +ℤ-idr, +ℤ-assoc, +ℤ-comm, *ℤ-zero, negℤ-+ℤ}
@@ -107,7 +108,7 @@ sum-in n f M h = le-trans (abs-sum n f) (rw (← sumℕ-const n M) (sumℕ-mono 
 
 -- as a loop counts
 pub sum-next : (n : ℕ) (f : ℕ → ℤ) → sum (n + 1) f ≡ sum n f +ℤ f n
-sum-next n f = ap (λ (m : ℕ). sum m f) (omega arith) ∙ sum-suc n f
+sum-next n f = ap (λ (m : ℕ). sum m f) (add-one n) ∙ sum-suc n f
 
 -- from the front
 pub sum-first : (n : ℕ) (f : ℕ → ℤ) → sum (suc n) f ≡ f 0 +ℤ sum n (λ i. f (suc i))
@@ -129,20 +130,12 @@ sum-rev (suc n) f =
 -- ---- for a loop that adds w i * x i
 pub sumℕ-next : (n : ℕ) (f : ℕ → ℕ) → sumℕ (n + 1) f ≡ sumℕ n f + f n
 unfolding sumℕ
-sumℕ-next n f = ap (λ (m : ℕ). sumℕ m f) (one-more n)
-  where
-    one-more : (n : ℕ) → n + 1 ≡ suc n
-    one-more n = omega arith
+sumℕ-next n f = ap (λ (m : ℕ). sumℕ m f) (add-one n)
 
 pub sumℕ-le : (k n : ℕ) (f : ℕ → ℕ) → sumℕ n f ≤ sumℕ (n + k) f
+unfolding sumℕ
 sumℕ-le zero n f = rw (add-zero n) (le-refl (sumℕ n f))
-sumℕ-le (suc k) n f = rw (add-suc n k) (more (n + k) (sumℕ-le k n f))
-  where
-    one-more : (m : ℕ) → m + 1 ≡ suc m
-    one-more m = omega arith
-
-    more : (m : ℕ) → sumℕ n f ≤ sumℕ m f → sumℕ n f ≤ sumℕ (suc m) f
-    more m h = omega (arith, sumℕ-next m f, ap (λ (x : ℕ). sumℕ x f) (one-more m))
+sumℕ-le (suc k) n f = rw (add-suc n k) (omega (arith, sumℕ-le k n f))
 
 -- no partial sum is larger: |w 0 x 0 + .. + w (k - 1) x (k - 1)| ≤ W M for every k ≤ n, where Σ |w| ≤ W
 pub abs-part : (n : ℕ) (w x : ℕ → ℤ) (W M : ℕ) → sumℕ n (λ i. natAbs (w i)) ≤ W → ((i : ℕ) → i < n → natAbs (x i) ≤ M)

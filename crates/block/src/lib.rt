@@ -1,11 +1,9 @@
-// Blocks, in both directions, over any numbers and any buffers. What they share to refuse a call stands in check, and the work behind
-// them in `inverse_hunt`, `inverse_block`, `forward_hunt` and `forward_block`.
-mod check;
-
-use crate::check::block_refusal;
+// Blocks, in both directions, over any numbers and any buffers. The work behind them stands in `inverse_hunt`, `inverse_block`,
+// `forward_hunt` and `forward_block`.
 use meaning::Answer;
 use meaning::Shape;
 use meaning::acceptance;
+use meaning::block_refusal;
 use meaning::refusal;
 ghost use mathlib.Core.Path.{_≡_};
 ghost use Rattle.meaning.specs.Answer.{Outcome};
@@ -16,7 +14,7 @@ ghost use Rattle.meaning.specs.Inverse.{inverseOutcome};
 pub fn inverse(shape: Shape, coefficients: &[i16], residuals: &mut [i32]) -> Answer
     ensures { λ r. ⌜ _≡_ {A = Outcome} (r, now (residuals .exit)) (inverseOutcome shape (now (coefficients .entry)) (now (residuals .entry))) ⌝ }
 {
-    let number = block_refusal(shape, coefficients.len(), residuals.len());
+    let number = block_refusal(shape, false, coefficients.len(), residuals.len());
     if number != 0 {
         return refusal(number, 0);
     }
@@ -33,7 +31,7 @@ pub fn inverse(shape: Shape, coefficients: &[i16], residuals: &mut [i32]) -> Ans
 pub fn forward(shape: Shape, residuals: &[i16], coefficients: &mut [i16]) -> Answer
     ensures { λ r. ⌜ _≡_ {A = Outcome} (r, now (coefficients .exit)) (forwardOutcome shape (now (residuals .entry)) (now (coefficients .entry))) ⌝ }
 {
-    let number = block_refusal(shape, residuals.len(), coefficients.len());
+    let number = block_refusal(shape, false, residuals.len(), coefficients.len());
     if number != 0 {
         return refusal(number, 0);
     }

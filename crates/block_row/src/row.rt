@@ -3,6 +3,7 @@ use crate::numbers::put;
 use crate::numbers::shape_at;
 use meaning::Shape;
 use meaning::is_size;
+use meaning::length_refusal;
 ghost use mathlib.Core.Path.{_≡_};
 ghost use Prim.Native.Nat.{_≤_};
 ghost use lib.ListN.{length};
@@ -45,13 +46,7 @@ fn row_refusal(shapes: &[u32; 448], count: usize, input: usize, output: usize) -
         return 16;
     }
     let sum = total(shapes, count);
-    if input != sum {
-        return 6;
-    }
-    if output != sum {
-        return 7;
-    }
-    0
+    length_refusal(sum, input, output)
 }
 
 // The blocks of a row that was taken, one after the other.

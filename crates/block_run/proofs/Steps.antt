@@ -44,6 +44,10 @@ forward-next sh z offset n =
     let o = forwardOutcome sh z (blank sh) in
     block-next (o .0) (forwardText (sh .width) (sh .height) (o .1)) offset n
 
+-- the bytes of a body, wherever it lies
+pub bytes : {x y : ℕ × ℕ} {l m : List ℕ} → _≡_ {A = (ℕ × ℕ) × List ℕ} (x, l) (y, m) → l ≡ m
+bytes e = ap (λ (z : (ℕ × ℕ) × List ℕ). z .1) e
+
 -- the same bytes, said otherwise
 module _ (t : List ℕ → Turn) where
   pub same-bytes : (l m : List ℕ) {at : ℕ} {o o₁ : List ℕ} {d : Done} → l ≡ m → Does (t l) (35 + 6 * length l) at o o₁ d → Does (t m) (35 + 6 * length m) at o o₁ d

@@ -1,8 +1,8 @@
 -- That every row of a class is folded so, and that the two sides of a fold are one, is computed: one test for each size over the
 -- whole table of weights, carried to each row and place. Then the law gives each output of a forward line and each place of an
 -- inverse one, over (n, p, q). Assumes nothing.
-use mathlib.Core.Path.{_≡_, refl, sym, ap, _∙_, subst}
-use mathlib.Core.Bool.{Bool, true, false, cond, not, _&&_, _||_}
+use mathlib.Core.Path.{_≡_, refl, sym, ap, _∙_}
+use mathlib.Core.Bool.{Bool, true, false, cond, not, _&&_, _||_, false≢true}
 use mathlib.Core.List.{List}
 use Prim.Native.Nat.{ℕ, _%_, _<_}
 use lib.Dec.{T, eqb}
@@ -20,9 +20,9 @@ use Rattle.folding.specs.Steps.{Sized, shortSum, only, Class, joined}
 use Rattle.folding.proofs.Law.{below, folded-sum, fold-inputs, fold-sums}
 
 -- a test that is asked only where another one passes
-pub pick : (b d : Bool) → b ≡ true → T (not b || d) → T d
-pick true d e t = t
-pick false d e t = absurd (subst T (sym e) tt)
+pub implied : (b d : Bool) → b ≡ true → T (not b || d) → T d
+implied true d e t = t
+implied false d e t = absurd (false≢true e)
 
 -- ---- the tests of a class
 abbrev rowFolds : ℕ → ℕ → ℕ → ℕ → ℕ → ℕ → Bool
@@ -60,7 +60,7 @@ module _ (n p q c : ℕ) (t : T (folds n p q c)) where
   row-of k i h l = allTo-at n (rowFolds n p q c k) (and-right (below (width p q c) (parts p q c k)) (allTo n (rowFolds n p q c k)) (place-of k h)) i l
 
   row-folds : (k i : ℕ) → k < n → i < n → classOf p q i ≡ c → S n i k ≡ folded (S n i) (parts p q c k)
-  row-folds k i h l e = eqZ→eq (S n i k) (folded (S n i) (parts p q c k)) (pick (eqb (classOf p q i) c) (eqZ (S n i k) (folded (S n i) (parts p q c k))) (eq-eqb (classOf p q i) c e) (row-of k i h l))
+  row-folds k i h l e = eqZ→eq (S n i k) (folded (S n i) (parts p q c k)) (implied (eqb (classOf p q i) c) (eqZ (S n i k) (folded (S n i) (parts p q c k))) (eq-eqb (classOf p q i) c e) (row-of k i h l))
 
   -- a number that the inputs are folded to, seen from the places
   gathered : (x : ℕ → ℤ) (g : ℕ) → g < width p q c → folded x (into n p q c g) ≡ sum n (λ k. occurrence (parts p q c k) g *ℤ x k)

@@ -5,7 +5,8 @@ use mathlib.Core.Bool.{Bool, true, false, _||_}
 use mathlib.Core.List.{List}
 use Prim.Native.Nat.{ℕ, suc, _-_, _<_}
 use native.Mathlib.Omega.{arith}
-use lib.Dec.{T, eqb, eqb→eq}
+use borrow.Author.Tests.{eqb-true}
+use lib.Dec.{eqb}
 use lib.ListN.{length}
 use lib.IntN.{ℤ, _*ℤ_}
 use Rattle.algebra.specs.Sum.{sum}
@@ -19,9 +20,6 @@ use Rattle.folding.specs.Folds.{odd}
 use Rattle.folding.specs.Lines.{turned, alternated, reading, used, isFolded, isShared, kindOf}
 use Rattle.folding.specs.Steps.{Front}
 use Rattle.folding.proofs.Reading.{turned-in, turned-twice}
-
-pub eqb-true : (a b : ℕ) → eqb a b ≡ true → a ≡ b
-eqb-true a b e = eqb→eq a b (subst T (sym e) tt)
 
 sum-turned : (back : Bool) (n : ℕ) (f : ℕ → ℤ) → sum n (λ k. f (turned back n k)) ≡ sum n f
 sum-turned true n f = sum-cong n (λ k. f (n - 1 - k)) (λ k. f (n - suc k)) (λ k h. ap f (omega arith)) ∙ sym (sum-rev n f)

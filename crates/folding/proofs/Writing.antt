@@ -4,7 +4,7 @@ use mathlib.Core.Bool.{Bool, true, false, not, _||_}
 use mathlib.Core.List.{List}
 use Prim.Native.Nat.{ℕ, _≤_, _<_}
 use native.Mathlib.Omega.{arith}
-use borrow.Author.Tests.{eq-eqb}
+use borrow.Author.Tests.{eqb-true, eqb-false}
 use lib.Dec.{T, eqb, eqb→eq}
 use lib.ListN.{length, set, length-set}
 use lib.Seq.{getD-set-same, getD-set-other}
@@ -16,14 +16,8 @@ use Rattle.tables.specs.Table.{Table}
 use Rattle.folding.specs.Folds.{classOf, width}
 use Rattle.folding.specs.Lines.{alternated, reading, kindOf}
 use Rattle.folding.specs.Steps.{Gathered, Ready, Put, Wrote, shortSum}
-use Rattle.folding.proofs.Classes.{pick, folds, short-is}
-use Rattle.folding.proofs.TwoKinds.{eqb-true, output, forward-whole}
-
-eqb-false : (a b : ℕ) → eqb a b ≡ false → a ≡ b → ⊥
-eqb-false a b e d = never (sym (eq-eqb a b d) ∙ e)
-  where
-    never : true ≡ false → ⊥
-    never z = subst T z tt
+use Rattle.folding.proofs.Classes.{implied, folds, short-is}
+use Rattle.folding.proofs.TwoKinds.{output, forward-whole}
 
 -- one row
 pub put-one : {n i : ℕ} {f : ℕ → ℤ} {y z : List ℤ} → Put i (f i) y z → Wrote n (eqb i) f y z
@@ -79,7 +73,7 @@ unfolding output
 of-class n p q c back x {P} {t} f g e w =
     record {
       long = w .long;
-      these = λ k h b. w .these k h b ∙ ap (alternated back k) (short-is n p q c f (reading back n x) t (g .are) k h (eqb→eq (classOf p q k) c (pick (P k) (eqb (classOf p q k) c) b (allTo-at n (λ k. not (P k) || eqb (classOf p q k) c) e k h))));
+      these = λ k h b. w .these k h b ∙ ap (alternated back k) (short-is n p q c f (reading back n x) t (g .are) k h (eqb→eq (classOf p q k) c (implied (P k) (eqb (classOf p q k) c) b (allTo-at n (λ k. not (P k) || eqb (classOf p q k) c) e k h))));
       others = w .others;
     }
 

@@ -1,6 +1,6 @@
 -- The largest and the smallest of some numbers: where neither is too large, none is. Assumes nothing.
 use mathlib.Core.Path.{_≡_}
-use mathlib.Core.Bool.{true, false}
+use mathlib.Core.Bool.{true, false, true≢false, false≢true}
 use mathlib.Core.List.{List}
 use Prim.Native.Nat.{ℕ, _≤_, _<_}
 use native.Mathlib.Omega.{arith}
@@ -22,11 +22,11 @@ le-then {a} {b} {c} p q = parts-le a c (omega (arith, le-parts p, le-parts q))
 pub lt-le : (a b : ℤ) → ltZ a b ≡ true → a ≤ℤ b
 lt-le a b =
     order-cases a b (λ t. t ≡ true → a ≤ℤ b) (λ l e. parts-le a b (omega (arith, lt-parts l)))
-    (λ l e. absurd (let z : _≡_ {A = ℕ} 0 1 = cc in omega arith))
+    (λ l e. absurd (false≢true e))
 
 pub not-lt-le : (a b : ℤ) → ltZ a b ≡ false → b ≤ℤ a
 not-lt-le a b =
-    order-cases a b (λ t. t ≡ false → b ≤ℤ a) (λ l e. absurd (let z : _≡_ {A = ℕ} 0 1 = cc in omega arith)) (λ l e. l)
+    order-cases a b (λ t. t ≡ false → b ≤ℤ a) (λ l e. absurd (true≢false e)) (λ l e. l)
 
 pub between : {M : ℕ} (z low high : ℤ) → low ≤ℤ z → z ≤ℤ high → natAbs low ≤ M → natAbs high ≤ M → natAbs z ≤ M
 between {M} z low high l h a b = parts-abs z M (omega (arith, le-parts h, abs-parts high)) (omega (arith, le-parts l, abs-parts low))

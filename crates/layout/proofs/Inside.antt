@@ -1,7 +1,7 @@
 -- Parts of a block outside of which it is zero: the live part, as it was found by its rows and then by its columns; and the kept part,
 -- by the hunt for 8, which finds nothing outside of it just where the block is zero there. Over any plan. Assumes nothing.
 use mathlib.Core.Path.{_≡_, refl, sym, _∙_, subst}
-use mathlib.Core.Bool.{Bool, true, false, not, _&&_, and-false}
+use mathlib.Core.Bool.{Bool, true, false, not, _&&_, and-false, true≢false}
 use mathlib.Core.List.{List}
 use Prim.Native.Nat.{ℕ, _+_, _*_, _/_, _%_, _≤_, _<_}
 use native.Mathlib.Nat.{mul-comm, zero-add, mul-le-mul-right}
@@ -67,7 +67,7 @@ module _ (p : Plan) (c : List ℤ) (long : length c ≡ p .width * p .height) wh
         where
           test : (t : Bool) → not t && true ≡ false → t ≡ true
           test true q = refl
-          test false q = absurd (let z : _≡_ {A = ℕ} 0 1 = cc in omega arith)
+          test false q = absurd (true≢false q)
 
       out : (x y : ℕ) → x < w → y < h → ltb x (p .columns) && ltb y (p .rows) ≡ false → at c (x + y * w) ≡ pos 0
       out x y g v e =

@@ -1,6 +1,6 @@
 -- Looking for something that is not 0, and halving what has nothing. Assumes nothing.
 use mathlib.Core.Path.{_≡_, refl, sym, ap, _∙_, subst}
-use mathlib.Core.Bool.{true, false}
+use mathlib.Core.Bool.{true}
 use mathlib.Core.List.{List}
 use Prim.Native.Nat.{ℕ, _+_, _*_, _-_, _/_, _≤_, _<_}
 use native.Mathlib.Nat.{add-comm, mul-one, sub-zero}
@@ -13,9 +13,6 @@ use Rattle.algebra.specs.Lists.{at}
 use Rattle.meaning.specs.Shape.{isSize}
 use Rattle.meaning.proofs.Cases.{size-cases}
 use Rattle.layout.specs.Live.{Clear, Live, Unseen, LiveColumns}
-
-pub true-not-false : true ≡ false → ⊥
-true-not-false e = let z : _≡_ {A = ℕ} 0 1 = cc in omega arith
 
 -- ---- a stretch of nothing
 pub clear-more : (c : List ℤ) (a i : ℕ) → Clear c a i → at c i ≡ pos 0 → Clear c a (i + 1)

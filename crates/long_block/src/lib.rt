@@ -1,9 +1,6 @@
 // The second edition's long numbers (document 02, Wish 14): the inverse of a block with coefficients and middle values of 32 bits and
 // sums of 64, whose range and last shift follow the extended-precision switch. One public function, `inverse`, and its contract is
 // `longOutcome` of meaning/specs/Long; read that first, then `long_stages`. What each function there asks, `inverse` has seen to.
-mod check;
-
-use crate::check::long_refusal;
 use long_stages::hunt;
 use long_stages::live;
 use long_stages::rules;
@@ -11,6 +8,7 @@ use long_stages::stages;
 use meaning::Answer;
 use meaning::Shape;
 use meaning::acceptance;
+use meaning::block_refusal;
 use meaning::refusal;
 ghost use mathlib.Core.Path.{_≡_};
 ghost use Rattle.meaning.specs.Answer.{Outcome};
@@ -20,7 +18,7 @@ ghost use Rattle.meaning.specs.Long.{longOutcome};
 pub fn inverse(shape: Shape, extended: bool, coefficients: &[i32], residuals: &mut [i32]) -> Answer
     ensures { λ r. ⌜ _≡_ {A = Outcome} (r, now (residuals .exit)) (longOutcome extended shape (now (coefficients .entry)) (now (residuals .entry))) ⌝ }
 {
-    let number = long_refusal(shape, extended, coefficients.len(), residuals.len());
+    let number = block_refusal(shape, extended, coefficients.len(), residuals.len());
     if number != 0 {
         return refusal(number, 0);
     }

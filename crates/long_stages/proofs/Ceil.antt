@@ -10,9 +10,6 @@ use Rattle.meaning.proofs.Cases.{size-cases}
 pub size-even : (n : ℕ) → isSize n ≡ true → 2 * (n / 2) ≡ n
 size-even = size-cases (λ n. 2 * (n / 2) ≡ n) refl refl refl refl
 
-pub size-some : (n : ℕ) → isSize n ≡ true → 4 ≤ n
-size-some = size-cases (λ n. 4 ≤ n) (omega arith) (omega arith) (omega arith) (omega arith)
-
 pub ceil : (u m q : ℕ) → 0 < m → u ≤ q * m → ((u + (m - 1)) / m ≤ q) × (u ≤ (u + (m - 1)) / m * m)
 ceil u m q s l =
     let k = u + (m - 1) in

@@ -44,7 +44,7 @@ module _ (extended : Bool) (sh : Shape) (rows columns : ℕ) (c out : List ℤ) 
   abbrev h : ℕ
   h = sh .height
 
-  keeps-zero : clip (rangeOf R) (pos 0) ≡ pos 0
+  pub keeps-zero : clip (rangeOf R) (pos 0) ≡ pos 0
   keeps-zero = clip-same (rangeOf R) (pos 0) (around R .low) (around R .high)
 
   abbrev mid : ℕ → ℕ → ℤ

@@ -7,9 +7,8 @@ use mir.Syntax.{w32}
 use mir.Val.{SFits}
 use Rattle.algebra.specs.Shift.{nearest}
 use Rattle.meaning.specs.declared.Shape.{Shape}
-use Rattle.meaning.specs.Shape.{isLongDepth}
 use Rattle.meaning.specs.Plan.{rangeOf}
-use Rattle.meaning.specs.Taken.{TakenBlockBy}
+use Rattle.meaning.specs.Taken.{TakenLongBlock}
 use Rattle.meaning.specs.Inverse.{rounded, middle, railed, count}
 use Rattle.layout.specs.Part.{Part}
 use Rattle.long_stages.specs.Sums.{dotted, Dot}
@@ -43,6 +42,6 @@ pub record Along (t : List ℤ) (w h : ℕ) (m : List ℤ) (columns pairs last :
 
 -- ---- both: a block that was taken, zero outside of its live part, which is counted in pairs, and of its kept part
 pub record Given (extended : Bool) (sh : Shape) (rows columns : ℕ) (c out : List ℤ) : Type 0 where
-  pub block : TakenBlockBy (isLongDepth extended (sh .depth)) sh c out
+  pub block : TakenLongBlock extended sh c out
   pub live : Part (sh .width) (sh .height) (2 * columns) (2 * rows) c
   pub kept : Part (sh .width) (sh .height) (sh .columns) (sh .rows) c

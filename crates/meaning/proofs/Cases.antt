@@ -1,6 +1,7 @@
 -- What tests leave: of two parts, each of them; of a size, a kind and a depth, each of the accepted numbers, one by one.
 use mathlib.Core.Path.{_≡_, refl, sym, subst}
-use mathlib.Core.Bool.{Bool, true, false, cond, _&&_, _||_, false≢true}
+use mathlib.Core.Bool.{Bool, true, false, cond, _&&_, _||_, false≢true, and-eq-true-iff}
+use mathlib.Mathlib.Data.Bool.Basic.{or-eq-false-eq-eq-false-and-eq-false}
 use Prim.Native.Nat.{ℕ, _≤_}
 use native.Mathlib.Omega.{arith}
 use borrow.Author.Tests.{eqb-true, leb-true}
@@ -17,8 +18,10 @@ or-cases true b h f g = f h
 or-cases false b h f g = g h
 
 pub and-cases : (a b : Bool) → a && b ≡ true → (a ≡ true) × (b ≡ true)
-and-cases true b h = (refl, h)
-and-cases false b h = absurd (false≢true h)
+and-cases a b = and-eq-true-iff a b .0
+
+pub neither : (a b : Bool) → a || b ≡ false → (a ≡ false) × (b ≡ false)
+neither a b = or-eq-false-eq-eq-false-and-eq-false a b .0
 
 pub and-so : (a b : Bool) → a && b ≡ false → a ≡ true → b ≡ false
 and-so true b h e = h
@@ -26,7 +29,7 @@ and-so false b h e = absurd (false≢true e)
 
 module _ (P : ℕ → Type 0) where
   -- what holds of m holds of a number that passed the test of being m
-  at-number : (n m : ℕ) → P m → eqb n m ≡ true → P n
+  pub at-number : (n m : ℕ) → P m → eqb n m ≡ true → P n
   at-number n m p h = subst P (sym (eqb-true n m h)) p
 
   pub size-cases : P 4 → P 8 → P 16 → P 32 → (n : ℕ) → isSize n ≡ true → P n
@@ -54,9 +57,12 @@ pub line-cases : (P : ℕ → ℕ → Type 0) → P 1 4 → P 1 8 → P 1 16 →
 line-cases P s4 s8 s16 s32 c4 c8 c16 c32 d4 d8 d16 d32 kind n k s =
     kind-cases (λ m. P m n) (size-cases (P 1) s4 s8 s16 s32 n s) (size-cases (P 2) c4 c8 c16 c32 n s) (size-cases (P 0) d4 d8 d16 d32 n s) kind k
 
--- no size is above 32
+-- no size is above 32, and none below 4
 pub size-in : (n : ℕ) → isSize n ≡ true → n ≤ 32
 size-in = size-cases (λ n. n ≤ 32) (omega arith) (omega arith) (omega arith) (omega arith)
+
+pub size-some : (n : ℕ) → isSize n ≡ true → 4 ≤ n
+size-some = size-cases (λ n. 4 ≤ n) (omega arith) (omega arith) (omega arith) (omega arith)
 
 -- a size that is none of the three others
 pub thirty-two : (n : ℕ) → isSize n ≡ true → (n ≡ 4 → ⊥) → (n ≡ 8 → ⊥) → (n ≡ 16 → ⊥) → n ≡ 32

@@ -42,7 +42,7 @@ kept-of kind n k h =
     let high = leb-true k (most kind n) (both .1) in
     record { some = leb-true 1 k (both .0); within = le-trans high (most-in kind n); short = le-trans high (most-32 kind n) }
 
-module _ {deep : Bool} (sh : Shape) (t : TakenBy deep sh) where
+module _ {wide high deep : Bool} (sh : Shape) (t : TakenBy wide high deep sh) where
   both : (isKept (sh .horizontal) (sh .width) (sh .columns) ≡ true) × (isKept (sh .vertical) (sh .height) (sh .rows) ≡ true)
   unfolding keeps
   both = and-cases (isKept (sh .horizontal) (sh .width) (sh .columns)) (isKept (sh .vertical) (sh .height) (sh .rows)) (t .kept)

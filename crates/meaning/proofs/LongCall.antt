@@ -2,7 +2,7 @@
 -- demand 3 of it: |2^(7+s) · residual − exact| ≤ 64 · (A + 2^s) where the clip altered nothing (`long-demand3`,
 -- `long-demand3-call`). Assumes nothing.
 use mathlib.Core.Path.{_≡_, refl, sym, ap, _∙_, subst}
-use mathlib.Core.Bool.{Bool, true, false, _||_}
+use mathlib.Core.Bool.{Bool, false, _||_, true≢false}
 use mathlib.Core.List.{List, [], _∷_}
 use Prim.Native.Nat.{ℕ, _+_, _*_, _^_, _≤_, _<_}
 use native.Mathlib.Omega.{arith}
@@ -19,12 +19,11 @@ use Rattle.algebra.proofs.First.{first-before}
 use Rattle.algebra.proofs.Order.{le-parts, lt-parts, parts-abs}
 use Rattle.algebra.proofs.Refusals.{clear-split}
 use Rattle.meaning.specs.declared.Shape.{Shape}
-use Rattle.meaning.specs.Shape.{isLongDepth}
 use Rattle.meaning.specs.Plan.{Plan, rangeOf, longPlan}
-use Rattle.meaning.specs.Taken.{TakenBlockBy, NoneAbove}
-use Rattle.meaning.specs.Answer.{Outcome, accepted, test}
-use Rattle.meaning.specs.Inverse.{rails, inverseBlock, firstOutside, planTests}
-use Rattle.meaning.specs.Long.{beyond, firstBeyond, longShapeTests, longTests, longOutcome}
+use Rattle.meaning.specs.Taken.{TakenLongBlock, NoneAbove}
+use Rattle.meaning.specs.Answer.{Outcome, accepted}
+use Rattle.meaning.specs.Inverse.{rails, inverseBlock, firstOutside, outsideTest, planTests}
+use Rattle.meaning.specs.Long.{beyond, firstBeyond, beyondTest, longShapeTests, longTests, longOutcome}
 use Rattle.meaning.specs.Exact.{exact, weightSizes}
 use Rattle.meaning.proofs.Small.{within-places}
 use Rattle.meaning.proofs.Accepted.{no-refusal, block-clear}
@@ -35,11 +34,8 @@ use Rattle.meaning.proofs.LongRules.{last-in}
 module _ (r : Range) (z : ℤ) where
   pub inside : beyond r z ≡ false → (r .low ≤ℤ z) × (z ≤ℤ r .high)
   inside =
-      order-cases z (r .low) (λ (b : Bool). b || ltZ (r .high) z ≡ false → (r .low ≤ℤ z) × (z ≤ℤ r .high)) (λ _ e. absurd (never e))
-      (λ low. order-cases (r .high) z (λ (b : Bool). b ≡ false → (r .low ≤ℤ z) × (z ≤ℤ r .high)) (λ _ e. absurd (never e)) (λ high _. (low, high)))
-    where
-      never : true ≡ false → ⊥
-      never h = let z : _≡_ {A = ℕ} 1 0 = cc in omega arith
+      order-cases z (r .low) (λ (b : Bool). b || ltZ (r .high) z ≡ false → (r .low ≤ℤ z) × (z ≤ℤ r .high)) (λ _ e. absurd (true≢false e))
+      (λ low. order-cases (r .high) z (λ (b : Bool). b ≡ false → (r .low ≤ℤ z) × (z ≤ℤ r .high)) (λ _ e. absurd (true≢false e)) (λ high _. (low, high)))
 
   pub not-beyond : r .low ≤ℤ z → z ≤ℤ r .high → beyond r z ≡ false
   not-beyond low high =
@@ -59,22 +55,21 @@ module _ (extended : Bool) (sh : Shape) (c out : List ℤ) where
   abbrev p : Plan
   p = longPlan extended sh
 
-  pub record LongTaken : Type 0 where
-    pub block : TakenBlockBy (isLongDepth extended (sh .depth)) sh c out
+  pub record LongPassed : Type 0 where
+    pub block : TakenLongBlock extended sh c out
     pub kept : ltb (firstOutside p c) (length c) ≡ false
     pub range : ltb (firstBeyond (p .range) c) (length c) ≡ false
 
   -- number 0 says that no test applied
-  pub long-accepted : longOutcome extended sh c out .0 .number ≡ 0 → LongTaken
+  pub long-accepted : longOutcome extended sh c out .0 .number ≡ 0 → LongPassed
   long-accepted e =
       let eight = planTests (longShapeTests extended sh) p c out in
-      let last = test (ltb (firstBeyond (p .range) c) (length c)) 27 ∷ [] in
-      let both = clear-split eight last (no-refusal (longTests extended sh c out) out (accepted (rails p c), inverseBlock p c) tt e) in
-      let more = block-clear sh c out (isLongDepth extended (sh .depth)) (test (ltb (firstOutside p c) (length c)) 8 ∷ []) (both .0) in
+      let both = clear-split eight (beyondTest p c ∷ []) (no-refusal (longTests extended sh c out) out (accepted (rails p c), inverseBlock p c) tt e) in
+      let more = block-clear sh c out extended (outsideTest p c ∷ []) (both .0) in
       record { block = more .0; kept = more .1 .0; range = both .1 .0 }
 
   -- number 0, place 0, the rail count, and the block
-  pub long-done : LongTaken → longOutcome extended sh c out ≡ (accepted (rails p c), inverseBlock p c)
+  pub long-done : LongPassed → longOutcome extended sh c out ≡ (accepted (rails p c), inverseBlock p c)
   long-done t =
       let s = t .block .taken in
       rw (s .width, s .height, s .horizontal, s .vertical, s .depth, s .kept, eq-eqb (length c) (sh .width * sh .height) (t .block .long), eq-eqb (length out) (sh .width * sh .height) (t .block .room), t .kept, t .range)

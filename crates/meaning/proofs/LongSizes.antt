@@ -18,17 +18,16 @@ use Rattle.algebra.specs.Lists.{at}
 use Rattle.algebra.proofs.Order.{within, fits-in}
 use Rattle.algebra.proofs.Shift.{rounding-in}
 use Rattle.meaning.specs.declared.Shape.{Shape}
-use Rattle.meaning.specs.Shape.{isLongDepth}
 use Rattle.meaning.specs.Line.{inverseSum}
 use Rattle.meaning.specs.Plan.{Plan, reach, longPlan}
-use Rattle.meaning.specs.Taken.{TakenBy, Sized, NoneAbove}
+use Rattle.meaning.specs.Taken.{TakenLong, Sized, NoneAbove}
 use Rattle.meaning.specs.Inverse.{columnSum, middleAt, rowSum, residual}
 use Rattle.meaning.proofs.Cases.{size-in}
 use Rattle.meaning.proofs.PlanSizes.{down-sizes, along-sizes, column-part, columnSum-size, middle-size, row-part, rowSum-size, residual-size}
 use Rattle.meaning.proofs.Stages.{sized-by}
 use Rattle.meaning.proofs.LongRules.{reach-in, long-depth, last-in, around}
 
-module _ (extended : Bool) (sh : Shape) (t : TakenBy (isLongDepth extended (sh .depth)) sh) where
+module _ (extended : Bool) (sh : Shape) (t : TakenLong extended sh) where
   abbrev p : Plan
   p = longPlan extended sh
 

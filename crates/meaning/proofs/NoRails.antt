@@ -6,7 +6,7 @@
 use mathlib.Core.Path.{_≡_, refl, _∙_}
 use mathlib.Core.Bool.{Bool, true, false, not}
 use mathlib.Core.List.{List}
-use Prim.Native.Nat.{ℕ, _<_}
+use Prim.Native.Nat.{ℕ, _≤_, _<_}
 use native.Mathlib.Omega.{arith}
 use borrow.Author.Tests.{lt-ltb}
 use lib.Dec.{T}
@@ -66,3 +66,7 @@ module _ (p : Plan) (c : List ℤ) where
   inner-unaltered n x y hx hy =
       let m = middle-kept x y hx in
       m ∙ clip-inner (p .range) (rounded (columnSum p c x y)) (λ e. n x y hx hy .0 (m ∙ e)) (λ e. n x y hx hy .1 (m ∙ e))
+
+pub count-in : (b : Bool) → count b ≤ 1
+count-in true = omega arith
+count-in false = omega arith

@@ -36,7 +36,7 @@ use Rattle.meaning.proofs.PlanSizes.{Around, down-sizes, along-sizes, c
 
 -- ---- the inverse
 -- by any range and any last shift
-pub sized-by : {deep : Bool} (range : Range) (last : ℕ) (sh : Shape) → TakenBy deep sh → Sized (planBy range last sh)
+pub sized-by : {deep : Bool} (range : Range) (last : ℕ) (sh : Shape) → TakenBy (isSize (sh .width)) (isSize (sh .height)) deep sh → Sized (planBy range last sh)
 sized-by range last sh t =
     record { width = t .width; height = t .height; horizontal = t .horizontal; vertical = t .vertical; columns = columns-kept sh t .within; rows = rows-kept sh t .within }
 

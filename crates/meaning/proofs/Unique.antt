@@ -1,7 +1,8 @@
 -- Two answers that the contract of a function of this crate allows are equal: each is one equation. Assumes nothing.
 use mathlib.Core.Path.{_≡_}
 use mathlib.Core.Bool.{Bool}
-use Prim.Native.Nat.{ℕ}
+use mathlib.Core.List.{_++_}
+use Prim.Native.Nat.{ℕ, _*_}
 use Rattle.algebra.specs.Refusals.{numberOf}
 use Rattle.algebra.proofs.Unique.{one}
 use Rattle.meaning.specs.declared.Shape.{Shape}
@@ -57,6 +58,11 @@ rows-one sh = one
 -- `length_refusal`
 pub length-refusal-one : (n input output : ℕ) {r s : ℕ} → r ≡ numberOf (lengthTests n input output) → s ≡ numberOf (lengthTests n input output) → r ≡ s
 length-refusal-one n input output = one
+
+-- `block_refusal`
+pub block-refusal-one : (extended : Bool) (sh : Shape) (input output : ℕ) {r s : ℕ} → r ≡ numberOf (longShapeTests extended sh ++ lengthTests (sh .width * sh .height) input output)
+    → s ≡ numberOf (longShapeTests extended sh ++ lengthTests (sh .width * sh .height) input output) → r ≡ s
+block-refusal-one extended sh input output = one
 
 -- `line_refusal`
 pub line-refusal-one : (n kind input output : ℕ) {r s : ℕ} → r ≡ numberOf (lineTests n kind input output) → s ≡ numberOf (lineTests n kind input output) → r ≡ s

@@ -8,13 +8,13 @@ use lib.IntN.{ℤ, natAbs}
 use lib.ListN.{length}
 use Rattle.algebra.specs.Lists.{at}
 use Rattle.meaning.specs.declared.Shape.{Shape}
-use Rattle.meaning.specs.Shape.{isSize, isKind, isDepth, keeps}
+use Rattle.meaning.specs.Shape.{isSize, isKind, isDepth, isLongDepth, keeps}
 use Rattle.meaning.specs.Plan.{Plan}
 
--- past 1 to 5 and 20: a shape whose depth is tested by `deep`
-pub record TakenBy (deep : Bool) (sh : Shape) : Type 0 where
-  pub width : isSize (sh .width) ≡ true
-  pub height : isSize (sh .height) ≡ true
+-- past 1 to 5 and 20: a shape, by what its call takes for a width, a height and a depth
+pub record TakenBy (wide high deep : Bool) (sh : Shape) : Type 0 where
+  pub width : wide ≡ true
+  pub height : high ≡ true
   pub horizontal : isKind (sh .horizontal) ≡ true
   pub vertical : isKind (sh .vertical) ≡ true
   pub depth : deep ≡ true
@@ -22,15 +22,22 @@ pub record TakenBy (deep : Bool) (sh : Shape) : Type 0 where
 
 -- past 6 and 7 too: a block, its input and its output
 pub record TakenBlockBy (deep : Bool) (sh : Shape) (input output : List ℤ) : Type 0 where
-  pub taken : TakenBy deep sh
+  pub taken : TakenBy (isSize (sh .width)) (isSize (sh .height)) deep sh
   pub long : length input ≡ sh .width * sh .height
   pub room : length output ≡ sh .width * sh .height
 
 abbrev pub Taken : Shape → Type 0
-Taken sh = TakenBy (isDepth (sh .depth)) sh
+Taken sh = TakenBy (isSize (sh .width)) (isSize (sh .height)) (isDepth (sh .depth)) sh
 
 abbrev pub TakenBlock : Shape → List ℤ → List ℤ → Type 0
 TakenBlock sh input output = TakenBlockBy (isDepth (sh .depth)) sh input output
+
+-- by the call of long numbers
+abbrev pub TakenLong : Bool → Shape → Type 0
+TakenLong extended sh = TakenBy (isSize (sh .width)) (isSize (sh .height)) (isLongDepth extended (sh .depth)) sh
+
+abbrev pub TakenLongBlock : Bool → Shape → List ℤ → List ℤ → Type 0
+TakenLongBlock extended sh input output = TakenBlockBy (isLongDepth extended (sh .depth)) sh input output
 
 -- past 1, 3, 6 and 7: a line, by the lengths of its input and its output
 pub record TakenLine (n kind input output : ℕ) : Type 0 where

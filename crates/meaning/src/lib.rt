@@ -3,7 +3,8 @@
 // (proofs/). Read specs/ in that order, then of proofs/ Numbers, Sharing, H266, Sizes, PlanSizes, Stages, Parts, NoRails, NearExact,
 // of long numbers LongRules, LongSizes, LongCall and LongOff, and Unique; the others serve these or the crates above.
 ghost use mathlib.Core.Path.{_≡_};
-ghost use Prim.Native.Nat.{min};
+ghost use mathlib.Core.List.{_++_};
+ghost use Prim.Native.Nat.{_*_, min};
 ghost use Rattle.algebra.specs.Refusals.{numberOf};
 ghost use Rattle.meaning.specs.Shape.{isSize, isKind, isDepth, isLongDepth, most, isKept, keeps, shapeOf, keeping};
 ghost use Rattle.meaning.specs.Answer.{shapeTestsBy, shapeTests, lengthTests, lineTests, refused, accepted};
@@ -90,11 +91,7 @@ impl Shape {
     pub fn refusal(self) -> u32
         ensures { λ r. ⌜ r ≡ numberOf (shapeTests self) ⌝ }
     {
-        self.refusal_by(
-            is_size(self.width),
-            is_size(self.height),
-            is_depth(self.depth),
-        )
+        self.long_refusal(false)
     }
 
     /// The same of the call of long numbers.
@@ -217,6 +214,18 @@ pub fn length_refusal(n: usize, input: usize, output: usize) -> u32
         return 7;
     }
     0
+}
+
+/// 1 to 5, 20, 6 and 7 of a block, or 0: of long numbers, and with the switch off of any inverse or forward.
+pub fn block_refusal(shape: Shape, extended: bool, input: usize, output: usize) -> u32
+    ensures { λ r. ⌜ r ≡ numberOf (longShapeTests extended shape ++ lengthTests (shape .width * shape .height) input output) ⌝ }
+{
+    let number = shape.long_refusal(extended);
+    if number != 0 {
+        return number;
+    }
+    let area = shape.width as usize * shape.height as usize;
+    length_refusal(area, input, output)
 }
 
 /// 1, 3, 6 and 7 of a line, or 0.

@@ -8,18 +8,15 @@ use native.Mathlib.Omega.{arith}
 use lib.IntN.{ℤ}
 use lib.ListN.{length, drop, length-append, take-append-drop}
 use Rattle.meaning.specs.Shape.{isSize}
-use Rattle.meaning.proofs.Cases.{size-cases, size-in}
+use Rattle.meaning.proofs.Cases.{size-in, size-some}
 use Rattle.block_text.specs.Text.{digits, decimal}
 use Rattle.block_text.specs.Wrote.{Wrote}
 use Rattle.picture_samples.specs.Samples.{samples}
 use Rattle.picture_samples.proofs.Samples.{samples-length}
 use Rattle.picture.specs.Picture.{headerText, pictureOf}
 
-least : (n : ℕ) → isSize n ≡ true → 4 ≤ n
-least = size-cases (λ n. 4 ≤ n) (omega arith) (omega arith) (omega arith) (omega arith)
-
 pub area : (w h : ℕ) → isSize w ≡ true → isSize h ≡ true → (16 ≤ w * h) × (w * h ≤ 1024)
-area w h p q = (mul-le-mul (least w p) (least h q), mul-le-mul (size-in w p) (size-in h q))
+area w h p q = (mul-le-mul (size-some w p) (size-some h q), mul-le-mul (size-in w p) (size-in h q))
 
 pub header-length : (w h : ℕ) → length (headerText w h) ≡ length (decimal w) + length (decimal h) + 11
 unfolding digits decimal headerText

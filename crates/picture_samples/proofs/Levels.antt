@@ -1,6 +1,6 @@
 -- A residual that a picture can hold, and its sample. Assumes nothing.
-use mathlib.Core.Path.{_≡_, refl, sym, ap, _∙_}
-use mathlib.Core.Bool.{Bool, true, false, _||_, false≢true}
+use mathlib.Core.Path.{_≡_, ap, _∙_}
+use mathlib.Core.Bool.{false}
 use Prim.Native.Nat.{ℕ, suc, _+_, _*_, _/_, _%_, _≤_, _<_}
 use native.Mathlib.Nat.{div-add-mod'}
 use native.Mathlib.Omega.{arith}
@@ -11,11 +11,8 @@ use lib.Signed.{ltZ, nonNeg, pos-natAbs}
 use Rattle.algebra.proofs.Order.{subℕ-cases}
 use Rattle.meaning.specs.Plan.{shortRange}
 use Rattle.meaning.specs.Long.{beyond}
+use Rattle.meaning.proofs.Cases.{neither}
 use Rattle.picture_samples.specs.Samples.{level, residual}
-
-pub neither : (a b : Bool) → a || b ≡ false → (a ≡ false) × (b ≡ false)
-neither true b e = absurd (false≢true (sym e))
-neither false b e = (refl, e)
 
 pub record Inside (z : ℤ) : Type 0 where
   pub size : natAbs z ≤ 32768

@@ -10,10 +10,11 @@ use lib.ListN.{length, take, drop, getD}
 use lib.Seq.{take-suc, take-length, drop-cons}
 use Rattle.meaning.specs.Plan.{shortRange}
 use Rattle.meaning.specs.Long.{beyond}
+use Rattle.meaning.proofs.Cases.{neither}
 use Rattle.block_text.specs.Wrote.{Wrote}
 use Rattle.block_text.proofs.Writing.{andThen, retext, within}
 use Rattle.picture_samples.specs.Samples.{anyBeyond, samples, residuals}
-use Rattle.picture_samples.proofs.Levels.{neither, sample-back}
+use Rattle.picture_samples.proofs.Levels.{sample-back}
 
 pub samples-back : (zs : List ℤ) → anyBeyond zs ≡ false → residuals (samples zs) ≡ zs
 unfolding samples anyBeyond

@@ -6,7 +6,7 @@ use mathlib.Core.List.{List}
 use Prim.Native.Nat.{ℕ, _+_, _%_, _^_, _<_, max}
 use native.Mathlib.Omega.{arith}
 use native.Mathlib.Nat.{mod-eq-of-lt}
-use borrow.Author.Tests.{eqb-true, eq-eqb}
+use borrow.Author.Tests.{eqb-true, eqb-false}
 use lib.IntN.{ℤ}
 use lib.ListN.{length, length-set}
 use lib.Seq.{getD-set-same, getD-set-other}
@@ -77,7 +77,7 @@ pub taken-zero : (b : Given) → taken b ≡ true → tripAnswer (b .shape) (b .
 taken-zero b e = eqb-true (tripAnswer (b .shape) (b .residuals) .number) 0 e
 
 not-zero : (b : Given) → taken b ≡ false → tripAnswer (b .shape) (b .residuals) .number ≡ 0 → ⊥
-not-zero b e q = let y = eq-eqb (tripAnswer (b .shape) (b .residuals) .number) 0 q in let z : _≡_ {A = ℕ} 0 1 = cc in omega arith
+not-zero b e = eqb-false (tripAnswer (b .shape) (b .residuals) .number) 0 e
 
 module _ (t : List ℕ) (b : Given) (m : Room t) where
   abbrev sh : Shape

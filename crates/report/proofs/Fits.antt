@@ -1,7 +1,7 @@
 -- How large a block's numbers can be, and that no sum over 65,536 blocks leaves 64 bits: a residual that is not refused is at most
 -- 4,095 in size, a returned one at most 2^18, so a difference at most 266,239. Assumes nothing.
 use mathlib.Core.Path.{_≡_}
-use mathlib.Core.Bool.{Bool, true, false}
+use mathlib.Core.Bool.{true}
 use mathlib.Core.List.{List}
 use Prim.Native.Nat.{ℕ, _*_, _^_, _≤_}
 use native.Mathlib.Nat.{mul-le-mul}
@@ -16,16 +16,14 @@ use Rattle.meaning.specs.Plan.{planOf}
 use Rattle.meaning.specs.Inverse.{columnSum, rounded, middleAt, railed, count, rails}
 use Rattle.meaning.specs.Forward.{forwardBlock}
 use Rattle.meaning.proofs.Cases.{depth-cases}
+use Rattle.meaning.proofs.Accepted.{area-in}
+use Rattle.meaning.proofs.NoRails.{count-in}
 use Rattle.meaning.proofs.Stages.{taken-sized}
 use Rattle.report.specs.Trip.{area, railCount, returned, apart, largest, squares}
 use Rattle.report.specs.Given.{Given, taken}
 use Rattle.report.proofs.Numbers.{greatest-in, squares-in, apart-in}
-use Rattle.report.proofs.Back.{Took, took, area-in, returned-in}
+use Rattle.report.proofs.Back.{Took, took, returned-in}
 use Rattle.report.proofs.Cells.{taken-zero}
-
-one-in : (b : Bool) → count b ≤ 1
-one-in true = omega arith
-one-in false = omega arith
 
 module _ (sh : Shape) (r : List ℤ) (t : Took sh r) where
   -- no more than there are middle values
@@ -35,7 +33,7 @@ module _ (sh : Shape) (r : List ℤ) (t : Took sh r) where
       let p = planOf sh in
       let c = forwardBlock sh r in
       let f : ℕ → ℕ → ℕ = λ x y. count (railed (rounded (columnSum p c x y)) (middleAt p c x y)) in
-      let column : (x : ℕ) → sumℕ (sh .height) (f x) ≤ sh .height = λ x. omega (arith, sumℕ-mono (sh .height) (f x) (λ y. 1) (λ y _. one-in (railed (rounded (columnSum p c x y)) (middleAt p c x y))), sumℕ-const (sh .height) 1) in
+      let column : (x : ℕ) → sumℕ (sh .height) (f x) ≤ sh .height = λ x. omega (arith, sumℕ-mono (sh .height) (f x) (λ y. 1) (λ y _. count-in (railed (rounded (columnSum p c x y)) (middleAt p c x y))), sumℕ-const (sh .height) 1) in
       let all = sumℕ-mono (p .columns) (λ x. sumℕ (sh .height) (f x)) (λ x. sh .height) (λ x _. column x) in
       let kept : p .columns * sh .height ≤ area sh = mul-le-mul (taken-sized sh (t .taken) .columns) (omega arith) in
       omega (arith, all, sumℕ-const (p .columns) (sh .height), kept, area-in sh (t .taken))

@@ -1,31 +1,21 @@
 -- Where the totals of a size and a pair of kinds stand: no two of the 144 share a place (`class-apart`). Assumes nothing.
 use mathlib.Core.Path.{_≡_, refl}
-use mathlib.Core.Bool.{true, false, _&&_}
-use Prim.Native.Nat.{ℕ, zero, suc, _+_, _*_, _<_}
+use mathlib.Core.Bool.{true, _&&_}
+use Prim.Native.Nat.{ℕ, _+_, _*_, _<_}
 use native.Mathlib.Omega.{arith}
-use borrow.Author.Tests.{eqb-true, eq-eqb, ne-eqb}
+use borrow.Author.Tests.{eqb-true, eq-eqb}
 use lib.Dec.{eqb}
 use Rattle.meaning.specs.declared.Shape.{Shape}
 use Rattle.meaning.specs.Shape.{isSize, isKind}
 use Rattle.meaning.specs.Taken.{Taken}
-use Rattle.meaning.proofs.Cases.{and-cases, size-cases}
+use Rattle.meaning.proofs.Cases.{and-cases, size-cases, kind-cases}
 use Rattle.meaning.proofs.Stages.{log-in}
 use Rattle.report.specs.Totals.{side, class}
 use Rattle.report.specs.Given.{alike}
 
 -- no kind is above 2
 pub kind-in : (kind : ℕ) → isKind kind ≡ true → kind < 3
-unfolding isKind
-kind-in zero h = omega arith
-kind-in (suc zero) h = omega arith
-kind-in (suc (suc zero)) h = omega arith
-kind-in (suc (suc (suc n))) h =
-    let k = suc (suc (suc n)) in
-    let e0 : eqb k 0 ≡ false = ne-eqb k 0 (λ q. omega arith) in
-    let e1 : eqb k 1 ≡ false = ne-eqb k 1 (λ q. omega arith) in
-    let e2 : eqb k 2 ≡ false = ne-eqb k 2 (λ q. omega arith) in
-    let z : _≡_ {A = ℕ} 0 1 = cc in
-    absurd (omega arith)
+kind-in = kind-cases (λ kind. kind < 3) (omega arith) (omega arith) (omega arith)
 
 -- a size and a pair of kinds that there are
 pub record Class (sh : Shape) : Type 0 where

@@ -1,14 +1,14 @@
 -- "Each total equals a sum, or a maximum, over the blocks given, refused blocks being counted apart": after any list of at most
 -- 65,536 blocks from the empty totals, of each size and pair of kinds (`report`), of the refused (`refused-total`) and of the given
 -- (`given-total`). No sum leaves 64 bits: what stands there is the sum itself. Assumes nothing.
-use mathlib.Core.Path.{_≡_, refl, sym, ap, _∙_, subst}
+use mathlib.Core.Path.{_≡_, sym, ap, _∙_, subst}
 use mathlib.Core.Bool.{Bool, true, false, not, _&&_}
 use mathlib.Core.List.{List, [], _∷_}
 use Prim.Native.Nat.{ℕ, _+_, _*_, _%_, _^_, _<_, _≤_, max}
 use native.Mathlib.Nat.{mul-le-mul}
 use native.Mathlib.Omega.{arith}
 use native.Mathlib.Decide.{ℕ-discrete}
-use borrow.Author.Tests.{eqb-true, eq-eqb, ne-eqb}
+use borrow.Author.Tests.{eqb-true, eqb-false, eq-eqb, ne-eqb, not-true, not-false}
 use lib.Dec.{eqb}
 use lib.ListN.{length, getD-replicate, length-replicate}
 use Rattle.meaning.specs.declared.Shape.{Shape}
@@ -48,11 +48,7 @@ module _ (v : ℕ) (h : v < 144) where
       (λ y.
       let d = and-so (taken b) (eqb (class (b .shape)) v) e y in
       taken-other t b m y (v * 4 + j) (λ q. omega (arith, q, h, l))
-      (λ k i q.
-      let s : class (b .shape) ≡ v = omega (arith, q, i, l) in
-      let x = eq-eqb (class (b .shape)) v s in
-      let z : _≡_ {A = ℕ} 0 1 = cc in
-      omega arith))
+      (λ k i q. eqb-false (class (b .shape)) v d (omega (arith, q, i, l))))
       (λ n. refused-other t b m n (v * 4 + j) (λ q. omega (arith, q, h, l)) (λ q. omega (arith, q, h, l)))
 
   mine : (t : List ℕ) (b : Given) → Room t → inClass v b ≡ true → Here (place (b .shape)) (railCount (b .shape) (b .residuals)) (largest (b .shape) (b .residuals)) (squares (b .shape) (b .residuals)) t
@@ -122,21 +118,13 @@ module _ (v : ℕ) (h : v < 144) where
         raises (v * 4 + 2) (inClass v) f (other 2 (omega arith)) largest-max bs empty (empty-rooms (length bs) few) ∙ omega (arith, z)
 
 -- ---- the refused and the given
-flip : (b : Bool) → not b ≡ true → b ≡ false
-flip true e = sym e
-flip false e = refl
-
-flop : (b : Bool) → not b ≡ false → b ≡ true
-flop true e = refl
-flop false e = sym e
-
 refused-stays : (t : List ℕ) (b : Given) → Room t → not (taken b) ≡ false → total (step t b) refusedPlace ≡ total t refusedPlace
 refused-stays t b m e =
-    let y = flop (taken b) e in
+    let y = not-false (taken b) e in
     taken-other t b m y refusedPlace (λ q. omega (arith, q)) (λ k l q. omega (arith, q, l, taken-class b y))
 
 refused-more : (t : List ℕ) (b : Given) → Room t → not (taken b) ≡ true → total (step t b) refusedPlace ≡ (total t refusedPlace + 1) % 2 ^ 64
-refused-more t b m e = refused-here t b m (flip (taken b) e)
+refused-more t b m e = refused-here t b m (not-true (taken b) e)
 
 given-more : (bs : List Given) (t : List ℕ) → Rooms t (length bs) → total (afterAll t bs) givenPlace ≡ total t givenPlace + length bs
 unfolding afterAll

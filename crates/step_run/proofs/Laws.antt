@@ -1,6 +1,6 @@
 -- Signed tests read back, a step as its parts, and a list that is decoded four numbers at a time. Assumes nothing.
 use mathlib.Core.Path.{_≡_, refl, sym, ap, subst, _∙_}
-use mathlib.Core.Bool.{Bool, true, false, cond, _&&_, _||_}
+use mathlib.Core.Bool.{Bool, true, false, cond, _&&_, _||_, true≢false, false≢true, and-self, and-eq-true-iff}
 use mathlib.Core.List.{List, [], _∷_, map}
 use Prim.Native.Nat.{ℕ, zero, suc, _+_, _*_, _≤_, _<_, _^_}
 use native.Mathlib.Omega.{arith}
@@ -37,29 +37,25 @@ cell-below (negsuc n) e = refl
 
 pub cell-from : (x : ℤ) → ltZ x (pos 0) ≡ false → natAbs x ≡ cellOf x
 cell-from (pos n) e = refl
-cell-from (negsuc n) e = let f : _≡_ {A = ℕ} 0 1 = cc in absurd (omega arith)
+cell-from (negsuc n) e = absurd (true≢false e)
 
 pub count-fits : (z : ℤ) → SFits w32 z → natAbs z < 2 ^ 64
 count-fits (pos n) h = omega (arith, h .sfits)
 count-fits (negsuc n) h = omega (arith, h .sfits)
 
 pub too-low : (z : ℤ) → ltZ z (negsuc 2147483647) ≡ true → false ≡ fits32 z
-too-low (pos n) e = let f : _≡_ {A = ℕ} 0 1 = cc in absurd (omega arith)
+too-low (pos n) e = absurd (false≢true e)
 too-low (negsuc n) e = sym (le-ltb n 2147483648 (omega (arith, ltb-true 2147483647 n e)))
 
 pub too-high : (z : ℤ) → ltZ (pos 2147483647) z ≡ true → false ≡ fits32 z
 too-high (pos n) e = sym (le-ltb n 2147483648 (omega (arith, ltb-true 2147483647 n e)))
-too-high (negsuc n) e = let f : _≡_ {A = ℕ} 0 1 = cc in absurd (omega arith)
+too-high (negsuc n) e = absurd (false≢true e)
 
 pub between : (z : ℤ) → ltZ z (negsuc 2147483647) ≡ false → ltZ (pos 2147483647) z ≡ false → true ≡ fits32 z
 between (pos n) e f = sym (lt-ltb n 2147483648 (omega (arith, ltb-false 2147483647 n f)))
 between (negsuc n) e f = sym (lt-ltb n 2147483648 (omega (arith, ltb-false 2147483647 n e)))
 
 -- ---- a step, by its parts
-same : (b : Bool) → b && b ≡ b
-same true = refl
-same false = refl
-
 -- what the step is to be, from its four tests
 abbrev pub stepped : ℕ → List ℤ → List Bool → ℕ → ℕ → ℕ → ℤ → ℕ → Run (State ℤ)
 stepped n v w t a b z c =
@@ -78,22 +74,14 @@ step-parts o t a d n v w c = go (eqZ o (pos 0)) (eqZ o (pos 1)) (eqZ o (pos 2))
         (c + muls (cond x (add t a (cellOf d)) (cond y (sub t a (cellOf d)) (cond z (neg t a) (mul t a d)))))
     go true y z = refl
     go false true z = refl
-    go false false true = rw (same (ltb a n), same (getD w a false))
-    go false false false = rw (same (ltb a n), same (getD w a false))
+    go false false true = rw (and-self (ltb a n), and-self (getD w a false))
+    go false false false = rw (and-self (ltb a n), and-self (getD w a false))
 
 pub three : (t a b n : ℕ) → ltb t n && (ltb a n && ltb b n) ≡ true → (t < n) × ((a < n) × (b < n))
-three t a b n e = (
-  ltb-true t n (left (ltb t n) (ltb a n && ltb b n) e),
-  (ltb-true a n (left (ltb a n) (ltb b n) (right (ltb t n) (ltb a n && ltb b n) e)), ltb-true b n (right (ltb a n) (ltb b n) (right (ltb t n) (ltb a n && ltb b n) e))),
-)
-  where
-    left : (x y : Bool) → x && y ≡ true → x ≡ true
-    left true y h = refl
-    left false y h = h
-
-    right : (x y : Bool) → x && y ≡ true → y ≡ true
-    right true y h = h
-    right false y h = let f : _≡_ {A = ℕ} 0 1 = cc in absurd (omega arith)
+three t a b n e =
+    let one = and-eq-true-iff (ltb t n) (ltb a n && ltb b n) .0 e in
+    let two = and-eq-true-iff (ltb a n) (ltb b n) .0 (one .1) in
+    (ltb-true t n (one .0), (ltb-true a n (two .0), ltb-true b n (two .1)))
 
 -- ---- four numbers at a time
 pub decode-next : (s : List ℤ) (i : ℕ) → i + 4 ≤ length s → decode (drop i s) ≡ stepAt s i ∷ decode (drop (i + 4) s)

@@ -1,15 +1,11 @@
 -- A list that a loop fills from the front: the first i elements are s's, the others are still o's. Assumes nothing.
 use mathlib.Core.Path.{_≡_, refl, sym, ap, _∙_}
-use mathlib.Core.List.{List, [], _∷_, _++_, append-nil}
+use mathlib.Core.List.{List, [], _++_, append-nil}
 use Prim.Native.Nat.{ℕ, zero, suc, _+_, _≤_, _<_}
 use native.Mathlib.Numerals.{add-one}
 use native.Mathlib.Omega.{arith}
 use lib.ListN.{length, take, drop, getD, set, replicate, length-append, length-drop, drop-of-length-le}
-use lib.Seq.{drop-cons, take-suc, set-at, append-snoc, length-take-le}
-
-pub take-all : {A : Type 0} (s : List A) → take (length s) s ≡ s
-take-all [] = refl
-take-all (z ∷ s) = ap (λ l. z ∷ l) (take-all s)
+use lib.Seq.{drop-cons, take-length, take-suc, set-at, append-snoc, length-take-le}
 
 pub same-at : {A : Type 0} (m i : ℕ) (a : A) → getD (replicate m a) i a ≡ a
 same-at zero i a = refl
@@ -26,7 +22,7 @@ module _ {A : Type 0} (o : List A) (i : ℕ) (s : List A) where
   copy-long hs ho = simp (length-append, length-take-le, length-drop) (omega arith)
 
   pub copied : i ≡ length s → take i s ++ drop i o ≡ s ++ drop (length s) o
-  copied e = (λ j. take (e j) s ++ drop (e j) o) ∙ ap (λ l. l ++ drop (length s) o) (take-all s)
+  copied e = (λ j. take (e j) s ++ drop (e j) o) ∙ ap (λ l. l ++ drop (length s) o) (take-length s)
 
   pub all-copied : i ≡ length s → length s ≡ length o → take i s ++ drop i o ≡ s
   all-copied e l =

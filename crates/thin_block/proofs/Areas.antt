@@ -22,7 +22,7 @@ use Rattle.meaning.specs.Plan.{planOf}
 use Rattle.meaning.specs.Inverse.{middleAt, inverseBlock}
 use Rattle.thin_block.specs.Thin.{oneStage, thinResidual, thinBlock, Areas, afterOne, afterTwo, thinOutcome}
 use Rattle.thin_block.specs.Handed.{handed}
-use Rattle.thin_block.proofs.Passed.{Taken, either-way, accepted}
+use Rattle.thin_block.proofs.Passed.{TakenThin, either-way, accepted}
 use Rattle.thin_block.proofs.Handing.{thin-length, inverse-length, middles-length}
 
 module _ (sh : Shape) (c a b : List ℤ) where
@@ -44,7 +44,7 @@ module _ (sh : Shape) (c a b : List ℤ) where
 
   -- an accepted call
   module _ (number : o .answer .number ≡ 0) where
-    pub taken : Taken sh c a b
+    pub taken : TakenThin sh c a b
     taken = accepted sh c a b number .0
 
     module _ (one : oneStage sh ≡ true) where

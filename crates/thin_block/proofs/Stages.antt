@@ -1,5 +1,5 @@
 -- Two stages over all of a block: what `long_stages` gives with the switch off, with middle values a whole row apart. Assumes nothing.
-use mathlib.Core.Path.{_≡_, refl, sym, ap, _∙_, subst}
+use mathlib.Core.Path.{_≡_, sym, ap, _∙_, subst}
 use mathlib.Core.Bool.{false}
 use mathlib.Core.List.{List, _++_, append-nil}
 use Prim.Native.Nat.{ℕ, _+_, _*_, _-_, _/_, _≤_}
@@ -11,8 +11,7 @@ use Rattle.algebra.specs.Sum.{sumℕ}
 use Rattle.algebra.specs.Shift.{nearest}
 use Rattle.algebra.specs.Lists.{block}
 use Rattle.meaning.specs.declared.Shape.{Shape}
-use Rattle.meaning.specs.Shape.{isDepth, isLongDepth}
-use Rattle.meaning.specs.Taken.{TakenBlockBy}
+use Rattle.meaning.specs.Shape.{isLongDepth}
 use Rattle.meaning.specs.Plan.{shortRange, rangeOf, reach, planOf}
 use Rattle.meaning.specs.Inverse.{middle, middleAt, rails, inverseBlock}
 use Rattle.tables.specs.Stage.{Weights}
@@ -20,10 +19,6 @@ use Rattle.layout.proofs.Zipping.{size-even}
 use Rattle.long_stages.specs.Work.{columnAt, railOf, Down, rowAt, Along, Given}
 use Rattle.long_stages.proofs.Whole.{columns-given, rails-read, middles-read, rows-given, block-read}
 use Rattle.thin_block.specs.Given.{Double}
-
-depth-off : (d : ℕ) → isDepth d ≡ isLongDepth false d
-unfolding isLongDepth
-depth-off d = refl
 
 -- the coefficients in 32 bits are l, R is r
 module _ {sh : Shape} {c first second l : List ℤ} {r : ℕ} (g : Double sh c first second) (same : l ≡ c) (far : r ≡ reach false (sh .depth)) where
@@ -41,9 +36,10 @@ module _ {sh : Shape} {c first second l : List ℤ} {r : ℕ} (g : Double sh c f
 
   -- all of it is live
   given : Given false sh (h / 2) (w / 2) c second
+  unfolding isLongDepth
   given =
       record {
-        block = subst (λ deep. TakenBlockBy deep sh c second) (depth-off (sh .depth)) (g .block);
+        block = g .block;
         live = record {
           narrow = omega (arith, pairs);
           low = omega (arith, rows);

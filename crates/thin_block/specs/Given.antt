@@ -6,27 +6,19 @@ use Prim.Native.Nat.{ℕ, _*_}
 use lib.IntN.{ℤ}
 use lib.ListN.{length}
 use Rattle.meaning.specs.declared.Shape.{Shape}
-use Rattle.meaning.specs.Shape.{isSize, isKind, isDepth, keeps}
-use Rattle.meaning.specs.Taken.{TakenBlock}
+use Rattle.meaning.specs.Shape.{isDepth}
+use Rattle.meaning.specs.Taken.{TakenBy, TakenBlock, TakenLine}
 use Rattle.layout.specs.Part.{Part}
 use Rattle.thin_block.specs.Thin.{isSide, oneStage}
 
 -- past 1 to 5 and 20
-pub record TakenSides (sh : Shape) : Type 0 where
-  pub width : isSide (sh .width) (sh .height) ≡ true
-  pub height : isSide (sh .height) (sh .width) ≡ true
-  pub horizontal : isKind (sh .horizontal) ≡ true
-  pub vertical : isKind (sh .vertical) ≡ true
-  pub depth : isDepth (sh .depth) ≡ true
-  pub kept : keeps sh ≡ true
+abbrev pub TakenSides : Shape → Type 0
+TakenSides sh = TakenBy (isSide (sh .width) (sh .height)) (isSide (sh .height) (sh .width)) (isDepth (sh .depth)) sh
 
 -- a line that can be worked
 pub record Lined (n kind d : ℕ) (c out : List ℤ) : Type 0 where
-  pub size : isSize n ≡ true
-  pub known : isKind kind ≡ true
+  pub line : TakenLine n kind (length c) (length out)
   pub depth : isDepth d ≡ true
-  pub long : length c ≡ n
-  pub room : length out ≡ n
 
 -- one stage: zero outside of the kept part
 pub record Single (sh : Shape) (c out : List ℤ) : Type 0 where

@@ -6,14 +6,12 @@ use mathlib.Core.Bool.{Bool, false}
 use mathlib.Core.List.{List}
 use Prim.Native.Nat.{ℕ, _+_, _*_, _/_, _^_, _≤_, _<_}
 use native.Mathlib.Nat.{le-trans, mul-le-mul}
-use lib.IntN.{ℤ, pos, natAbs, _*ℤ_}
+use lib.IntN.{ℤ, natAbs, _*ℤ_}
 use lib.ListN.{length}
 use lib.Pow.{pow-mono}
 use Rattle.algebra.specs.Sum.{sum}
-use Rattle.algebra.specs.Clip.{clip}
 use Rattle.algebra.specs.Lists.{at}
 use Rattle.algebra.proofs.Sum.{sum-cong}
-use Rattle.algebra.proofs.Clip.{clip-same}
 use Rattle.meaning.specs.declared.Shape.{Shape}
 use Rattle.meaning.specs.Weights.{weight}
 use Rattle.meaning.specs.Plan.{Plan, rangeOf, reach, longPlan}
@@ -30,7 +28,7 @@ use Rattle.layout.proofs.Alive as alive
 use Rattle.long_stages.specs.Sums.{Dot}
 use Rattle.long_stages.specs.Work.{columnAt, Given}
 use Rattle.long_stages.proofs.Ceil.{size-even}
-use Rattle.long_stages.proofs.Whole.{laid, columns-given, column-read}
+use Rattle.long_stages.proofs.Whole.{keeps-zero, laid, columns-given, column-read}
 use Rattle.why.specs.Work.{Clean}
 
 module _ (extended : Bool) (sh : Shape) (c : List ℤ) (g : Clean extended sh c) where
@@ -65,7 +63,7 @@ module _ (extended : Bool) (sh : Shape) (c : List ℤ) (g : Clean extended sh c)
   all : Given extended sh (h / 2) (w / 2) c c
   all =
       record {
-        block = record { taken = g .passed .taken; long = g .passed .long; room = g .passed .long };
+        block = g .passed;
         live = record {
           narrow = omega (arith, even-width);
           low = omega (arith, even-height);
@@ -98,11 +96,8 @@ module _ (extended : Bool) (sh : Shape) (c : List ℤ) (g : Clean extended sh c)
         sum-cong (sh .columns) (λ i. at along (2 * x + spot (2 * w) i) *ℤ f i) (λ i. weight (sh .horizontal) w i x *ℤ g i)
         (λ i l t. along-laid .right i x (omega (arith, even-width, narrow)) hx t *ℤ e i l t)
 
-  keeps-zero : clip (rangeOf R) (pos 0) ≡ pos 0
-  keeps-zero = clip-same (rangeOf R) (pos 0) (around R .low) (around R .high)
-
   pub middle-read : (i y : ℕ) → i < w → middle (rangeOf R) (columnSum p c i y) ≡ middleAt p c i y
-  middle-read = alive.middle-is p keeps-zero c (2 * (w / 2)) (2 * (h / 2)) (all .live) (g .kept)
+  middle-read = alive.middle-is p (keeps-zero extended sh (h / 2) (w / 2) c c all) c (2 * (w / 2)) (2 * (h / 2)) (all .live) (g .kept)
 
   -- ---- sizes: 64 n times 2^R is at most 2^31
   at-most : (n z : ℕ) → n ≤ 32 → z ≤ 64 * n * 2 ^ R → z ≤ 2147483648

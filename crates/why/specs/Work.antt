@@ -1,23 +1,19 @@
 -- What the functions inside are given, and what they hand each other.
-use mathlib.Core.Path.{_≡_}
 use mathlib.Core.Bool.{Bool}
 use mathlib.Core.List.{List}
-use Prim.Native.Nat.{ℕ, _*_, _^_}
+use Prim.Native.Nat.{ℕ, _^_}
 use lib.IntN.{ℤ}
-use lib.ListN.{length}
 use Rattle.meaning.specs.declared.Shape.{Shape}
-use Rattle.meaning.specs.Shape.{isLongDepth}
 use Rattle.meaning.specs.Plan.{Plan, reach}
-use Rattle.meaning.specs.Taken.{TakenBy, NoneAbove}
+use Rattle.meaning.specs.Taken.{TakenLongBlock, NoneAbove}
 use Rattle.meaning.specs.Inverse.{rowSum}
 use Rattle.meaning.specs.Exact.{exact, middleRoundings, clippings}
 use Rattle.layout.specs.Part.{Part}
 use Rattle.why.specs.declared.sums.Sums.{Sums}
 
--- past 1 to 5, 20 and 6
-pub record Passed (extended : Bool) (sh : Shape) (c : List ℤ) : Type 0 where
-  pub taken : TakenBy (isLongDepth extended (sh .depth)) sh
-  pub long : length c ≡ sh .width * sh .height
+-- past 1 to 5, 20 and 6: a block whose output is as long as its input
+abbrev pub Passed : Bool → Shape → List ℤ → Type 0
+Passed extended sh c = TakenLongBlock extended sh c c
 
 -- past 8 and 27 too
 pub record Clean (extended : Bool) (sh : Shape) (c : List ℤ) : Type 0 where

@@ -1,4 +1,4 @@
-// The refusals in their order, and the answer.
+// The refusals after 6 in their order, and the answer.
 use crate::arith::last_rounding;
 use crate::sums::carried;
 use long_stages::hunt::first_beyond;
@@ -7,12 +7,11 @@ use long_stages::rules::last_shift;
 use long_stages::rules::reach_of;
 use meaning::Shape;
 ghost use mathlib.Core.Path.{_≡_};
-ghost use mathlib.Core.List.{[], _∷_, _++_};
+ghost use mathlib.Core.List.{[], _∷_};
 ghost use Prim.Native.Nat.{_*_, _<_};
-ghost use Rattle.algebra.specs.Refusals.{firstOf, numberOf};
-ghost use Rattle.meaning.specs.Long.{longShapeTests, beyondTest};
+ghost use Rattle.algebra.specs.Refusals.{firstOf};
+ghost use Rattle.meaning.specs.Long.{beyondTest};
 ghost use Rattle.meaning.specs.Plan.{longPlan};
-ghost use Rattle.meaning.specs.Answer.{inputTest};
 ghost use Rattle.meaning.specs.Inverse.{outsideTest};
 ghost use Rattle.why.specs.Why.{partsOf, noParts, placeTest};
 ghost use Rattle.why.specs.Work.{Passed, Clean};
@@ -27,20 +26,6 @@ pub struct Parts {
     pub middle_roundings: i64,
     pub clippings: i64,
     pub last_rounding: i64,
-}
-
-// 1 to 5, 20 and 6, or 0.
-pub fn early(shape: Shape, extended: bool, input: usize) -> u32
-    ensures { λ r. ⌜ r ≡ numberOf (longShapeTests extended shape ++ (inputTest (shape .width * shape .height) input ∷ [])) ⌝ }
-{
-    let number = shape.long_refusal(extended);
-    if number != 0 {
-        return number;
-    }
-    if input != shape.width as usize * shape.height as usize {
-        return 6;
-    }
-    0
 }
 
 // "Refusals, all four parts 0".

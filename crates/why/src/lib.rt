@@ -6,11 +6,11 @@ mod arith;
 mod sums;
 
 pub use crate::answer::Parts;
-use crate::answer::early;
 use crate::answer::later;
 use crate::answer::refused;
 use long_stages::wide::widen;
 use meaning::Shape;
+use meaning::block_refusal;
 ghost use mathlib.Core.Path.{_≡_};
 ghost use lib.ListN.{length};
 ghost use Rattle.why.specs.Why.{whyOutcome, longWhyOutcome};
@@ -27,7 +27,8 @@ pub fn parts(shape: Shape, coefficients: &[i16], place: u32) -> Parts
     ensures { λ r. ⌜ r ≡ whyOutcome shape (now (coefficients .entry)) place ⌝ }
 {
     let n = coefficients.len();
-    let number = early(shape, false, n);
+    // "those of the inverse without 7": as of an output that is as long as the input
+    let number = block_refusal(shape, false, n, n);
     if number != 0 {
         return refused(number, 0);
     }
@@ -40,7 +41,8 @@ pub fn parts(shape: Shape, coefficients: &[i16], place: u32) -> Parts
 pub fn long_parts(shape: Shape, extended: bool, coefficients: &[i32], place: u32) -> Parts
     ensures { λ r. ⌜ r ≡ longWhyOutcome extended shape (now (coefficients .entry)) place ⌝ }
 {
-    let number = early(shape, extended, coefficients.len());
+    let n = coefficients.len();
+    let number = block_refusal(shape, extended, n, n);
     if number != 0 {
         return refused(number, 0);
     }

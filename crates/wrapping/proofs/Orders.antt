@@ -13,6 +13,8 @@ use native.Mathlib.Numerals.{add-one}
 use borrow.Author.Tests.{eqb-true, ltb-true, ltb-false, lt-ltb, le-ltb, eq-eqb, ne-eqb}
 use Rattle.algebra.specs.Sum.{sumℕ}
 use Rattle.algebra.proofs.Sum.{sumℕ-add, sumℕ-cong, sumℕ-const, zero-sum}
+use Rattle.algebra.proofs.Table.{last}
+use Rattle.meaning.proofs.Cases.{and-cases}
 use Rattle.wrapping.specs.Order.{times, onceTo, isOrder, Order}
 
 one : ℕ → ℕ → ℕ
@@ -149,23 +151,12 @@ once-none l = refl
 once-at : (n : ℕ) (l : List ℕ) → onceTo n l ≡ true → (k : ℕ) → k < n → times k l ≡ 1
 unfolding onceTo
 once-at zero l e k h = absurd (not-suc-le-zero h)
-once-at (suc n) l e k h = go (eqb (times n l) 1) refl e (ℕ-discrete k n) (λ f. once-at n l f k)
-  where
-    go : (b : Bool) → eqb (times n l) 1 ≡ b → b && onceTo n l ≡ true → Dec (k ≡ n) → (onceTo n l ≡ true → k < n → times k l ≡ 1) → times k l ≡ 1
-    go true q f (yes d) on = ap (λ (m : ℕ). times m l) d ∙ eqb-true (times n l) 1 q
-    go true q f (no d) on = on f (omega arith)
-    go false q f d on = absurd (omega (arith, never f))
-      where
-        never : false ≡ true → _≡_ {A = ℕ} 0 1
-        never z = cc
+once-at (suc n) l e k h =
+    let both = and-cases (eqb (times n l) 1) (onceTo n l) e in
+    last (λ (m : ℕ). times m l ≡ 1) n k h (eqb-true (times n l) 1 (both .0)) (λ i. once-at n l (both .1) k i)
 
 pub is-order : (n : ℕ) (l : List ℕ) → isOrder n l ≡ true → Order n l
 unfolding isOrder
-is-order n l e = go (eqb (length l) n) refl e
-  where
-    go : (b : Bool) → eqb (length l) n ≡ b → b && onceTo n l ≡ true → Order n l
-    go true q f = record { long = eqb-true (length l) n q; once = once-at n l f }
-    go false q f = absurd (omega (arith, never f))
-      where
-        never : false ≡ true → _≡_ {A = ℕ} 0 1
-        never z = cc
+is-order n l e =
+    let both = and-cases (eqb (length l) n) (onceTo n l) e in
+    record { long = eqb-true (length l) n (both .0); once = once-at n l (both .1) }

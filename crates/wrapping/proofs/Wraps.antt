@@ -1,6 +1,6 @@
 -- Whole numbers modulo 2^32: a sum that wraps on the way ends on the sum. Assumes nothing.
 use mathlib.Core.Path.{_≡_, refl}
-use mathlib.Core.Bool.{true, false}
+use mathlib.Core.Bool.{true, false, true≢false}
 use Prim.Native.Nat.{ℕ, zero, suc, _+_, _-_, _%_, _^_, _<_}
 use native.Mathlib.Omega.{arith}
 use native.Mathlib.Nat.{mod-eq-of-lt}
@@ -56,4 +56,4 @@ pub of-other : (p : ℤ) → SFits w32 p → ltZ p (pos 0) ≡ false → p ≡ p
 of-other (pos n) f e =
     let m : n % 2 ^ 32 ≡ n = mod-eq-of-lt (omega (arith, f .sfits)) in
     rw m
-of-other (negsuc n) f e = let z : _≡_ {A = ℕ} 0 1 = cc in absurd (omega arith)
+of-other (negsuc n) f e = absurd (true≢false e)

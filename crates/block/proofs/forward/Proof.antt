@@ -5,18 +5,17 @@ use native.Mathlib.Omega.{arith}
 use mathlib.Core.Path.{_≡_, sym, ap, _∙_}
 use mathlib.Core.Bool.{Bool, true, false, cond}
 use mathlib.Core.List.{List, [], _∷_, _++_}
-use Prim.Native.Nat.{ℕ, _*_, _≤_}
-use native.Mathlib.Nat.{mul-le-mul}
+use Prim.Native.Nat.{ℕ, _*_}
 use borrow.Author.Tests.{lt-ltb, le-ltb}
 use lib.Dec.{ltb}
 use lib.ListN.{length}
-use Rattle.algebra.specs.Refusals.{Refusal}
+use Rattle.algebra.specs.Refusals.{Refusal, numberOf}
 use Rattle.algebra.proofs.Refusals.{refused-first, passed-first}
+use Rattle.meaning.specs.Shape.{isLongDepth}
 use Rattle.meaning.specs.Answer.{Outcome, refused, accepted, shapeTests, lengthTests}
 use Rattle.meaning.specs.Forward.{firstTooLarge, forwardBlock, forwardOutcome}
-use Rattle.meaning.proofs.Cases.{size-in}
 use Rattle.meaning.specs.Taken.{TakenBlock}
-use Rattle.meaning.proofs.Accepted.{block-taken}
+use Rattle.meaning.proofs.Accepted.{few, block-taken}
 use Rattle.meaning.proofs.Small.{none-too-large}
 use Rattle.block.proofs.forward.Statement.{statement}
 use Rattle.block.proofs.forward.Tie as tie
@@ -42,16 +41,16 @@ done s = (accepted 0, forwardBlock (s .args .shape) (s .args .residuals .now))
 abbrev expected : tie.Start → Outcome
 expected s = forwardOutcome (s .args .shape) (s .args .residuals .now) (s .args .coefficients .now)
 
+passed : (c : tie.Else1) → numberOf (first (c .before .before)) ≡ 0
+unfolding isLongDepth
+passed c = sym (c .before .block-refusal .ensures) ∙ c .if1 .left
+
 -- past 1 to 5, 20, 6 and 7, test 9 decides
 past : (c : tie.Else1) → let s = c .before .before in expected s ≡ cond (ltb (place s) (length (s .args .residuals .now))) (refusal s 9 (place s)) (done s)
-past c =
-    let s = c .before .before in
-    passed-first (second s) (refusal s) (done s) (first s) tt (sym (c .before .block-refusal .ensures) ∙ c .if1 .left)
+past c = let s = c .before .before in passed-first (second s) (refusal s) (done s) (first s) tt (passed c)
 
 taken : (c : tie.Else1) → let s = c .before .before in TakenBlock (s .args .shape) (s .args .residuals .now) (s .args .coefficients .now)
-taken c =
-    let s = c .before .before in
-    block-taken (s .args .shape) (s .args .residuals .now) (s .args .coefficients .now) (sym (c .before .block-refusal .ensures) ∙ c .if1 .left)
+taken c = let s = c .before .before in block-taken (s .args .shape) (s .args .residuals .now) (s .args .coefficients .now) (passed c)
 
 found : (c : tie.Then2) → let s = c .before .before .before .before in ltb (place s) (length (s .args .residuals .now)) ≡ true
 found c = let s = c .before .before .before .before in lt-ltb (place s) (length (s .args .residuals .now)) (omega (arith, c .if2 .taken, c .before .first-too-large .ensures))
@@ -66,6 +65,7 @@ refusal-requires : tie.Need-refusal-requires
 refusal-requires c κs = search needs
 
 returns : tie.Need-returns
+unfolding isLongDepth
 returns c =
     let s = c .before .before .before in
     (λ i. ((c .refusal .ensures ∙ ap (λ (n : ℕ). refused n 0) (c .before .before .block-refusal .ensures)) i, s .args .coefficients .now))
@@ -75,11 +75,7 @@ first-too-large-requires : tie.Need-first-too-large-requires
 first-too-large-requires c κs = (taken c .taken .depth, taken c .long)
 
 cast-refusal : tie.Need-cast-refusal
-cast-refusal c =
-    let h = c .before .before .before .before .args .shape in
-    let w = taken (c .before .before) in
-    let m : h .width * h .height ≤ 32 * 32 = mul-le-mul (size-in (h .width) (w .taken .width)) (size-in (h .height) (w .taken .height)) in
-    record { fits = omega (arith, c .if2 .taken, w .long) }
+cast-refusal c = record { fits = omega (arith, c .if2 .taken, few (c .before .before .before .before .args .shape) (taken (c .before .before))) }
 
 refusal-requires-2 : tie.Need-refusal-requires-2
 refusal-requires-2 c κs = search needs

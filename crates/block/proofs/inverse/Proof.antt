@@ -4,20 +4,20 @@ use native.Mathlib.Omega.{arith}
 use mathlib.Core.Path.{_≡_, sym, ap, _∙_}
 use mathlib.Core.Bool.{true, false}
 use mathlib.Core.List.{List, [], _∷_, _++_}
-use Prim.Native.Nat.{ℕ, _*_, _≤_}
-use native.Mathlib.Nat.{mul-comm, mul-le-mul, mul-le-mul-right}
+use Prim.Native.Nat.{ℕ, _*_}
+use native.Mathlib.Nat.{mul-comm, mul-le-mul-right}
 use borrow.Author.Tests.{lt-ltb, le-ltb}
 use lib.Dec.{ltb}
 use lib.ListN.{length}
 use Rattle.algebra.specs.Refusals.{Refusal, firstOf, numberOf}
 use Rattle.algebra.proofs.Refusals.{refused-first, passed-first}
 use Rattle.meaning.specs.declared.Answer.{Answer}
+use Rattle.meaning.specs.Shape.{isLongDepth}
 use Rattle.meaning.specs.Answer.{Outcome, refused, accepted, shapeTests, lengthTests}
 use Rattle.meaning.specs.Plan.{planOf}
 use Rattle.meaning.specs.Inverse.{rails, inverseBlock, firstOutside, inverseOutcome}
-use Rattle.meaning.proofs.Cases.{size-in}
 use Rattle.meaning.specs.Taken.{TakenBlock}
-use Rattle.meaning.proofs.Accepted.{block-taken}
+use Rattle.meaning.proofs.Accepted.{few, block-taken}
 use Rattle.meaning.proofs.KeptPart.{columns-kept, rows-kept}
 use Rattle.layout.specs.Live.{Live}
 use Rattle.layout.specs.Part.{Part}
@@ -42,6 +42,7 @@ abbrev done : tie.Start → Outcome
 done s = (accepted (rails (planOf (s .args .shape)) (s .args .coefficients .now)), inverseBlock (planOf (s .args .shape)) (s .args .coefficients .now))
 
 passed : (c : tie.Else1) → numberOf (seven (c .before .before)) ≡ 0
+unfolding isLongDepth
 passed c = sym (c .before .block-refusal .ensures) ∙ c .if1 .left
 
 past : (c : tie.Else1) → let s = c .before .before in inverseOutcome (s .args .shape) (s .args .coefficients .now) (s .args .residuals .now) ≡ firstOf (eight s) (refuse s) (done s)
@@ -57,6 +58,7 @@ refusal-requires : tie.Need-refusal-requires
 refusal-requires c κs = search needs
 
 returns : tie.Need-returns
+unfolding isLongDepth
 returns c =
     let s = c .before .before .before in
     let n = c .before .before .block-refusal .ensures in
@@ -92,10 +94,8 @@ hunt-requires c κs =
 
 cast-refusal : tie.Need-cast-refusal
 cast-refusal c =
-    let s = c .before .before .before .before .before .before in
-    let w = taken (c .before .before .before .before) in
-    let m : s .args .shape .width * s .args .shape .height ≤ 32 * 32 = mul-le-mul (size-in (s .args .shape .width) (w .taken .width)) (size-in (s .args .shape .height) (w .taken .height)) in
-    omega (arith, c .if2 .taken, w .long)
+    let E = c .before .before .before .before in
+    omega (arith, c .if2 .taken, few (E .before .before .args .shape) (taken E))
 
 refusal-requires-2 : tie.Need-refusal-requires-2
 refusal-requires-2 c κs = search needs

@@ -5,22 +5,21 @@ use mathlib.Core.Path.{_≡_, sym, ap, _∙_}
 use mathlib.Core.Bool.{true, false}
 use mathlib.Core.List.{List, [], _∷_, _++_}
 use Prim.Native.Nat.{ℕ, _+_, _*_, _≤_}
-use native.Mathlib.Nat.{mul-comm, mul-le-mul, mul-le-mul-right}
+use native.Mathlib.Nat.{mul-comm, mul-le-mul-right}
 use borrow.Author.Tests.{lt-ltb, le-ltb}
 use lib.Dec.{ltb}
 use lib.ListN.{length}
 use Rattle.algebra.specs.Refusals.{Refusal, firstOf, numberOf}
 use Rattle.algebra.proofs.Refusals.{refused-first, passed-first}
 use Rattle.meaning.specs.declared.Answer.{Answer}
-use Rattle.meaning.specs.Shape.{isLongDepth}
 use Rattle.meaning.specs.Plan.{rangeOf, reach, longPlan}
-use Rattle.meaning.specs.Taken.{TakenBlockBy}
+use Rattle.meaning.specs.Taken.{TakenLongBlock}
 use Rattle.meaning.specs.Answer.{Outcome, refused, accepted, lengthTests}
 use Rattle.meaning.specs.Inverse.{rails, inverseBlock, firstOutside}
 use Rattle.meaning.specs.Long.{firstBeyond, longShapeTests, longOutcome}
 use Rattle.meaning.proofs.Cases.{size-in}
 use Rattle.meaning.proofs.KeptPart.{columns-kept, rows-kept}
-use Rattle.meaning.proofs.Accepted.{block-taken-by}
+use Rattle.meaning.proofs.Accepted.{few, long-block-taken}
 use Rattle.meaning.proofs.LongRules.{reach-in}
 use Rattle.layout.proofs.Inside.{live-part, kept-part}
 use Rattle.long_block.proofs.inverse.Statement.{statement}
@@ -54,24 +53,16 @@ abbrev outcome : tie.Start → Outcome
 outcome s = longOutcome (s .args .extended) (s .args .shape) (s .args .coefficients .now) (s .args .residuals .now)
 
 passed : (c : tie.Else1) → numberOf (seven (c .before .before)) ≡ 0
-passed c = sym (c .before .long-refusal .ensures) ∙ c .if1 .left
+passed c = sym (c .before .block-refusal .ensures) ∙ c .if1 .left
 
 past : (c : tie.Else1) → let s = c .before .before in outcome s ≡ firstOf (eight s) (refuse s) (done s)
 past c = let s = c .before .before in passed-first (eight s) (refuse s) (done s) (seven s) tt (passed c)
 
-taken : (c : tie.Else1) → let s = c .before .before in TakenBlockBy (isLongDepth (s .args .extended) (s .args .shape .depth)) (s .args .shape) (s .args .coefficients .now) (s .args .residuals .now)
-taken c =
-    let s = c .before .before in
-    block-taken-by (s .args .shape) (s .args .coefficients .now) (s .args .residuals .now) (isLongDepth (s .args .extended) (s .args .shape .depth)) (passed c)
+taken : (c : tie.Else1) → let s = c .before .before in TakenLongBlock (s .args .extended) (s .args .shape) (s .args .coefficients .now) (s .args .residuals .now)
+taken c = let s = c .before .before in long-block-taken (s .args .shape) (s .args .coefficients .now) (s .args .residuals .now) (s .args .extended) (passed c)
 
 turned : (c : tie.Else1) → let s = c .before .before in length (s .args .coefficients .now) ≡ s .args .shape .height * s .args .shape .width
 turned c = let s = c .before .before in taken c .long ∙ mul-comm (s .args .shape .width) (s .args .shape .height)
-
-few : (c : tie.Else1) → let s = c .before .before in length (s .args .coefficients .now) ≤ 1024
-few c =
-    let s = c .before .before in
-    let m : s .args .shape .width * s .args .shape .height ≤ 32 * 32 = mul-le-mul (size-in (s .args .shape .width) (taken c .taken .width)) (size-in (s .args .shape .height) (taken c .taken .height)) in
-    omega (arith, taken c .long)
 
 -- past 8
 none-outside : (c : tie.Else2) → let s = c .before .before .before .before in length (s .args .coefficients .now) ≤ place s
@@ -88,8 +79,8 @@ beyond-is c =
     let s = c .before .before .before .before .before .before in
     c .first-beyond .ensures ∙ ap (λ (r : ℕ). firstBeyond (rangeOf r) (s .args .coefficients .now)) (c .before .reach-of .ensures)
 
-long-refusal-requires : tie.Need-long-refusal-requires
-long-refusal-requires c κs = search needs
+block-refusal-requires : tie.Need-block-refusal-requires
+block-refusal-requires c κs = search needs
 
 refusal-requires : tie.Need-refusal-requires
 refusal-requires c κs = search needs
@@ -97,7 +88,7 @@ refusal-requires c κs = search needs
 returns : tie.Need-returns
 returns c =
     let s = c .before .before .before in
-    let n = c .before .before .long-refusal .ensures in
+    let n = c .before .before .block-refusal .ensures in
     ap (λ (a : Answer). (a, s .args .residuals .now)) (c .refusal .ensures) ∙ ap (λ (n : ℕ). refuse s n 0) n
     ∙ sym (refused-first (eight s) (refuse s) (done s) (seven s) tt (λ e. c .before .if1 .taken (n ∙ e)))
 
@@ -105,7 +96,7 @@ first-outside-requires : tie.Need-first-outside-requires
 first-outside-requires c κs = taken c .long
 
 cast-refusal : tie.Need-cast-refusal
-cast-refusal c = omega (arith, c .if2 .taken, few (c .before .before))
+cast-refusal c = omega (arith, c .if2 .taken, few (c .before .before .before .before .args .shape) (taken (c .before .before)))
 
 refusal-requires-2 : tie.Need-refusal-requires-2
 refusal-requires-2 c κs = search needs
@@ -127,7 +118,9 @@ first-beyond-requires c κs =
     omega (arith, c .reach-of .ensures, reach-in (s .args .extended) (s .args .shape .depth))
 
 cast-refusal-2 : tie.Need-cast-refusal-2
-cast-refusal-2 c = omega (arith, c .if3 .taken, few (c .before .before .before .before .before))
+cast-refusal-2 c =
+    let E = c .before .before .before .before .before in
+    omega (arith, c .if3 .taken, few (E .before .before .args .shape) (taken E))
 
 refusal-requires-3 : tie.Need-refusal-requires-3
 refusal-requires-3 c κs = search needs
@@ -198,7 +191,7 @@ pub inverse-spec : {M : Type 1} → statement M
 inverse-spec =
     tie.close
     (tie.spec
-    long-refusal-requires
+    block-refusal-requires
     refusal-requires
     returns
     first-outside-requires

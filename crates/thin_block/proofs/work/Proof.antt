@@ -14,10 +14,11 @@ use lib.Seq.{length-take-le}
 use Rattle.algebra.specs.Refusals.{Refusal, firstOf, numberOf}
 use Rattle.algebra.proofs.Refusals.{refused-first, passed-first}
 use Rattle.meaning.specs.Plan.{planOf}
-use Rattle.meaning.specs.Inverse.{firstOutside}
+use Rattle.meaning.specs.Inverse.{firstOutside, outsideTest}
+use Rattle.meaning.proofs.KeptPart.{columns-kept}
 use Rattle.layout.specs.Part.{Part}
 use Rattle.thin_block.specs.Thin.{oneStage, thinShapeTests, areaTests, Areas, refused, afterOne, afterTwo, thinOutcome}
-use Rattle.thin_block.proofs.Sides.{columns-in, two-sides}
+use Rattle.thin_block.proofs.Sides.{two-sides}
 use Rattle.thin_block.proofs.Passed as passing
 use Rattle.thin_block.proofs.work.Statement.{statement}
 use Rattle.thin_block.proofs.work.Tie as tie
@@ -30,7 +31,7 @@ abbrev place : tie.Start → ℕ
 place s = firstOutside (planOf (s .args .shape)) (s .args .coefficients .now)
 
 abbrev last : tie.Start → List Refusal
-last s = record { applies = ltb (place s) (length (s .args .coefficients .now)); number = 8; place = place s } ∷ []
+last s = outsideTest (planOf (s .args .shape)) (s .args .coefficients .now) ∷ []
 
 abbrev refuse : tie.Start → ℕ → ℕ → Areas
 refuse s number place = refused (s .args .first .now) (s .args .second .now) number place
@@ -107,7 +108,7 @@ hunt-requires c κs =
     let E = c .before .before in
     let sh = E .before .before .args .shape in
     let p = passed E in (
-      (p .long, columns-in sh (p .sides)),
+      (p .long, columns-kept sh (p .sides) .within),
       record { narrow = le-refl (sh .width); low = le-refl (sh .height); right = λ x y l g. absurd (omega arith); below = λ x y g l v. absurd (omega arith) },
     )
 

@@ -3,22 +3,21 @@ use borrow.Author.Needs.{needs}
 use native.Mathlib.Omega.{arith}
 use mathlib.Core.Path.{_≡_, sym, ap, _∙_, subst}
 use mathlib.Core.Bool.{false}
-use mathlib.Core.List.{List, [], _∷_, _++_}
-use Prim.Native.Nat.{ℕ, _*_, _≤_}
+use mathlib.Core.List.{List, [], _∷_}
+use Prim.Native.Nat.{ℕ, _≤_}
 use lib.IntN.{ℤ}
 use lib.ListN.{length, length-append}
 use Rattle.algebra.specs.Refusals.{firstOf, numberOf}
-use Rattle.algebra.proofs.Refusals.{refused-first, passed-first}
 use Rattle.algebra.proofs.Lists.{part-long, part-same}
 use Rattle.meaning.specs.Shape.{isLongDepth}
 use Rattle.meaning.specs.Plan.{Plan, planOf, longPlan}
-use Rattle.meaning.specs.Answer.{shapeTests, inputTest}
-use Rattle.meaning.specs.Long.{longShapeTests, beyondTest}
+use Rattle.meaning.specs.Long.{beyondTest}
 use Rattle.meaning.specs.Inverse.{outsideTest}
+use Rattle.meaning.proofs.Accepted.{few, long-block-taken}
 use Rattle.why.specs.declared.answer.Parts.{Parts}
 use Rattle.why.specs.Why.{partsOf, noParts, placeTest, longWhyOutcome}
 use Rattle.why.specs.Work.{Passed}
-use Rattle.why.proofs.Passing.{passed, few}
+use Rattle.why.proofs.Passing.{seven, refuses, passes}
 use Rattle.why.proofs.Off.{why-off}
 use Rattle.why.proofs.parts.Statement.{statement}
 use Rattle.why.proofs.parts.Tie as tie
@@ -26,8 +25,8 @@ use Rattle.why.proofs.parts.Tie as tie
 abbrev l : tie.Start → List ℤ
 l s = s .args .coefficients .now
 
-early-requires : tie.Need-early-requires
-early-requires c κs = search needs
+block-refusal-requires : tie.Need-block-refusal-requires
+block-refusal-requires c κs = search needs
 
 refused-requires : tie.Need-refused-requires
 refused-requires c κs = search needs
@@ -38,9 +37,9 @@ returns c =
     let E = c .before .before in
     let s = E .before in
     let p = planOf (s .args .shape) in
-    let e = E .early .ensures in
+    let e = E .block-refusal .ensures in
     c .refused .ensures ∙ ap (λ (n : ℕ). noParts n 0) e
-    ∙ sym (refused-first (outsideTest p (l s) ∷ placeTest p (s .args .place) ∷ []) noParts (partsOf p (l s) (s .args .place)) (shapeTests (s .args .shape) ++ (inputTest (p .width * p .height) (length (l s)) ∷ [])) tt (λ z. c .before .if1 .taken (e ∙ z)))
+    ∙ sym (refuses false (s .args .shape) (l s) noParts (partsOf p (l s) (s .args .place)) (outsideTest p (l s) ∷ placeTest p (s .args .place) ∷ []) (λ z. c .before .if1 .taken (e ∙ z)))
 
 -- past 1 to 5, 20 and 6
 module _ (c : tie.Else1) where
@@ -53,19 +52,17 @@ module _ (c : tie.Else1) where
   abbrev later : List ℤ → Parts
   later m = firstOf (outsideTest p m ∷ beyondTest p m ∷ placeTest p (s .args .place) ∷ []) noParts (partsOf p m (s .args .place))
 
-  clear : numberOf (longShapeTests false (s .args .shape) ++ (inputTest (p .width * p .height) (length (l s)) ∷ [])) ≡ 0
-  clear = sym (c .before .early .ensures) ∙ c .if1 .left
+  clear : numberOf (seven false (s .args .shape) (l s)) ≡ 0
+  clear = sym (c .before .block-refusal .ensures) ∙ c .if1 .left
 
   taken : Passed false (s .args .shape) (l s)
-  taken = passed false (s .args .shape) (l s) clear
+  taken = long-block-taken (s .args .shape) (l s) (l s) false clear
 
   short : length (l s) ≤ 1024
-  short = omega (arith, taken .long, few false (s .args .shape) (l s) taken)
+  short = few (s .args .shape) taken
 
   past : longWhyOutcome false (s .args .shape) (l s) (s .args .place) ≡ later (l s)
-  past =
-      passed-first (outsideTest p (l s) ∷ beyondTest p (l s) ∷ placeTest p (s .args .place) ∷ []) noParts (partsOf p (l s) (s .args .place))
-      (longShapeTests false (s .args .shape) ++ (inputTest (p .width * p .height) (length (l s)) ∷ [])) tt clear
+  past = passes false (s .args .shape) (l s) noParts (partsOf p (l s) (s .args .place)) (outsideTest p (l s) ∷ beyondTest p (l s) ∷ placeTest p (s .args .place) ∷ []) clear
 
 room-requires : tie.Need-room-requires
 room-requires c κs = search needs
@@ -112,7 +109,7 @@ pub parts-spec : {M : Type 1} → statement M
 parts-spec =
     tie.close
     (tie.spec
-    early-requires
+    block-refusal-requires
     refused-requires
     returns
     room-requires

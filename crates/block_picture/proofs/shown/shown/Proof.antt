@@ -11,14 +11,11 @@ use Rattle.block_numbers.specs.Numbers.{numbers}
 use Rattle.block_run.specs.Does.{Fits}
 use Rattle.block_picture.specs.declared.shown.View.{View}
 use Rattle.block_picture.specs.Shown.{drawnAt, inverseShown}
-use Rattle.block_run.proofs.Steps.{data-fits}
+use Rattle.block_run.proofs.Steps.{bytes, data-fits}
 use Rattle.block_picture.proofs.Drawing.{is-inverse, is-forward, is-neither}
 use borrow.Author.Needs.{needs}
 use Rattle.block_picture.proofs.shown.shown.Statement.{statement}
 use Rattle.block_picture.proofs.shown.shown.Tie as tie
-
-bytes : {x : ℕ × ℕ} {l m : List ℕ} {y : ℕ × ℕ} → _≡_ {A = (ℕ × ℕ) × List ℕ} (x, l) (y, m) → l ≡ m
-bytes e = ap (λ (z : (ℕ × ℕ) × List ℕ). z .1) e
 
 pick-requires : tie.Need-pick-requires
 pick-requires c κs = search needs

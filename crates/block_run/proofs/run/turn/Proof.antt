@@ -17,17 +17,13 @@ use Rattle.block_run.specs.Does.{Fits}
 use Rattle.block_file.proofs.Shapes.{shape-range}
 use Rattle.block_text.proofs.Writing.{nothing}
 use Rattle.block_run.proofs.Turns.{same-turn, at-most}
-use Rattle.block_run.proofs.Steps.{Read, inverse-next, forward-next, no-more, same-bytes, read-on, read-data, data-follows, turn-refused, turn-inverse, turn-forward, turn-silent}
+use Rattle.block_run.proofs.Steps.{Read, inverse-next, forward-next, no-more, bytes, same-bytes, read-on, read-data, data-follows, turn-refused, turn-inverse, turn-forward, turn-silent}
 use Rattle.block_run.proofs.run.turn.Statement.{statement}
 use Rattle.block_run.proofs.run.turn.Tie as tie
 
 -- what a step that read data says
 held : (file : List ℕ) (k : Cursor) (st : Step) → st ≡ stepOf file k → st .number ≡ 0 → isData (st .tag) ≡ true → Fits (k .shape) (bytesOf file k) × Read file k (foundAt file k)
 held file k st e z t = read-data file k (sym (ap (λ (x : Step). x .number) e) ∙ z) (ap (λ (x : Step). isData (x .tag)) (sym e) ∙ t)
-
--- the bytes of a body, wherever it lies
-bytes : {p q : ℕ × ℕ} {l m : List ℕ} → _≡_ {A = (ℕ × ℕ) × List ℕ} (p, l) (q, m) → l ≡ m
-bytes e = ap (λ (x : (ℕ × ℕ) × List ℕ). x .1) e
 
 step-requires : tie.Need-step-requires
 step-requires c κs = search needs

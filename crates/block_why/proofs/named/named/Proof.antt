@@ -10,15 +10,12 @@ use Rattle.block_file.specs.Field.{isData}
 use Rattle.block_file.specs.Cursor.{foundAt}
 use Rattle.block_numbers.specs.Numbers.{numbers}
 use Rattle.block_run.specs.Does.{Fits}
-use Rattle.block_run.proofs.Steps.{data-fits}
+use Rattle.block_run.proofs.Steps.{bytes, data-fits}
 use Rattle.block_why.specs.Named.{inverseNamed}
 use Rattle.block_why.proofs.Naming.{is-inverse, is-none}
 use borrow.Author.Needs.{needs}
 use Rattle.block_why.proofs.named.named.Statement.{statement}
 use Rattle.block_why.proofs.named.named.Tie as tie
-
-bytes : {x : ℕ × ℕ} {l m : List ℕ} {y : ℕ × ℕ} → _≡_ {A = (ℕ × ℕ) × List ℕ} (x, l) (y, m) → l ≡ m
-bytes e = ap (λ (z : (ℕ × ℕ) × List ℕ). z .1) e
 
 pick-requires : tie.Need-pick-requires
 pick-requires c κs = search needs

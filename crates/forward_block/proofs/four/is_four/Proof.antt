@@ -3,21 +3,21 @@ use borrow.Author.Needs.{needs}
 use native.Mathlib.Omega.{arith}
 use borrow.Author.Tests.{eqb-true}
 use mathlib.Core.Path.{sym, _∙_}
-use Rattle.layout.proofs.Looking.{true-not-false}
+use mathlib.Core.Bool.{false≢true}
 use Rattle.forward_block.proofs.four.is_four.Statement.{statement}
 use Rattle.forward_block.proofs.four.is_four.Tie as tie
 
 returns : tie.Need-returns
-returns c e = absurd (true-not-false (sym e))
+returns c e = absurd (false≢true e)
 
 returns-2 : tie.Need-returns-2
-returns-2 c e = absurd (true-not-false (sym e))
+returns-2 c e = absurd (false≢true e)
 
 kept-columns-requires : tie.Need-kept-columns-requires
 kept-columns-requires c κs = search needs
 
 returns-3 : tie.Need-returns-3
-returns-3 c e = absurd (true-not-false (sym e))
+returns-3 c e = absurd (false≢true e)
 
 kept-rows-requires : tie.Need-kept-rows-requires
 kept-rows-requires c κs = search needs

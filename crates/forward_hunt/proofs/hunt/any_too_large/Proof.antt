@@ -1,13 +1,13 @@
 -- `hunt::any_too_large` meets its contract. Assumes nothing.
 use borrow.Author.Needs.{needs}
 use mathlib.Core.Path.{sym, _∙_, subst}
+use mathlib.Core.Bool.{true≢false}
 use Prim.Native.Nat.{_-_, _^_, _≤_}
 use borrow.Author.Tests.{ltb-false}
 use lib.IntN.{ℤ, natAbs}
 use mir.Syntax.{w16}
 use mir.Val.{toZ, ofZ}
 use mir.ValLaws.{toZ-ofZ}
-use Rattle.layout.proofs.Looking.{true-not-false}
 use Rattle.forward_hunt.proofs.Ends.{none-above}
 use Rattle.forward_hunt.proofs.hunt.any_too_large.Statement.{statement}
 use Rattle.forward_hunt.proofs.hunt.any_too_large.Tie as tie
@@ -19,7 +19,7 @@ too-large-requires : tie.Need-too-large-requires
 too-large-requires c κs = c .before .pre
 
 returns : tie.Need-returns
-returns c e = absurd (true-not-false e)
+returns c e = absurd (true≢false e)
 
 smallest-requires : tie.Need-smallest-requires
 smallest-requires c κs = search needs

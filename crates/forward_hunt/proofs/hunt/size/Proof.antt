@@ -10,6 +10,7 @@ use mir.Val.{SFits, Fits}
 use Rattle.algebra.proofs.Order.{in-fits}
 use Rattle.algebra.proofs.Signs.{below-turned, not-below}
 use Rattle.algebra.proofs.Machine.{MV, arg, lit, cast, cast-fits, sub, sub-fits, val}
+use Rattle.algebra.proofs.Signs.{below-turned, not-below}
 use Rattle.forward_hunt.proofs.hunt.size.Statement.{statement}
 use Rattle.forward_hunt.proofs.hunt.size.Tie as tie
 

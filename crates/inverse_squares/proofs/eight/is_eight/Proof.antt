@@ -2,11 +2,10 @@
 use native.Mathlib.Omega.{arith}
 use borrow.Author.Tests.{eqb-true}
 use mathlib.Core.Path.{_≡_, refl, sym, ap, _∙_}
-use mathlib.Core.Bool.{true}
+use mathlib.Core.Bool.{true, false≢true}
 use Prim.Native.Nat.{ℕ, _*_}
 use Rattle.meaning.specs.Shape.{isSize}
 use Rattle.meaning.proofs.Cases.{size-cases}
-use Rattle.layout.proofs.Looking.{true-not-false}
 use Rattle.inverse_squares.proofs.eight.is_eight.Statement.{statement}
 use Rattle.inverse_squares.proofs.eight.is_eight.Tie as tie
 
@@ -14,7 +13,7 @@ root : (n : ℕ) → isSize n ≡ true → n * n ≡ 64 → n ≡ 8
 root = size-cases (λ n. n * n ≡ 64 → n ≡ 8) (λ e. absurd (omega arith)) (λ e. refl) (λ e. absurd (omega arith)) (λ e. absurd (omega arith))
 
 returns : tie.Need-returns
-returns c e = absurd (true-not-false (sym e))
+returns c e = absurd (false≢true e)
 
 returns-2 : tie.Need-returns-2
 returns-2 c e =

@@ -3,11 +3,10 @@ use borrow.Author.Needs.{needs}
 use native.Mathlib.Omega.{arith}
 use mathlib.Core.Logic.{⊎-elim}
 use mathlib.Core.Path.{_≡_, sym, ap, _∙_, subst}
-use mathlib.Core.Bool.{false}
+use mathlib.Core.Bool.{false, true≢false}
 use Prim.Native.Nat.{ℕ, _+_, _-_, _≤_}
 use lib.ListN.{length}
 use Rattle.meaning.specs.Inverse.{count}
-use Rattle.layout.proofs.Looking.{true-not-false}
 use Rattle.inverse_stage.specs.Settled.{railsOf}
 use Rattle.inverse_stage.proofs.Railing.{rails-none, rails-next}
 use Rattle.inverse_stage.proofs.settle.any_rail.Statement.{statement}
@@ -53,7 +52,7 @@ loop-again c =
     let R = c .before in (
       omega arith,
       λ f. ⊎-elim
-          (λ t. absurd (true-not-false (sym (t .1) ∙ f)))
+          (λ t. absurd (true≢false (sym (t .1) ∙ f)))
           (λ t. omega (arith, next R, ap count (t .0 .left), R .before .before .before .before .loop .inv .1 (sym (t .1) ∙ f)))
           (c .if1 .came),
     )

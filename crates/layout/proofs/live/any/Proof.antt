@@ -2,14 +2,14 @@
 use native.Mathlib.Omega.{arith}
 use mathlib.Core.Logic.{⊎-elim}
 use mathlib.Core.Path.{_≡_, sym, ap, _∙_, subst}
-use mathlib.Core.Bool.{false}
+use mathlib.Core.Bool.{false, true≢false}
 use Prim.Native.Nat.{ℕ, _-_, _≤_}
 use mir.Syntax.{w16}
 use mir.Val.{toZ, ofZ}
 use mir.ValLaws.{toZ-ofZ}
 use Rattle.algebra.specs.Lists.{at}
 use Rattle.layout.specs.Live.{Clear}
-use Rattle.layout.proofs.Looking.{true-not-false, clear-more}
+use Rattle.layout.proofs.Looking.{clear-more}
 use Rattle.layout.proofs.live.any.Statement.{statement}
 use Rattle.layout.proofs.live.any.Tie as tie
 
@@ -43,7 +43,7 @@ loop-again c =
       omega arith,
       (
         omega arith,
-        λ e. ⊎-elim (λ t. absurd (true-not-false (sym (t .1) ∙ e))) (λ t. clear-more l (L .before .args .a) (L .loop .i) (L .loop .inv .1 .1 (sym (t .1) ∙ e)) (sym v ∙ ap (toZ w16) (t .0 .left))) (c .if1 .came),
+        λ e. ⊎-elim (λ t. absurd (true≢false (sym (t .1) ∙ e))) (λ t. clear-more l (L .before .args .a) (L .loop .i) (L .loop .inv .1 .1 (sym (t .1) ∙ e)) (sym v ∙ ap (toZ w16) (t .0 .left))) (c .if1 .came),
       ),
     )
 

@@ -1,13 +1,12 @@
 -- `small::is_small` meets its contract. Assumes nothing.
 use native.Mathlib.Omega.{arith}
 use borrow.Author.Tests.{leb-true}
-use Rattle.layout.proofs.Looking.{true-not-false}
-use mathlib.Core.Path.{sym}
+use mathlib.Core.Bool.{false≢true}
 use Rattle.layout.proofs.small.is_small.Statement.{statement}
 use Rattle.layout.proofs.small.is_small.Tie as tie
 
 returns : tie.Need-returns
-returns c e = absurd (true-not-false (sym e))
+returns c e = absurd (false≢true e)
 
 returns-2 : tie.Need-returns-2
 returns-2 c e = (omega (arith, c .before .if1 .left), leb-true _ _ e)

@@ -2,6 +2,7 @@
 use borrow.Author.Needs.{needs}
 use native.Mathlib.Omega.{arith}
 use mathlib.Core.Path.{_≡_, sym, ap, _∙_}
+use mathlib.Core.Bool.{true≢false}
 use Prim.Native.Nat.{ℕ, _+_, _*_, _-_, _≤_, _<_}
 use lib.ListN.{length}
 use lib.IntN.{pos}
@@ -11,7 +12,6 @@ use mir.ValLaws.{toZ-ofZ}
 use Rattle.algebra.specs.Lists.{at}
 use Rattle.algebra.proofs.Lists.{place-in}
 use Rattle.algebra.proofs.Table.{last}
-use Rattle.layout.proofs.Looking.{true-not-false}
 use Rattle.long_stages.proofs.live.any.Statement.{statement}
 use Rattle.long_stages.proofs.live.any.Tie as tie
 
@@ -42,7 +42,7 @@ shared-slice-copy-out-if1 : tie.Need-shared-slice-copy-out-if1 Inv-loop μ-loop
 shared-slice-copy-out-if1 c = within c
 
 returns : tie.Need-returns Inv-loop μ-loop
-returns c e = absurd (true-not-false e)
+returns c e = absurd (true≢false e)
 
 add-i : tie.Need-add-i Inv-loop μ-loop
 add-i c = search needs

@@ -5,8 +5,8 @@ use mathlib.Core.Path.{_≡_, sym, ap, _∙_}
 use Prim.Native.Nat.{ℕ, _+_, _*_, _-_, _/_, _≤_}
 use native.Mathlib.Nat.{mul-le-mul}
 use lib.ListN.{length}
-use Rattle.meaning.proofs.Cases.{size-in}
-use Rattle.long_stages.proofs.Ceil.{size-even, size-some, ceil, twice}
+use Rattle.meaning.proofs.Cases.{size-in, size-some}
+use Rattle.long_stages.proofs.Ceil.{size-even, ceil, twice}
 use Rattle.long_stages.proofs.live.row_pairs.Statement.{statement}
 use Rattle.long_stages.proofs.live.row_pairs.Tie as tie
 

@@ -4,7 +4,7 @@ use borrow.Author.Tests.{ltb-false}
 use native.Mathlib.Nat.{le-trans, mul-le-mul-right}
 use native.Mathlib.Omega.{arith}
 use mathlib.Core.Path.{_≡_}
-use mathlib.Core.Bool.{false}
+use mathlib.Core.Bool.{false, true≢false}
 use Prim.Native.Nat.{ℕ, _*_, _≤_}
 use lib.Dec.{T}
 use lib.IntN.{ℤ, pos, negsuc, natAbs}
@@ -21,7 +21,7 @@ record Small (z : ℤ) : Type 0 where
 
 small : (z : ℤ) → ltZ z (pos 0) ≡ false → ltZ (pos 128) z ≡ false → Small z
 small (pos n) a b = record { plain = tt; size = ltb-false 128 n b }
-small (negsuc n) a b = let z : _≡_ {A = ℕ} 0 1 = cc in absurd (omega arith)
+small (negsuc n) a b = absurd (true≢false a)
 
 squared : (n : ℕ) → n ≤ 128 → n * n ≤ 16384
 squared n h = le-trans (mul-le-mul-right n h) (omega arith)

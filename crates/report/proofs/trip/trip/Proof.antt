@@ -1,11 +1,31 @@
 -- `trip` meets its contract. Assumes nothing.
 use borrow.Author.Needs.{needs}
 use mathlib.Core.Path.{sym, ap, _∙_}
+use mathlib.Core.List.{List}
+use lib.IntN.{ℤ}
 use denote.Ref.{now}
+use Rattle.meaning.specs.declared.Shape.{Shape}
 use Rattle.meaning.specs.declared.Answer.{Answer}
-use Rattle.report.proofs.Back.{took, part-fit, few, part-long, part-in, largest-is, squares-is}
+use Rattle.report.proofs.Back.{Took, took, few, part-fit, part-long, part-in, largest-is, squares-is}
 use Rattle.report.proofs.trip.trip.Statement.{statement}
 use Rattle.report.proofs.trip.trip.Tie as tie
+
+-- past the refusals: what came back
+module _ (c : tie.Else1) where
+  abbrev back : tie.After-there-and-back
+  back = c .before .before .before
+
+  abbrev start : tie.After-room
+  start = back .before .before .before .before .before
+
+  abbrev sh : Shape
+  sh = start .before .args .shape
+
+  abbrev r : List ℤ
+  r = now (start .before .args .residuals)
+
+  taken : Took sh r
+  taken = took sh r (sym (ap (λ (a : Answer). a .number) (back .there-and-back .ensures .0)) ∙ c .if1 .left)
 
 room-requires : tie.Need-room-requires
 room-requires c κs = search needs
@@ -47,26 +67,12 @@ part-largest-difference-start : tie.Need-part-largest-difference-start
 part-largest-difference-start c = search needs
 
 part-largest-difference-end : tie.Need-part-largest-difference-end
-part-largest-difference-end c =
-    let s = c .before .before .before .before .before .before .before .before .before .before in
-    let sh = s .args .shape in
-    let r = now (s .args .residuals) in
-    let b = c .before .before .before .before .there-and-back in
-    let z = c .before .if1 .left in
-    let t = took sh r (sym (ap (λ (a : Answer). a .number) (b .ensures .0)) ∙ z) in
-    let n = c .before .before .before .before .before .before .before .before .before .room in
-    part-fit sh r t (n .result) (n .ensures) _ _ (b .ensures .1 z)
+part-largest-difference-end c = let E = c .before in part-fit (sh E) (r E) (taken E) _ (start E .room .ensures) _ _ (back E .there-and-back .ensures .1 (E .if1 .left))
 
 largest-difference-requires : tie.Need-largest-difference-requires
 largest-difference-requires c κs =
-    let s = c .before .before .before .before .before .before .before .before .before .before .before in
-    let sh = s .args .shape in
-    let r = now (s .args .residuals) in
-    let b = c .before .before .before .before .before .there-and-back in
-    let z = c .before .before .if1 .left in
-    let t = took sh r (sym (ap (λ (a : Answer). a .number) (b .ensures .0)) ∙ z) in
-    let n = c .before .before .before .before .before .before .before .before .before .before .room in
-    (part-long sh r t (n .result) (n .ensures) _ _ (b .ensures .1 z), part-in sh r t (n .result) (n .ensures) _ _ (b .ensures .1 z))
+    let E = c .before .before in
+    (part-long (sh E) (r E) (taken E) _ (start E .room .ensures) _ _ (back E .there-and-back .ensures .1 (E .if1 .left)), part-in (sh E) (r E) (taken E) _ (start E .room .ensures) _ _ (back E .there-and-back .ensures .1 (E .if1 .left)))
 
 sub-squared-differences : tie.Need-sub-squared-differences
 sub-squared-differences c = search needs
@@ -75,37 +81,22 @@ part-squared-differences-start : tie.Need-part-squared-differences-start
 part-squared-differences-start c = search needs
 
 part-squared-differences-end : tie.Need-part-squared-differences-end
-part-squared-differences-end c =
-    let s = c .before .before .before .before .before .before .before .before .before .before .before .before .before in
-    let sh = s .args .shape in
-    let r = now (s .args .residuals) in
-    let b = c .before .before .before .before .before .before .before .there-and-back in
-    let z = c .before .before .before .before .if1 .left in
-    let t = took sh r (sym (ap (λ (a : Answer). a .number) (b .ensures .0)) ∙ z) in
-    let n = c .before .before .before .before .before .before .before .before .before .before .before .before .room in
-    part-fit sh r t (n .result) (n .ensures) _ _ (b .ensures .1 z)
+part-squared-differences-end c = let E = c .before .before .before .before in part-fit (sh E) (r E) (taken E) _ (start E .room .ensures) _ _ (back E .there-and-back .ensures .1 (E .if1 .left))
 
 squared-differences-requires : tie.Need-squared-differences-requires
 squared-differences-requires c κs =
-    let s = c .before .before .before .before .before .before .before .before .before .before .before .before .before .before in
-    let sh = s .args .shape in
-    let r = now (s .args .residuals) in
-    let b = c .before .before .before .before .before .before .before .before .there-and-back in
-    let z = c .before .before .before .before .before .if1 .left in
-    let t = took sh r (sym (ap (λ (a : Answer). a .number) (b .ensures .0)) ∙ z) in
-    let n = c .before .before .before .before .before .before .before .before .before .before .before .before .before .room in
-    (part-long sh r t (n .result) (n .ensures) _ _ (b .ensures .1 z), few sh r t, part-in sh r t (n .result) (n .ensures) _ _ (b .ensures .1 z))
+    let E = c .before .before .before .before .before in
+    (part-long (sh E) (r E) (taken E) _ (start E .room .ensures) _ _ (back E .there-and-back .ensures .1 (E .if1 .left)), few (sh E) (r E) (taken E), part-in (sh E) (r E) (taken E) _ (start E .room .ensures) _ _ (back E .there-and-back .ensures .1 (E .if1 .left)))
 
 returns-2 : tie.Need-returns-2
 returns-2 c =
-    let s = c .before .before .before .before .before .before .before .before .before .before .before .before .before .before .before in
-    let sh = s .args .shape in
-    let r = now (s .args .residuals) in
-    let b = c .before .before .before .before .before .before .before .before .before .there-and-back in
-    let z = c .before .before .before .before .before .before .if1 .left in
-    let t = took sh r (sym (ap (λ (a : Answer). a .number) (b .ensures .0)) ∙ z) in
-    let n = c .before .before .before .before .before .before .before .before .before .before .before .before .before .before .room in
-    (b .ensures .0, λ _. (c .before .before .before .largest-difference .ensures ∙ largest-is sh r t (n .result) (n .ensures) _ _ (b .ensures .1 z), c .squared-differences .ensures ∙ squares-is sh r t (n .result) (n .ensures) _ _ (b .ensures .1 z)))
+    let E = c .before .before .before .before .before .before in (
+      back E .there-and-back .ensures .0,
+      λ _. (
+        c .before .before .before .largest-difference .ensures ∙ largest-is (sh E) (r E) (taken E) _ (start E .room .ensures) _ _ (back E .there-and-back .ensures .1 (E .if1 .left)),
+        c .squared-differences .ensures ∙ squares-is (sh E) (r E) (taken E) _ (start E .room .ensures) _ _ (back E .there-and-back .ensures .1 (E .if1 .left)),
+      ),
+    )
 
 pub trip-spec : {M : Type 1} → statement M
 trip-spec =

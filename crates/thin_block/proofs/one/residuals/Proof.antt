@@ -11,10 +11,10 @@ use Rattle.algebra.specs.Lists.{at, tabulate}
 use Rattle.algebra.specs.Shift.{nearest}
 use Rattle.algebra.proofs.Lists.{tab-at, tab-length, tab-cong}
 use Rattle.meaning.specs.Line.{inverseSum, inverseLine}
+use Rattle.meaning.specs.Taken.{TakenLine}
 use Rattle.meaning.specs.Answer.{Outcome, accepted, inverseLineOutcome}
 use Rattle.meaning.proofs.Cases.{depth-cases}
 use Rattle.thin_block.specs.Thin.{thinShift}
-use Rattle.thin_block.specs.Given.{Lined}
 use Rattle.thin_block.proofs.one.residuals.Statement.{statement}
 use Rattle.thin_block.proofs.one.residuals.Tie as tie
 
@@ -22,8 +22,8 @@ depth : (s : tie.Start) → (8 ≤ s .args .d) × (s .args .d ≤ 12)
 depth s = depth-cases (s .args .d) (s .pre .depth)
 
 -- nothing refuses the line
-done : (n kind d : ℕ) (c out : List ℤ) → Lined n kind d c out → inverseLineOutcome n kind c out ≡ (accepted 0, inverseLine kind n n (at c))
-done n kind d c out l = rw (l .size, l .known, eq-eqb (length c) n (l .long), eq-eqb (length out) n (l .room))
+done : (n kind : ℕ) (c out : List ℤ) → TakenLine n kind (length c) (length out) → inverseLineOutcome n kind c out ≡ (accepted 0, inverseLine kind n n (at c))
+done n kind c out l = rw (l .size, l .known, eq-eqb (length c) n (l .long), eq-eqb (length out) n (l .room))
 
 -- each number of it, rounded
 rounded : (n kind s : ℕ) (c l : List ℤ) → l ≡ inverseLine kind n n (at c) → tabulate (length l) (λ k. nearest s (at l k)) ≡ tabulate n (λ k. nearest s (inverseSum kind n n (at c) k))
@@ -50,7 +50,7 @@ returns c =
     let s = I .before .before in
     let a = s .args in
     c .before .round-each .ensures
-    ∙ rounded (a .n) (a .kind) (thinShift (a .d)) (a .c .now) _ (ap (λ (o : Outcome). o .1) (I .inverse-product .ensures ∙ done (a .n) (a .kind) (a .d) (a .c .now) (a .out .now) (s .pre)))
+    ∙ rounded (a .n) (a .kind) (thinShift (a .d)) (a .c .now) _ (ap (λ (o : Outcome). o .1) (I .inverse-product .ensures ∙ done (a .n) (a .kind) (a .c .now) (a .out .now) (s .pre .line)))
 
 pub residuals-spec : {M : Type 1} → statement M
 residuals-spec =

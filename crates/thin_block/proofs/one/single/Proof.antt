@@ -19,7 +19,7 @@ not-one : (c : tie.Else1) → eqb (c .before .before .args .shape .width) 1 ≡ 
 not-one c = ne-eqb _ _ (c .if1 .left)
 
 low : (c : tie.Else1) → c .before .before .args .shape .height ≡ 1
-low c = let s = c .before .before in low-side (s .args .shape) (s .pre .taken) (s .pre .thin) (not-one c)
+low c = let s = c .before .before in low-side (s .args .shape) (s .pre .thin) (not-one c)
 
 broad : (c : tie.Else1) → let s = c .before .before .args .shape in s .width * s .height ≡ s .width
 broad c = let s = c .before .before .args .shape in ap (λ (h : ℕ). s .width * h) (low c) ∙ mul-one (s .width)
@@ -31,11 +31,8 @@ residuals-requires c κs =
     let sh = s .args .shape in
     let t = s .pre .taken in
     record {
-      size = beside (sh .width) (sh .height) (E .if1 .taken) (t .width);
-      known = t .vertical;
+      line = record { size = beside (sh .width) (sh .height) (E .if1 .taken) (t .width); known = t .vertical; long = s .pre .long ∙ tall E; room = s .pre .room ∙ tall E };
       depth = t .depth;
-      long = s .pre .long ∙ tall E;
-      room = s .pre .room ∙ tall E;
     }
 
 residuals-requires-2 : tie.Need-residuals-requires-2
@@ -45,11 +42,8 @@ residuals-requires-2 c κs =
     let sh = s .args .shape in
     let t = s .pre .taken in
     record {
-      size = beside (sh .height) (sh .width) (low E) (t .height);
-      known = t .horizontal;
+      line = record { size = beside (sh .height) (sh .width) (low E) (t .height); known = t .horizontal; long = s .pre .long ∙ broad E; room = s .pre .room ∙ broad E };
       depth = t .depth;
-      long = s .pre .long ∙ broad E;
-      room = s .pre .room ∙ broad E;
     }
 
 same-length : tie.Need-same-length

@@ -13,13 +13,13 @@ use Rattle.algebra.specs.Refusals.{firstOf}
 use Rattle.meaning.specs.Plan.{Plan, rangeOf, reach, longPlan}
 use Rattle.meaning.specs.Inverse.{firstOutside, outsideTest}
 use Rattle.meaning.specs.Long.{firstBeyond, beyondTest}
+use Rattle.meaning.proofs.Accepted.{area-in, few}
 use Rattle.meaning.proofs.KeptPart.{columns-kept, rows-kept}
 use Rattle.meaning.proofs.LongCall.{none-beyond}
 use Rattle.meaning.proofs.LongRules.{reach-in}
 use Rattle.layout.proofs.Inside.{kept-part}
 use Rattle.why.specs.declared.answer.Parts.{Parts}
 use Rattle.why.specs.Why.{partsOf, noParts, placeTest}
-use Rattle.why.proofs.Passing.{few}
 use Rattle.why.proofs.answer.later.Statement.{statement}
 use Rattle.why.proofs.answer.later.Tie as tie
 
@@ -34,7 +34,7 @@ module _ (s : tie.Start) where
   answer = firstOf (outsideTest p l ∷ beyondTest p l ∷ placeTest p (s .args .place) ∷ []) noParts (partsOf p l (s .args .place))
 
   short : length l ≤ 1024
-  short = omega (arith, s .pre .long, few (s .args .extended) (s .args .shape) l (s .pre))
+  short = few (s .args .shape) (s .pre)
 
 -- past 8
 none-outside : (c : tie.Else1) → let s = c .before .before in length (l s) ≤ firstOutside (p s) (l s)
@@ -98,7 +98,7 @@ returns-2 c =
 mul-if3 : tie.Need-mul-if3
 mul-if3 c =
     let s = c .before .before .before .before .before .before in
-    omega (arith, few (s .args .extended) (s .args .shape) (l s) (s .pre))
+    omega (arith, area-in (s .args .shape) (s .pre .taken))
 
 told-requires : tie.Need-told-requires
 told-requires c κs =

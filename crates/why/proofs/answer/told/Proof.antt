@@ -12,8 +12,8 @@ use Rattle.algebra.specs.Shift.{nearest}
 use Rattle.meaning.specs.Plan.{longPlan}
 use Rattle.meaning.specs.Inverse.{rowSum, residual}
 use Rattle.meaning.specs.Exact.{exact, middleRoundings, clippings, lastRounding}
+use Rattle.meaning.proofs.Cases.{size-some}
 use Rattle.meaning.proofs.LongRules.{long-depth, last-in}
-use Rattle.long_stages.proofs.Ceil.{size-some}
 use Rattle.why.specs.declared.sums.Sums.{Sums}
 use Rattle.why.specs.Work.{Clean}
 use Rattle.why.proofs.Reading.{wide, low, row-small}

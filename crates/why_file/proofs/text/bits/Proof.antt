@@ -2,7 +2,7 @@
 use borrow.Author.Needs.{needs}
 use borrow.Author.Tests.{ltb-true}
 use mathlib.Core.Path.{_≡_}
-use mathlib.Core.Bool.{true, false}
+use mathlib.Core.Bool.{true, false, true≢false}
 use Prim.Native.Nat.{ℕ, suc, _-_, _^_, _<_}
 use native.Mathlib.Omega.{arith}
 use lib.IntN.{ℤ, pos, negsuc}
@@ -29,7 +29,7 @@ flipped (negsuc k) f e =
 plain : (z : ℤ) → SFits w64 z → ltZ (toZ w64 (ofZ w64 z)) (toZ w64 0) ≡ false → Small (toZ w64 (ofZ w64 z))
 plain (pos n) f e = record { k = n; is = toZ-ofZ w64 (pos n) f; low = f .sfits }
 plain (negsuc k) f e =
-    absurd (let e′ : ltZ (negsuc k) (pos 0) ≡ false = rw (toZ-ofZ w64 (negsuc k) f) at e in let z : _≡_ {A = ℕ} 0 1 = cc in omega arith)
+    absurd (let e′ : ltZ (negsuc k) (pos 0) ≡ false = rw (toZ-ofZ w64 (negsuc k) f) at e in true≢false e′)
 
 cast-result : tie.Need-cast-result
 cast-result c = let s = c .before in let n = flipped (s .args .z) (s .fits .z) (c .if1 .taken) in rw (n .is) (tt, record { fits = omega (arith, n .low) })

@@ -1,4 +1,4 @@
--- `check::block_refusal` meets its contract: the shape's refusal, and then the lengths. Assumes nothing.
+-- `block_refusal` meets its contract: the shape's refusal, and then the lengths. Assumes nothing.
 use borrow.Author.Needs.{needs}
 use mathlib.Core.Path.{_≡_, sym, _∙_}
 use mathlib.Core.List.{List, _++_}
@@ -7,25 +7,26 @@ use native.Mathlib.Nat.{lt-of-le-of-lt, mul-le-mul}
 use lib.Dec.{lit<}
 use Rattle.algebra.specs.Refusals.{Refusal, numberOf}
 use Rattle.algebra.proofs.Refusals.{refused-first, passed-first}
-use Rattle.meaning.specs.Answer.{shapeTests, lengthTests}
-use Rattle.block.proofs.check.block_refusal.Statement.{statement}
-use Rattle.block.proofs.check.block_refusal.Tie as tie
+use Rattle.meaning.specs.Answer.{lengthTests}
+use Rattle.meaning.specs.Long.{longShapeTests}
+use Rattle.meaning.proofs.block_refusal.Statement.{statement}
+use Rattle.meaning.proofs.block_refusal.Tie as tie
 
 abbrev lengths : tie.Start → List Refusal
 lengths s = lengthTests (s .args .shape .width * s .args .shape .height) (s .args .input) (s .args .output)
 
 -- past 1 to 5 and 20, the lengths decide
-past : (c : tie.Else1) → numberOf (shapeTests (c .before .before .args .shape) ++ lengths (c .before .before)) ≡ numberOf (lengths (c .before .before))
-past c = passed-first (lengths (c .before .before)) (λ number place. number) 0 (shapeTests (c .before .before .args .shape)) tt (sym (c .before .refusal .ensures) ∙ c .if1 .left)
+past : (c : tie.Else1) → numberOf (longShapeTests (c .before .before .args .extended) (c .before .before .args .shape) ++ lengths (c .before .before)) ≡ numberOf (lengths (c .before .before))
+past c = passed-first (lengths (c .before .before)) (λ number place. number) 0 (longShapeTests (c .before .before .args .extended) (c .before .before .args .shape)) tt (sym (c .before .long-refusal .ensures) ∙ c .if1 .left)
 
-refusal-requires : tie.Need-refusal-requires
-refusal-requires c κs = search needs
+long-refusal-requires : tie.Need-long-refusal-requires
+long-refusal-requires c κs = search needs
 
 returns : tie.Need-returns
 returns c =
     let s = c .before .before in
-    c .before .refusal .ensures
-    ∙ sym (refused-first (lengths s) (λ number place. number) 0 (shapeTests (s .args .shape)) tt (λ e. c .if1 .taken (c .before .refusal .ensures ∙ e)))
+    c .before .long-refusal .ensures
+    ∙ sym (refused-first (lengths s) (λ number place. number) 0 (longShapeTests (s .args .extended) (s .args .shape)) tt (λ e. c .if1 .taken (c .before .long-refusal .ensures ∙ e)))
 
 cast-area : tie.Need-cast-area
 cast-area c = search needs
@@ -49,7 +50,7 @@ pub block-refusal-spec : {M : Type 1} → statement M
 block-refusal-spec =
     tie.close
     (tie.spec
-    refusal-requires
+    long-refusal-requires
     returns
     cast-area
     cast-area-2
