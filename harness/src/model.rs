@@ -25,7 +25,7 @@ pub use file::{run_file, Cursor};
 pub use line::{forward_line, inverse_line};
 pub use long::inverse_long;
 pub use picture::{read_picture, write_picture};
-pub use row::inverse_row;
+pub use row::block_row;
 pub use small::{forward_4x4, inverse_4x4};
 pub use thin::inverse_thin;
 pub use why::{why, why_long};

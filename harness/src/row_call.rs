@@ -41,7 +41,7 @@ impl Asked for RowCall {
         let shapes: Vec<model::Shape> = self.shapes.iter().map(|s| (*s).into()).collect();
         let mut answers: Vec<model::Answer> = self.answers.iter().map(|a| (*a).into()).collect();
         let mut output = wide(&self.held);
-        let told = model::inverse_row(&shapes, &mut answers, &wide(&self.input), &mut output);
+        let told = model::block_row(&shapes, &mut answers, &wide(&self.input), &mut output);
         RowOutcome {
             number: number(told),
             answers: answers.into_iter().map(Answer::from).collect(),

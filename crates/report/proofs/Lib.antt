@@ -1,5 +1,3 @@
-pub mod Numbers
-pub mod Back
 pub mod Places
 pub mod Counting
 pub mod Cells

@@ -13,7 +13,7 @@ use lib.Dec.{eqb}
 use lib.ListN.{length, getD-replicate, length-replicate}
 use Rattle.meaning.specs.declared.Shape.{Shape}
 use Rattle.meaning.proofs.Cases.{and-cases, and-so}
-use Rattle.report.specs.Trip.{railCount, largest, squares}
+use Rattle.block_trip.specs.Trip.{railCount, largest, squares}
 use Rattle.report.specs.Totals.{empty, total, class, place, refusedPlace, givenPlace}
 use Rattle.report.specs.Given.{Given, afterAll, totalsOf, taken, alike, among, sumOver, maxOver}
 use Rattle.report.proofs.Fits.{rails-in, squares-fit, took-given}

@@ -9,7 +9,7 @@ use native.Mathlib.Omega.{arith}
 use lib.ListN.{length}
 use Rattle.report.specs.Totals.{total, class, givenPlace}
 use Rattle.report.specs.Given.{Given, afterAll, taken, sumOver, maxOver, Reordered, same, under, swap, then}
-use Rattle.report.proofs.Back.{took}
+use Rattle.block_trip.proofs.Back.{took}
 use Rattle.report.proofs.Places.{class-in, class-of}
 use Rattle.report.proofs.Cells.{Room, step, step-long, step-given, taken-zero, either}
 

@@ -1,3 +1,2 @@
-pub mod Trip
 pub mod Totals
 pub mod Given

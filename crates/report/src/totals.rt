@@ -1,6 +1,6 @@
 // The totals, which the caller keeps: 578 numbers, lent to each call. `add` takes one block.
-use crate::trip::larger;
-use crate::trip::trip;
+use block_trip::larger;
+use block_trip::trip;
 use meaning::Answer;
 use meaning::Shape;
 use meaning::refusal;
@@ -9,7 +9,7 @@ ghost use mathlib.Core.Bool.{true};
 ghost use mathlib.Core.List.{List};
 ghost use Prim.Native.Nat.{ℕ, _+_, _<_, _≤_};
 ghost use Rattle.meaning.specs.Shape.{isKind};
-ghost use Rattle.report.specs.Trip.{tripAnswer};
+ghost use Rattle.block_trip.specs.Trip.{tripAnswer};
 ghost use Rattle.report.specs.Totals.{empty, side, place, entered, counted, plus, addOutcome};
 
 /// The totals of no blocks.

@@ -4,7 +4,7 @@ use super::call::{refusal_at, Answer, Shape};
 use super::line::{forward_sums, inverse_sums};
 
 /// Both ends of what a middle value may be.
-pub const RAILS: [i64; 2] = [-32768, 32767];
+pub const ENDS: [i64; 2] = [-32768, 32767];
 
 /// The inverse of a block of coefficients: its last shift is "20-d".
 pub fn inverse(shape: &Shape, coefficients: &[i64], residuals: &mut [i64]) -> Answer {
@@ -12,7 +12,7 @@ pub fn inverse(shape: &Shape, coefficients: &[i64], residuals: &mut [i64]) -> An
         .refusal()
         .or_else(|| shape.length_refusal(coefficients.len(), residuals.len()))
         .or_else(|| refusal_at(8, first_outside(shape, coefficients)));
-    refusal.unwrap_or_else(|| stages(shape, RAILS, 20 - shape.depth, coefficients, residuals))
+    refusal.unwrap_or_else(|| stages(shape, ENDS, 20 - shape.depth, coefficients, residuals))
 }
 
 /// Both stages of an inverse that is taken, over the range of its middle values and its last shift s.
@@ -94,7 +94,7 @@ fn rounded(e: i64) -> i64 {
 
 /// "The middle value is (e+64)>>7, clipped to -32768..32767."
 pub fn middle(e: i64) -> i64 {
-    clipped(rounded(e), RAILS)
+    clipped(rounded(e), ENDS)
 }
 
 fn clipped(m: i64, [low, high]: [i64; 2]) -> i64 {
@@ -127,7 +127,7 @@ fn rail_count(unclipped: &[Vec<i64>], range: [i64; 2]) -> i64 {
 /// How many middle values stand at an end of the range though the clip did not alter them: those do not count.
 pub fn fair_ends(shape: &Shape, coefficients: &[i64]) -> usize {
     let unclipped = unclipped(shape, coefficients);
-    let fair = |m: &&i64| RAILS.contains(m);
+    let fair = |m: &&i64| ENDS.contains(m);
     unclipped.iter().flatten().filter(fair).count()
 }
 

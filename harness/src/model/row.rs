@@ -8,13 +8,13 @@ const MOST: usize = 64;
 
 /// The inverse of each block, "made one by one in order": an answer for each, or the number of the whole call's refusal,
 /// "with no answer per block and the output untouched".
-pub fn inverse_row(
+pub fn block_row(
     shapes: &[Shape],
     answers: &mut [Answer],
     coefficients: &[i64],
     residuals: &mut [i64],
 ) -> i64 {
-    let sum: usize = shapes.iter().map(stretch).sum();
+    let sum: usize = shapes.iter().map(span).sum();
     if shapes.len() > MOST {
         return 16;
     }
@@ -26,8 +26,8 @@ pub fn inverse_row(
     }
     let (mut input, mut output) = (coefficients, residuals);
     for (shape, answer) in shapes.iter().zip(answers) {
-        let (own, rest) = input.split_at(stretch(shape));
-        let (own_output, rest_of_output) = output.split_at_mut(stretch(shape));
+        let (own, rest) = input.split_at(span(shape));
+        let (own_output, rest_of_output) = output.split_at_mut(span(shape));
         *answer = inverse(shape, own, own_output);
         (input, output) = (rest, rest_of_output);
     }
@@ -35,7 +35,7 @@ pub fn inverse_row(
 }
 
 /// "A shape that fails 1 or 2 adds nothing to that sum"; one that another number refuses adds its w*h.
-pub fn stretch(shape: &Shape) -> usize {
+pub fn span(shape: &Shape) -> usize {
     if is_size(shape.width) && is_size(shape.height) {
         shape.area() as usize
     } else {
@@ -63,7 +63,7 @@ mod tests {
         (input[0], input[80]) = (64, 64);
         let mut output = vec![7; 96];
         let mut answers = [Answer::refused(99, 99); 6];
-        assert_eq!(inverse_row(&shapes, &mut answers, &input, &mut output), 0);
+        assert_eq!(block_row(&shapes, &mut answers, &input, &mut output), 0);
         let mut alone = vec![0; 16];
         let answer = inverse(&good, &input[..16], &mut alone);
         assert_eq!(answer.number, 0);
@@ -86,7 +86,7 @@ mod tests {
         let mut output = vec![7; 17];
         let shapes = vec![Shape::new(4, 4, 1, 1, 8); 65];
         for (count, input, number) in [(65, 3, 16), (1, 3, 6), (1, 16, 7), (0, 0, 7)] {
-            let found = inverse_row(&shapes[..count], &mut answers, &vec![0; input], &mut output);
+            let found = block_row(&shapes[..count], &mut answers, &vec![0; input], &mut output);
             assert_eq!(found, number);
         }
         assert_eq!(answers, [Answer::refused(99, 99); 65]);

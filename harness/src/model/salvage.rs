@@ -14,8 +14,8 @@ pub struct Saved {
     pub stretches: usize,
 }
 
-/// The stretches of a file, in order: each a field that was read (`true`) or one that is dropped.
-fn stretches(file: &[u8]) -> Vec<(Range<usize>, bool)> {
+/// The pieces of a file, in order: each a field that was read (`true`) or one that is dropped.
+fn pieces(file: &[u8]) -> Vec<(Range<usize>, bool)> {
     let mut found = vec![];
     let mut cursor = Cursor::new();
     while cursor.at < file.len() {
@@ -63,7 +63,7 @@ pub fn salvage(file: &[u8], out: &mut [u8], list: &mut [u32]) -> Saved {
     if out.len() < file.len() || list.len() / 2 < MOST_STRETCHES {
         return refused(7);
     }
-    let found = stretches(file);
+    let found = pieces(file);
     let dropped: Vec<_> = found.iter().filter(|(_, kept)| !kept).collect();
     if dropped.len() > MOST_STRETCHES {
         return refused(26);

@@ -1,7 +1,7 @@
 //! Document 02, Wish 4: "Why is this residual what it is?" The four parts of one residual, put over 2^(7+s), where s is the last
 //! shift: each is worked out by what it is called, and that they add up is for a test to find.
 
-use super::block::{first_outside, floor_shift, round_shift, RAILS};
+use super::block::{first_outside, floor_shift, round_shift, ENDS};
 use super::call::{first_refusal, refusal_at, Answer, Shape};
 use super::long::{deepest, ends, first_beyond, last_shift};
 use super::weights::weight;
@@ -39,7 +39,7 @@ pub fn why(shape: &Shape, coefficients: &[i64], place: i64) -> Parts {
     let beyond = || None;
     match refusal(shape, 12, coefficients, beyond, place) {
         Some(refusal) => Parts::refused(refusal),
-        None => parts(shape, RAILS, 20 - shape.depth, coefficients, place),
+        None => parts(shape, ENDS, 20 - shape.depth, coefficients, place),
     }
 }
 

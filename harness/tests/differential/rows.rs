@@ -41,7 +41,7 @@ impl Rows {
     fn compare_with_single_calls(&mut self, call: &RowCall, found: &RowOutcome) {
         let mut start = 0;
         let mut single = |shape: &Shape| {
-            let own = start..start + stretch(shape);
+            let own = start..start + span(shape);
             start = own.end;
             let (input, held) = (call.input[own.clone()].to_vec(), call.held[own].to_vec());
             self.comparison
@@ -65,12 +65,12 @@ impl Rows {
 }
 
 /// How long a block's stretch is.
-fn stretch(shape: &Shape) -> usize {
-    model::row::stretch(&(*shape).into())
+fn span(shape: &Shape) -> usize {
+    model::row::span(&(*shape).into())
 }
 
 fn sum(shapes: &[Shape]) -> usize {
-    shapes.iter().map(stretch).sum()
+    shapes.iter().map(span).sum()
 }
 
 /// Any shape of sides to `most`: every other one keeps the most, the others any part.
@@ -121,7 +121,7 @@ fn good_or_spoiled(random: &mut Random, most: u32, times: usize) -> Shape {
 /// Coefficients of a block that is accepted: small ones, or such that middle values are clipped.
 fn coefficients(random: &mut Random, shape: &Shape) -> Vec<i16> {
     let most = random.choose(&[255, 32767]);
-    let mut numbers = random.numbers(stretch(shape), -most - 1, most);
+    let mut numbers = random.numbers(span(shape), -most - 1, most);
     if !numbers.is_empty() {
         clear_outside(shape, &mut numbers);
     }

@@ -6,9 +6,9 @@ use lib.IntN.{ℤ}
 use denote.Ref.{now}
 use Rattle.meaning.specs.declared.Shape.{Shape}
 use Rattle.meaning.specs.declared.Answer.{Answer}
-use Rattle.report.proofs.Back.{Took, took, few, part-fit, part-long, part-in, largest-is, squares-is}
-use Rattle.report.proofs.trip.trip.Statement.{statement}
-use Rattle.report.proofs.trip.trip.Tie as tie
+use Rattle.block_trip.proofs.Back.{Took, took, few, part-fit, part-long, part-in, largest-is, squares-is}
+use Rattle.block_trip.proofs.trip.Statement.{statement}
+use Rattle.block_trip.proofs.trip.Tie as tie
 
 -- past the refusals: what came back
 module _ (c : tie.Else1) where

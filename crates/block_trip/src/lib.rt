@@ -1,4 +1,5 @@
-// One block, forward and back.
+// Internal: one block, forward and back, and how far it strays: what `report` adds up. `trip` says nothing of its numbers where the
+// block is refused. Read specs/Trip; of proofs/, Back (the way back refuses nothing).
 use meaning::Answer;
 use meaning::Shape;
 ghost use mathlib.Core.Path.{_≡_};
@@ -7,7 +8,7 @@ ghost use lib.IntN.{natAbs, _-ℤ_};
 ghost use lib.ListN.{length};
 ghost use Rattle.algebra.specs.Sum.{sumℕ};
 ghost use Rattle.meaning.specs.Taken.{NoneAbove};
-ghost use Rattle.report.specs.Trip.{tripAnswer, returned, apart, greatest, largest, squares};
+ghost use Rattle.block_trip.specs.Trip.{tripAnswer, returned, apart, greatest, largest, squares};
 
 // The size of a difference. What an inverse returns is no larger than 2^18.
 fn difference(given: i16, back: i32) -> u64

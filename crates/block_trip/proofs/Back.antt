@@ -28,7 +28,7 @@ use Rattle.meaning.specs.Forward.{columnValue, coefficient, forwardBlock, tooLa
 use Rattle.meaning.proofs.Accepted.{no-refusal, shape-clear, area-in, inverse-done, without-7}
 use Rattle.meaning.proofs.Small.{block-in, none-too-large}
 use Rattle.meaning.proofs.Stages.{residual-in}
-use Rattle.report.specs.Trip.{area, tripTests, tripAnswer, railCount, returned, apart, greatest, largest, squares}
+use Rattle.block_trip.specs.Trip.{area, tripTests, tripAnswer, railCount, returned, apart, greatest, largest, squares}
 
 -- ---- a block that is not refused
 pub record Took (sh : Shape) (r : List ℤ) : Type 0 where

@@ -6,12 +6,12 @@ use lib.ListN.{length}
 use mir.Syntax.{w16, w32}
 use mir.ValLaws.{toZ-ofZ}
 use Rattle.algebra.specs.Lists.{at}
-use Rattle.report.specs.Trip.{apart, greatest}
+use Rattle.block_trip.specs.Trip.{apart, greatest}
 use borrow.Author.Needs.{needs}
 use native.Mathlib.Omega.{arith}
-use Rattle.report.proofs.Numbers.{greatest-none, greatest-next}
-use Rattle.report.proofs.trip.largest_difference.Statement.{statement}
-use Rattle.report.proofs.trip.largest_difference.Tie as tie
+use Rattle.block_trip.proofs.Numbers.{greatest-none, greatest-next}
+use Rattle.block_trip.proofs.largest_difference.Statement.{statement}
+use Rattle.block_trip.proofs.largest_difference.Tie as tie
 
 abbrev Inv-loop : tie.InvT-loop
 Inv-loop given back most₀ k₀ most k = (k ≤ length given) × (most ≡ greatest k (apart given back))

@@ -7,15 +7,15 @@ use mir.Syntax.{w16, w32}
 use mir.ValLaws.{toZ-ofZ}
 use Rattle.algebra.specs.Sum.{sumℕ}
 use Rattle.algebra.specs.Lists.{at}
-use Rattle.report.specs.Trip.{apart}
+use Rattle.block_trip.specs.Trip.{apart}
 use borrow.Author.Needs.{needs}
 use native.Mathlib.Nat.{mul-le-mul}
 use native.Mathlib.Omega.{arith}
-use Rattle.report.proofs.Numbers.{sum-none, apart-in}
+use Rattle.block_trip.proofs.Numbers.{sum-none, apart-in}
 use Rattle.algebra.proofs.Order.{in-fits}
 use Rattle.algebra.proofs.Sum.{sumℕ-next}
-use Rattle.report.proofs.trip.squared_differences.Statement.{statement}
-use Rattle.report.proofs.trip.squared_differences.Tie as tie
+use Rattle.block_trip.proofs.squared_differences.Statement.{statement}
+use Rattle.block_trip.proofs.squared_differences.Tie as tie
 
 abbrev Inv-loop : tie.InvT-loop
 Inv-loop given back sum₀ k₀ sum k = (k ≤ length given) × ((sum ≡ sumℕ k (λ k. apart given back k * apart given back k)) × (sum ≤ k * 86973087744))

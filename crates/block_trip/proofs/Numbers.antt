@@ -7,7 +7,7 @@ use lib.IntN.{ℤ, natAbs, negℤ, _-ℤ_}
 use Rattle.algebra.specs.Sum.{sumℕ}
 use Rattle.algebra.proofs.Sum.{sumℕ-mono, sumℕ-const}
 use Rattle.algebra.proofs.Order.{abs-add, abs-neg}
-use Rattle.report.specs.Trip.{greatest}
+use Rattle.block_trip.specs.Trip.{greatest}
 
 -- ---- the largest of the first k, and of one more
 pub greatest-none : (f : ℕ → ℕ) → greatest 0 f ≡ 0

@@ -10,9 +10,9 @@ use mir.Val.{Fits}
 use Rattle.algebra.proofs.Order.{in-fits}
 use Rattle.algebra.proofs.Machine.{MV, arg, arg≤, lit, cast, cast-fits, sub, sub-fits, val}
 use Rattle.algebra.proofs.Signs.{below-turned, not-below}
-use Rattle.report.proofs.Numbers.{apart-in}
-use Rattle.report.proofs.trip.difference.Statement.{statement}
-use Rattle.report.proofs.trip.difference.Tie as tie
+use Rattle.block_trip.proofs.Numbers.{apart-in}
+use Rattle.block_trip.proofs.difference.Statement.{statement}
+use Rattle.block_trip.proofs.difference.Tie as tie
 
 abbrev wide : tie.Start → MV w32
 wide c = cast w32 (arg (c .fits .given)) tt

@@ -5,9 +5,9 @@ use mathlib.Core.List.{List}
 use lib.IntN.{ℤ}
 use denote.Ref.{now}
 use Rattle.meaning.specs.Inverse.{inverseOutcome}
-use Rattle.report.proofs.Back.{forward-refused, forward-took, back}
-use Rattle.report.proofs.trip.there_and_back.Statement.{statement}
-use Rattle.report.proofs.trip.there_and_back.Tie as tie
+use Rattle.block_trip.proofs.Back.{forward-refused, forward-took, back}
+use Rattle.block_trip.proofs.there_and_back.Statement.{statement}
+use Rattle.block_trip.proofs.there_and_back.Tie as tie
 
 forward-requires : tie.Need-forward-requires
 forward-requires c κs = search needs
