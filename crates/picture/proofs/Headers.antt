@@ -15,7 +15,7 @@ use Rattle.picture.specs.Picture.{headerText}
 abbrev pub ours : ℕ → ℕ → Found
 ours w h =
     record {
-      header = record { part = 3; going = false; comment = false; width = w; height = h; most = 65535 };
+      header = record { part = 3; going = false; comment = false; width = w; height = h; maximum = 65535 };
       start = length (headerText w h);
     }
 

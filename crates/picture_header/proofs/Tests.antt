@@ -40,7 +40,7 @@ no-bytes (a ∷ b ∷ bs) h = absurd (omega arith)
 pub sides : (s : Header) → isPicture s ≡ true → (isSize (s .width) ≡ true) × (isSize (s .height) ≡ true)
 unfolding isPicture
 sides s e =
-    let a = and-cases (eqb (s .part) 3) (not (s .going) && (eqb (s .most) 65535 && (isSize (s .width) && isSize (s .height)))) e in
-    let b = and-cases (not (s .going)) (eqb (s .most) 65535 && (isSize (s .width) && isSize (s .height))) (a .1) in
-    let c = and-cases (eqb (s .most) 65535) (isSize (s .width) && isSize (s .height)) (b .1) in
+    let a = and-cases (eqb (s .part) 3) (not (s .going) && (eqb (s .maximum) 65535 && (isSize (s .width) && isSize (s .height)))) e in
+    let b = and-cases (not (s .going)) (eqb (s .maximum) 65535 && (isSize (s .width) && isSize (s .height))) (a .1) in
+    let c = and-cases (eqb (s .maximum) 65535) (isSize (s .width) && isSize (s .height)) (b .1) in
     and-cases (isSize (s .width)) (isSize (s .height)) (c .1)

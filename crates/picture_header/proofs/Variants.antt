@@ -15,7 +15,7 @@ pub data Says : Type 0 where
 abbrev pub says : Found → Says
 says f =
     let s = f .header in
-    cond (eqb (s .part) 3 && not (s .going)) (got (s .width) (s .height) (s .most) (f .start)) none
+    cond (eqb (s .part) 3 && not (s .going)) (got (s .width) (s .height) (s .maximum) (f .start)) none
 
 -- a variant, and what it gives
 abbrev pub Case : Type 0

@@ -22,10 +22,10 @@ isDigit b = leb 48 b && leb b 57
 
 -- P5 was read, and goes on until white space ends it
 abbrev pub behindP5 : Header
-behindP5 = record { part = 0; going = true; comment = false; width = 0; height = 0; most = 0 }
+behindP5 = record { part = 0; going = true; comment = false; width = 0; height = 0; maximum = 0 }
 
 abbrev pub none : Header
-none = record { part = 4; going = false; comment = false; width = 0; height = 0; most = 0 }
+none = record { part = 4; going = false; comment = false; width = 0; height = 0; maximum = 0 }
 
 -- the maximum value has ended, by the one byte of white space behind it; or this is no header
 abbrev pub ended : Header → Bool
@@ -33,10 +33,10 @@ ended s = not (ltb (s .part) 3) && not (s .going)
 
 -- white space ends a part
 abbrev pub white : Header → Header
-white s = record { part = s .part; going = false; comment = false; width = s .width; height = s .height; most = s .most }
+white s = record { part = s .part; going = false; comment = false; width = s .width; height = s .height; maximum = s .maximum }
 
 abbrev pub commented : Header → Header
-commented s = record { part = s .part; going = s .going; comment = true; width = s .width; height = s .height; most = s .most }
+commented s = record { part = s .part; going = s .going; comment = true; width = s .width; height = s .height; maximum = s .maximum }
 
 -- a digit more of a number; leading zeros are taken. 65536 stands for any number above 65535: none is a size or the maximum
 abbrev pub more : ℕ → ℕ → ℕ
@@ -61,7 +61,7 @@ digit s d =
       comment = false;
       width = withDigit 1 part (s .width) d;
       height = withDigit 2 part (s .height) d;
-      most = withDigit 3 part (s .most) d;
+      maximum = withDigit 3 part (s .maximum) d;
     })
 
 -- a byte outside comments: # starts one
@@ -87,4 +87,4 @@ headerOf file = cond (isP5 file) (readFrom behindP5 2 (drop 2 file)) (record { h
 
 -- "such a graymap", with sizes that 1 and 2 would not refuse: whole, and with the maximum value 65535
 unfoldable pub isPicture : Header → Bool
-isPicture s = eqb (s .part) 3 && (not (s .going) && (eqb (s .most) 65535 && (isSize (s .width) && isSize (s .height))))
+isPicture s = eqb (s .part) 3 && (not (s .going) && (eqb (s .maximum) 65535 && (isSize (s .width) && isSize (s .height))))

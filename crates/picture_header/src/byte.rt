@@ -44,7 +44,7 @@ pub fn no_header() -> Header
         comment: false,
         width: 0,
         height: 0,
-        most: 0,
+        maximum: 0,
     }
 }
 
@@ -79,14 +79,14 @@ fn white(header: Header) -> Header
     let part = header.part;
     let width = header.width;
     let height = header.height;
-    let most = header.most;
+    let maximum = header.maximum;
     Header {
         part,
         going: false,
         comment: false,
         width,
         height,
-        most,
+        maximum,
     }
 }
 
@@ -97,14 +97,14 @@ fn commented(header: Header) -> Header
     let going = header.going;
     let width = header.width;
     let height = header.height;
-    let most = header.most;
+    let maximum = header.maximum;
     Header {
         part,
         going,
         comment: true,
         width,
         height,
-        most,
+        maximum,
     }
 }
 
@@ -141,14 +141,14 @@ fn digit(header: Header, b: u8) -> Header
     }
     let width = with_digit(1, part, header.width, b);
     let height = with_digit(2, part, header.height, b);
-    let most = with_digit(3, part, header.most, b);
+    let maximum = with_digit(3, part, header.maximum, b);
     Header {
         part,
         going: true,
         comment: false,
         width,
         height,
-        most,
+        maximum,
     }
 }
 

@@ -13,7 +13,7 @@ pub struct Header {
     pub comment: bool,
     pub width: u32,
     pub height: u32,
-    pub most: u32,
+    pub maximum: u32,
 }
 
 /// A header, and the place behind what was read of it.
@@ -31,7 +31,7 @@ fn behind_p5() -> Header
         comment: false,
         width: 0,
         height: 0,
-        most: 0,
+        maximum: 0,
     }
 }
 
@@ -77,7 +77,7 @@ pub fn is_picture(header: Header) -> bool
     if header.going {
         return false;
     }
-    if header.most != 65535 {
+    if header.maximum != 65535 {
         return false;
     }
     if !meaning::is_size(header.width) {

@@ -22,8 +22,8 @@ samples [] = []
 samples (z ∷ zs) = level z / 256 ∷ level z % 256 ∷ samples zs
 
 -- reading: the sample less 32768
-unfoldable pub residual : ℕ → ℤ
-residual sample = pos sample -ℤ pos 32768
+unfoldable pub residualOf : ℕ → ℤ
+residualOf sample = pos sample -ℤ pos 32768
 
 abbrev pub residuals : List ℕ → List ℤ
-residuals bytes = pairs residual bytes
+residuals bytes = pairs residualOf bytes

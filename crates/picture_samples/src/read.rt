@@ -2,10 +2,10 @@
 ghost use mathlib.Core.Path.{_≡_};
 ghost use Prim.Native.Nat.{_+_, _*_};
 ghost use lib.ListN.{length};
-ghost use Rattle.picture_samples.specs.Samples.{residual, residuals};
+ghost use Rattle.picture_samples.specs.Samples.{residualOf, residuals};
 
 fn residual(high: u8, low: u8) -> i32
-    ensures { λ r. ⌜ r ≡ residual (high * 256 + low) ⌝ }
+    ensures { λ r. ⌜ r ≡ residualOf (high * 256 + low) ⌝ }
 {
     let sample = (high as u32) * 256 + low as u32;
     sample as i32 - 32768

@@ -13,7 +13,7 @@ use lib.Seq.{getD-set-same, getD-set-other}
 use Rattle.meaning.specs.declared.Shape.{Shape}
 use Rattle.meaning.specs.declared.Answer.{Answer}
 use Rattle.block_trip.specs.Trip.{tripAnswer, railCount, largest, squares}
-use Rattle.report.specs.Totals.{total, plus, most, class, place, entered, counted, refusedPlace, givenPlace, addOutcome}
+use Rattle.report.specs.Totals.{total, plus, raised, class, place, entered, counted, refusedPlace, givenPlace, addOutcome}
 use Rattle.report.specs.Given.{Given, taken}
 use Rattle.report.proofs.Counting.{counted-refused, counted-taken, add-more}
 
@@ -26,7 +26,7 @@ module _ (i rails far squared : ℕ) (t : List ℕ) where
   t1 = plus (i + 1) rails t0
 
   abbrev t2 : List ℕ
-  t2 = most (i + 2) far t1
+  t2 = raised (i + 2) far t1
 
   entered-long : length (entered i rails far squared t) ≡ length t
   unfolding entered

@@ -22,8 +22,8 @@ total t i = getD t i 0
 abbrev pub plus : ℕ → ℕ → List ℕ → List ℕ
 plus i x t = set t i ((total t i + x) % 2 ^ 64)
 
-abbrev pub most : ℕ → ℕ → List ℕ → List ℕ
-most i x t = set t i (max (total t i) x)
+abbrev pub raised : ℕ → ℕ → List ℕ → List ℕ
+raised i x t = set t i (max (total t i) x)
 
 -- which four of the totals are a shape's: its sizes, 4, 8, 16 and 32 being 0 to 3, and its kinds, 0 to 2
 abbrev pub side : ℕ → ℕ
@@ -47,7 +47,7 @@ empty = replicate (givenPlace + 1) 0
 
 -- four numbers of a block, from the place i on
 unfoldable pub entered : ℕ → ℕ → ℕ → ℕ → List ℕ → List ℕ
-entered i rails far squared t = plus (i + 3) squared (most (i + 2) far (plus (i + 1) rails (plus i 1 t)))
+entered i rails far squared t = plus (i + 3) squared (raised (i + 2) far (plus (i + 1) rails (plus i 1 t)))
 
 -- a block that was not refused in its four totals, "refused blocks being counted apart"
 unfoldable pub counted : Shape → List ℤ → List ℕ → List ℕ

@@ -10,28 +10,28 @@ use Rattle.meaning.proofs.Cases.{and-cases}
 use Rattle.block_file.specs.declared.cursor.Cursor.{Cursor}
 use Rattle.block_file.specs.Cursor.{start, stepOf}
 use Rattle.salvage.specs.declared.search.Piece.{Piece}
-use Rattle.salvage.specs.Pieces.{reads, onward, pieceAt, pieces, joined, bytesOf, keptOf, written, droppedOf, dropped, readsAll, undamaged}
+use Rattle.salvage.specs.Pieces.{reads, onward, pieceAt, pieces, joined, pieceBytes, keptOf, written, droppedOf, dropped, readsAll, undamaged}
 use Rattle.salvage.proofs.Moves.{onward-read}
 use Rattle.salvage.proofs.Joining.{not-dropped}
 use Rattle.salvage.proofs.Cover.{by-pieces}
 
 -- all bytes of the pieces, kept or not, are what stands from the cursor on
-pub whole-file : (file : List ℕ) (c : Cursor) → c .at ≤ length file → joined (bytesOf file) (pieces file c) ≡ drop (c .at) file
+pub whole-file : (file : List ℕ) (c : Cursor) → c .at ≤ length file → joined (pieceBytes file) (pieces file c) ≡ drop (c .at) file
 unfolding joined
 whole-file file =
-    by-pieces file (λ c ps. joined (bytesOf file) ps ≡ drop (c .at) file) (λ c e. sym (drop-of-length-le file {i = c .at} (omega arith)))
+    by-pieces file (λ c ps. joined (pieceBytes file) ps ≡ drop (c .at) file) (λ c e. sym (drop-of-length-le file {i = c .at} (omega arith)))
     (λ c ps l m n h. let b = onward file c .at - c .at in
     let e : c .at + b ≡ onward file c .at = omega arith in
     ap (λ (s : List ℕ). take b (drop (c .at) file) ++ s) (h ∙ ap (λ (k : ℕ). drop k file) (sym e) ∙ sym (drop-drop b (c .at) file)) ∙ take-append-drop b (drop (c .at) file))
 
 module _ (file : List ℕ) where
   abbrev Kept : Cursor → List Piece → Type 0
-  Kept c ps = (k : ℕ) → length file ≤ c .at + k → readsAll k file c ≡ true → (joined (keptOf file) ps ≡ joined (bytesOf file) ps) × (joined droppedOf ps ≡ [])
+  Kept c ps = (k : ℕ) → length file ≤ c .at + k → readsAll k file c ≡ true → (joined (keptOf file) ps ≡ joined (pieceBytes file) ps) × (joined droppedOf ps ≡ [])
 
-  kept-more : (p : Piece) (ps : List Piece) → p .kept ≡ true → (joined (keptOf file) ps ≡ joined (bytesOf file) ps) × (joined droppedOf ps ≡ [])
-      → (joined (keptOf file) (p ∷ ps) ≡ joined (bytesOf file) (p ∷ ps)) × (joined droppedOf (p ∷ ps) ≡ [])
+  kept-more : (p : Piece) (ps : List Piece) → p .kept ≡ true → (joined (keptOf file) ps ≡ joined (pieceBytes file) ps) × (joined droppedOf ps ≡ [])
+      → (joined (keptOf file) (p ∷ ps) ≡ joined (pieceBytes file) (p ∷ ps)) × (joined droppedOf (p ∷ ps) ≡ [])
   unfolding joined keptOf
-  kept-more p ps e h = (rw e (ap (λ (s : List ℕ). bytesOf file p ++ s) (h .0)), rw (not-dropped p e) (h .1))
+  kept-more p ps e h = (rw e (ap (λ (s : List ℕ). pieceBytes file p ++ s) (h .0)), rw (not-dropped p e) (h .1))
 
   kept-step : (c : Cursor) (ps : List Piece) → c .at < length file → c .at < onward file c .at → Kept (onward file c) ps → Kept c (pieceAt file c ∷ ps)
   unfolding readsAll

@@ -65,11 +65,11 @@ joined of [] = []
 joined of (p ∷ ps) = of p ++ joined of ps
 
 -- "a new file of the fields read"
-abbrev pub bytesOf : List ℕ → Piece → List ℕ
-bytesOf file p = take (p .bytes) (drop (p .offset) file)
+abbrev pub pieceBytes : List ℕ → Piece → List ℕ
+pieceBytes file p = take (p .bytes) (drop (p .offset) file)
 
 unfoldable pub keptOf : List ℕ → Piece → List ℕ
-keptOf file p = cond (p .kept) (bytesOf file p) []
+keptOf file p = cond (p .kept) (pieceBytes file p) []
 
 abbrev pub written : List ℕ → List ℕ
 written file = joined (keptOf file) (pieces file start)

@@ -12,19 +12,19 @@ use Rattle.meaning.specs.Line.{inverseSum}
 use Rattle.meaning.specs.Shape.{isSize, isKind, isDepth, most, keeps, shapeOf}
 use Rattle.meaning.specs.Answer as answers
 use Rattle.meaning.specs.Forward.{forwardOutcome}
-use Rattle.thin_block.specs.Thin.{isLine, isSide, thinSum, thinResidual, thinBlock, refused, thinOutcome}
+use Rattle.thin_block.specs.Thin.{isLine, isSide, thinSum, thinResidual, thinBlock, areasStay, thinOutcome}
 
 -- ---- "1 and 2 accept 1 where the other side is 4, 8 or 16", whatever the kinds, the depth and the buffers
 module _ (h v d : ℕ) (c a b : List ℤ) where
-  pub one-by-32 : thinOutcome (shapeOf 1 32 h v d) c a b ≡ refused a b 1 0
+  pub one-by-32 : thinOutcome (shapeOf 1 32 h v d) c a b ≡ areasStay a b 1 0
   unfolding isSide isSize isLine
   one-by-32 = refl
 
-  pub thirty-two-by-1 : thinOutcome (shapeOf 32 1 h v d) c a b ≡ refused a b 2 0
+  pub thirty-two-by-1 : thinOutcome (shapeOf 32 1 h v d) c a b ≡ areasStay a b 2 0
   unfolding isSide isSize isLine
   thirty-two-by-1 = refl
 
-  pub one-by-1 : thinOutcome (shapeOf 1 1 h v d) c a b ≡ refused a b 1 0
+  pub one-by-1 : thinOutcome (shapeOf 1 1 h v d) c a b ≡ areasStay a b 1 0
   unfolding isSide isSize isLine
   one-by-1 = refl
 
@@ -32,15 +32,15 @@ abbrev four : List ℤ
 four = pos 64 ∷ pos 0 ∷ pos 0 ∷ pos 0 ∷ []
 
 -- "19 for a work area shorter than w*h", either of them, after 6
-pub nineteen-first : thinOutcome (shapeOf 1 4 1 1 10) four [] four ≡ refused [] four 19 0
+pub nineteen-first : thinOutcome (shapeOf 1 4 1 1 10) four [] four ≡ areasStay [] four 19 0
 unfolding isSide isSize isLine isKind isDepth most keeps
 nineteen-first = refl
 
-pub nineteen-second : thinOutcome (shapeOf 4 1 1 1 10) four four [] ≡ refused four [] 19 0
+pub nineteen-second : thinOutcome (shapeOf 4 1 1 1 10) four four [] ≡ areasStay four [] 19 0
 unfolding isSide isSize isLine isKind isDepth most keeps
 nineteen-second = refl
 
-pub six-before : thinOutcome (shapeOf 1 8 1 1 10) four [] [] ≡ refused [] [] 6 0
+pub six-before : thinOutcome (shapeOf 1 8 1 1 10) four [] [] ≡ areasStay [] [] 6 0
 unfolding isSide isSize isLine isKind isDepth most keeps
 six-before = refl
 

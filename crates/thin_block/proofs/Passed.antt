@@ -21,7 +21,7 @@ use Rattle.meaning.proofs.Accepted.{shape-clear}
 use Rattle.meaning.proofs.KeptPart.{columns-kept, rows-kept}
 use Rattle.layout.specs.Part.{Part}
 use Rattle.layout.proofs.Inside.{kept-part}
-use Rattle.thin_block.specs.Thin.{isSide, oneStage, thinShapeTests, areaTests, thinTests, Areas, refused, afterOne, afterTwo, thinOutcome}
+use Rattle.thin_block.specs.Thin.{isSide, oneStage, thinShapeTests, areaTests, thinTests, Areas, areasStay, afterOne, afterTwo, thinOutcome}
 use Rattle.thin_block.specs.Given.{TakenSides}
 use Rattle.thin_block.proofs.Sides.{side-in}
 
@@ -62,13 +62,13 @@ module _ (sh : Shape) (c a b : List ℤ) where
   abbrev done : Areas
   done = cond (oneStage sh) (afterOne sh c a b) (afterTwo sh c a b)
 
-  pub either-way : (P : Areas → Type 0) → ((number place : ℕ) → P (refused a b number place)) → (TakenThin → P done) → P (thinOutcome sh c a b)
-  either-way P f g = side-by-side (refused a b) done (refused a b) done (λ o _. P o) f [] [] (thinTests sh c a b) (λ e. g (all-clear e))
+  pub either-way : (P : Areas → Type 0) → ((number place : ℕ) → P (areasStay a b number place)) → (TakenThin → P done) → P (thinOutcome sh c a b)
+  either-way P f g = side-by-side (areasStay a b) done (areasStay a b) done (λ o _. P o) f [] [] (thinTests sh c a b) (λ e. g (all-clear e))
 
   pub accepted : thinOutcome sh c a b .answer .number ≡ 0 → TakenThin × (thinOutcome sh c a b ≡ done)
   accepted z =
-      let e = clear (λ (o : Areas). o .answer .number) (refused a b) done (λ n place. refl) (thinTests sh c a b) tt z in
-      (all-clear e, none-applies (refused a b) done (thinTests sh c a b) e)
+      let e = clear (λ (o : Areas). o .answer .number) (areasStay a b) done (λ n place. refl) (thinTests sh c a b) tt z in
+      (all-clear e, none-applies (areasStay a b) done (thinTests sh c a b) e)
 
   pub passed : numberOf eight ≡ 0 → Passed
   passed e =

@@ -68,8 +68,8 @@ pub record Areas : Type 0 where
   pub second : List ℤ
 
 -- "A refused call changes neither area"
-abbrev pub refused : List ℤ → List ℤ → ℕ → ℕ → Areas
-refused a b number place = record { answer = record { number = number; place = place; rails = 0; area = 0 }; first = a; second = b }
+abbrev pub areasStay : List ℤ → List ℤ → ℕ → ℕ → Areas
+areasStay a b number place = record { answer = record { number = number; place = place; rails = 0; area = 0 }; first = a; second = b }
 
 -- "their rail count is 0"; "Numbers beyond w*h, and the second area after one stage, stay"
 abbrev pub afterOne : Shape → List ℤ → List ℤ → List ℤ → Areas
@@ -90,4 +90,4 @@ afterTwo sh c a b =
     }
 
 abbrev pub thinOutcome : Shape → List ℤ → List ℤ → List ℤ → Areas
-thinOutcome sh c a b = firstOf (thinTests sh c a b) (refused a b) (cond (oneStage sh) (afterOne sh c a b) (afterTwo sh c a b))
+thinOutcome sh c a b = firstOf (thinTests sh c a b) (areasStay a b) (cond (oneStage sh) (afterOne sh c a b) (afterTwo sh c a b))

@@ -17,7 +17,7 @@ use Rattle.meaning.specs.Plan.{planOf}
 use Rattle.meaning.specs.Inverse.{firstOutside, outsideTest}
 use Rattle.meaning.proofs.KeptPart.{columns-kept}
 use Rattle.layout.specs.Part.{Part}
-use Rattle.thin_block.specs.Thin.{oneStage, thinShapeTests, areaTests, Areas, refused, afterOne, afterTwo, thinOutcome}
+use Rattle.thin_block.specs.Thin.{oneStage, thinShapeTests, areaTests, Areas, areasStay, afterOne, afterTwo, thinOutcome}
 use Rattle.thin_block.proofs.Sides.{two-sides}
 use Rattle.thin_block.proofs.Passed as passing
 use Rattle.thin_block.proofs.work.Statement.{statement}
@@ -34,7 +34,7 @@ abbrev last : tie.Start → List Refusal
 last s = outsideTest (planOf (s .args .shape)) (s .args .coefficients .now) ∷ []
 
 abbrev refuse : tie.Start → ℕ → ℕ → Areas
-refuse s number place = refused (s .args .first .now) (s .args .second .now) number place
+refuse s number place = areasStay (s .args .first .now) (s .args .second .now) number place
 
 abbrev one : tie.Start → Areas
 one s = afterOne (s .args .shape) (s .args .coefficients .now) (s .args .first .now) (s .args .second .now)

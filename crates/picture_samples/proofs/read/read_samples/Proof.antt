@@ -8,7 +8,7 @@ use mir.Val.{toZ, ofZ}
 use mir.ValLaws.{toZ-ofZ}
 use denote.Ref.{now}
 use Rattle.block_numbers.proofs.Pairs.{step, all}
-use Rattle.picture_samples.specs.Samples.{residual, residuals}
+use Rattle.picture_samples.specs.Samples.{residualOf, residuals}
 use borrow.Author.Needs.{needs}
 use native.Mathlib.Omega.{arith}
 use Rattle.picture_samples.proofs.read.read_samples.Statement.{statement}
@@ -59,7 +59,7 @@ loop-again c =
     let a = c .before .before .before .before .before .before .args in
     let v = toZ w32 (ofZ w32 (c .residual .result)) in
     let k : l .i < length (l .out) = omega arith in
-    (search needs, simp length-set (l .inv .1), step residual (now (a .samples)) (l .out) (l .i) v (omega arith) k (toZ-ofZ w32 _ (record { sfits = c .residual .ok }) ∙ c .residual .ensures) (l .inv .2))
+    (search needs, simp length-set (l .inv .1), step residualOf (now (a .samples)) (l .out) (l .i) v (omega arith) k (toZ-ofZ w32 _ (record { sfits = c .residual .ok }) ∙ c .residual .ensures) (l .inv .2))
 
 same-length : tie.Need-same-length Inv-loop μ-loop
 same-length c = search needs
@@ -68,7 +68,7 @@ returns : tie.Need-returns Inv-loop μ-loop
 returns c =
     let l = c .before .loop in
     let a = c .before .before .before .args in
-    all residual (now (a .samples)) (l .out) (l .i) (omega arith) (omega arith) (l .inv .2)
+    all residualOf (now (a .samples)) (l .out) (l .i) (omega arith) (omega arith) (l .inv .2)
 
 pub read-samples-spec : {M : Type 1} → statement M
 read-samples-spec =

@@ -6,7 +6,7 @@ use lib.IntN.{pos}
 use mir.ValLaws.{toZ-pos}
 use Rattle.algebra.proofs.Word.{Is, sub-fits, subV, lit}
 use lib.Dec.{lit<}
-use Rattle.picture_samples.specs.Samples.{residual}
+use Rattle.picture_samples.specs.Samples.{residualOf}
 use borrow.Author.Needs.{needs}
 use Rattle.picture_samples.proofs.read.residual.Statement.{statement}
 use Rattle.picture_samples.proofs.read.residual.Tie as tie
@@ -27,7 +27,7 @@ sub-result : tie.Need-sub-result
 sub-result c = sub-fits (sample (c .args .high * 256 + c .args .low) (omega arith)) (lit w32 32768) (lit< tt)
 
 returns : tie.Need-returns
-unfolding residual
+unfolding residualOf
 returns c = subV (sample (c .args .high * 256 + c .args .low) (omega arith)) (lit w32 32768) (lit< tt) .val
 
 pub residual-spec : {M : Type 1} → statement M
