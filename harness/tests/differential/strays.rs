@@ -25,12 +25,14 @@ fn round_trips_stay_within() {
     let mut c = Comparison::open("round trips, beside their bound");
     for kind in KINDS {
         for n in SIZES {
+            let d: Vec<i64> = (0..n)
+                .map(|j| c.outcome(&Call::stray(kind, n, j)).output[0].into())
+                .collect();
             for turn in 0..200 {
                 let most = 1i64 << (turn % 31);
                 let x: Vec<i64> = (0..n).map(|_| c.random.between(-most, most)).collect();
                 let back = round_trip(kind.into(), &x);
-                for (j, (back, x)) in (0..).zip(back.iter().zip(&x)) {
-                    let d = i64::from(c.outcome(&Call::stray(kind, n, j)).output[0]);
+                for (j, ((back, x), d)) in back.iter().zip(&x).zip(&d).enumerate() {
                     let off = (back - 4096 * i64::from(n) * x).abs();
                     assert!(off <= most * d, "kind {kind}, {n} points, place {j}");
                 }
