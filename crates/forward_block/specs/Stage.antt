@@ -1,7 +1,7 @@
 -- Document 01, "Blocks", "Forward": what the stages are given, and rows of rounded sums in the first places of the rows of a buffer.
 use mathlib.Core.Path.{_≡_}
 use mathlib.Core.List.{List}
-use Prim.Native.Nat.{ℕ, _+_, _*_, _-_, _/_, _<_, _≤_}
+use Prim.Native.Nat.{ℕ, _+_, _*_, _/_, _<_, _≤_}
 use lib.ListN.{length}
 use lib.IntN.{ℤ}
 use mir.Syntax.{w16}
