@@ -89,32 +89,23 @@ weights-3 c =
 lines-requires-3 : tie.Need-lines-requires-3
 lines-requires-3 c κs = let W = c .before .before .before in asks (W .before .before .before) (weights-3 W)
 
-done : (c : tie.After-lines) → let s = c .before .before .before .before .before .before .before .args in c .lines .last .1 .1 .1 .1 .1 .1 .1 .1 .1 .1 .0 ≡ alongBlock (s .kind) 4 4 (s .m .now) (s .last)
-done c = let W = c .before .before .before .before in c .lines .ensures ∙ gives (W .before .before) (weights W)
+returns : tie.Need-returns
+returns c = let W = c .before .before .before .before .before in c .before .lines .ensures ∙ gives (W .before .before) (weights W)
 
 same-length : tie.Need-same-length
-same-length c = let W = c .before .before .before .before .before in as-long (W .before .before) (weights W) (done (c .before))
-
-returns : tie.Need-returns
-returns c = done (c .before)
-
-done-2 : (c : tie.After-lines2) → let s = c .before .before .before .before .before .before .before .before .args in c .lines2 .last .1 .1 .1 .1 .1 .1 .1 .1 .1 .1 .0 ≡ alongBlock (s .kind) 4 4 (s .m .now) (s .last)
-done-2 c = let W = c .before .before .before .before in c .lines2 .ensures ∙ gives (W .before .before .before) (weights-2 W)
-
-same-length-2 : tie.Need-same-length-2
-same-length-2 c = let W = c .before .before .before .before .before in as-long (W .before .before .before) (weights-2 W) (done-2 (c .before))
+same-length c = let W = c .before .before .before .before .before in as-long (W .before .before) (weights W) (returns c)
 
 returns-2 : tie.Need-returns-2
-returns-2 c = done-2 (c .before)
+returns-2 c = let W = c .before .before .before .before .before in c .before .lines2 .ensures ∙ gives (W .before .before .before) (weights-2 W)
 
-done-3 : (c : tie.After-lines3) → let s = c .before .before .before .before .before .before .before .before .args in c .lines3 .last .1 .1 .1 .1 .1 .1 .1 .1 .1 .1 .0 ≡ alongBlock (s .kind) 4 4 (s .m .now) (s .last)
-done-3 c = let W = c .before .before .before .before in c .lines3 .ensures ∙ gives (W .before .before .before) (weights-3 W)
-
-same-length-3 : tie.Need-same-length-3
-same-length-3 c = let W = c .before .before .before .before .before in as-long (W .before .before .before) (weights-3 W) (done-3 (c .before))
+same-length-2 : tie.Need-same-length-2
+same-length-2 c = let W = c .before .before .before .before .before in as-long (W .before .before .before) (weights-2 W) (returns-2 c)
 
 returns-3 : tie.Need-returns-3
-returns-3 c = done-3 (c .before)
+returns-3 c = let W = c .before .before .before .before .before in c .before .lines3 .ensures ∙ gives (W .before .before .before) (weights-3 W)
+
+same-length-3 : tie.Need-same-length-3
+same-length-3 c = let W = c .before .before .before .before .before in as-long (W .before .before .before) (weights-3 W) (returns-3 c)
 
 pub along-spec : {M : Type 1} → statement M
 along-spec =
