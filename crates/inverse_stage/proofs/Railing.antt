@@ -1,6 +1,6 @@
 -- The rail count of a list, number by number. Assumes nothing.
 use mathlib.Core.Path.{_≡_, refl, sym, ap, _∙_}
-use mathlib.Core.Bool.{Bool, true, false}
+use mathlib.Core.Bool.{Bool}
 use mathlib.Core.List.{List}
 use Prim.Native.Nat.{ℕ, _+_, _≤_}
 use native.Mathlib.Omega.{arith}
@@ -12,6 +12,7 @@ use Rattle.algebra.specs.Sum.{sumℕ}
 use Rattle.algebra.specs.Lists.{at}
 use Rattle.algebra.proofs.Sum.{sumℕ-next, sumℕ-mono, sumℕ-const}
 use Rattle.meaning.specs.Inverse.{railed, count}
+use Rattle.meaning.proofs.NoRails.{count-in}
 use Rattle.inverse_stage.specs.Settled.{railsOf}
 
 module _ (e m : List ℤ) where
@@ -30,7 +31,3 @@ module _ (e m : List ℤ) where
   pub rails-in : (n : ℕ) → railsOf n e m ≤ n
   unfolding railsOf
   rails-in n = omega (arith, sumℕ-mono n (λ k. count (railed (at e k) (at m k))) (λ k. 1) (λ k _. count-in (railed (at e k) (at m k))), sumℕ-const n 1)
-    where
-      count-in : (b : Bool) → count b ≤ 1
-      count-in true = omega arith
-      count-in false = omega arith

@@ -3,6 +3,7 @@
 --   no-rails:        rails p c ≡ 0 gives Unaltered p c
 --   rails-no:        Unaltered p c gives rails p c ≡ 0
 --   inner-unaltered: Inner p c, no middle value at either end of the range, gives Unaltered p c
+-- A middle value counts once at most (count-in).
 use mathlib.Core.Path.{_≡_, refl, _∙_}
 use mathlib.Core.Bool.{Bool, true, false, not}
 use mathlib.Core.List.{List}
@@ -33,9 +34,13 @@ same : (t : Bool) → count (not t) ≡ 0 → T t
 same true e = tt
 same false e = absurd (omega arith)
 
-none-counts : (t : Bool) → T t → count (not t) ≡ 0
+pub none-counts : (t : Bool) → T t → count (not t) ≡ 0
 none-counts true t = refl
 none-counts false t = absurd t
+
+pub count-in : (b : Bool) → count b ≤ 1
+count-in true = omega arith
+count-in false = omega arith
 
 module _ (p : Plan) (c : List ℤ) where
   abbrev counts : ℕ → ℕ → Bool
@@ -66,7 +71,3 @@ module _ (p : Plan) (c : List ℤ) where
   inner-unaltered n x y hx hy =
       let m = middle-kept x y hx in
       m ∙ clip-inner (p .range) (rounded (columnSum p c x y)) (λ e. n x y hx hy .0 (m ∙ e)) (λ e. n x y hx hy .1 (m ∙ e))
-
-pub count-in : (b : Bool) → count b ≤ 1
-count-in true = omega arith
-count-in false = omega arith

@@ -1,7 +1,6 @@
 -- `rail` meets its contract: equal bits are equal numbers. Assumes nothing.
-use mathlib.Core.Path.{_≡_, refl, sym, ap, _∙_}
-use mathlib.Core.Bool.{Bool, true, false, not}
-use lib.Dec.{T}
+use mathlib.Core.Path.{_≡_, sym, ap, _∙_}
+use mathlib.Core.Bool.{Bool, not}
 use mir.Syntax.{w32, w64}
 use mir.Val.{toZ, ofZ}
 use mir.ValLaws.{toZ-ofZ}
@@ -9,17 +8,13 @@ use Rattle.algebra.specs.Equal.{eqZ}
 use Rattle.algebra.proofs.Machine.{arg, cast, cast-fits, val}
 use Rattle.algebra.proofs.Table.{eqZ-no, eq→eqZ}
 use Rattle.meaning.specs.Inverse.{count}
+use Rattle.meaning.proofs.NoRails.{none-counts}
 use Rattle.long_stages.proofs.arith.rail.Statement.{statement}
 use Rattle.long_stages.proofs.arith.rail.Tie as tie
 
 -- the middle value in 64 bits
 wider : (c : tie.Start) → toZ w64 (ofZ w64 (toZ w32 (ofZ w32 (c .args .after)))) ≡ c .args .after
 wider c = val (cast w64 (arg (c .fits .after)) tt)
-
--- equal numbers do not count
-equal : (b : Bool) → T b → 0 ≡ count (not b)
-equal true t = refl
-equal false t = absurd t
 
 cast-if1 : tie.Need-cast-if1
 cast-if1 c = cast-fits w64 (arg (c .fits .after)) tt
@@ -28,7 +23,7 @@ returns : tie.Need-returns
 returns c =
     let s = c .before in
     let e : s .args .after ≡ s .args .before = sym (wider s) ∙ ap (toZ w64) (c .if1 .taken) ∙ toZ-ofZ w64 (s .args .before) (s .fits .before) in
-    equal (eqZ (s .args .after) (s .args .before)) (eq→eqZ (s .args .after) (s .args .before) e)
+    sym (none-counts (eqZ (s .args .after) (s .args .before)) (eq→eqZ (s .args .after) (s .args .before) e))
 
 returns-2 : tie.Need-returns-2
 returns-2 c =

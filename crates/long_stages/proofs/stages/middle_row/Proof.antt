@@ -15,8 +15,9 @@ use Rattle.algebra.proofs.Sum.{sumℕ-next}
 use Rattle.algebra.proofs.Lists.{Filled, fill-none, fill-first, filled-to}
 use Rattle.meaning.specs.Plan.{rangeOf}
 use Rattle.meaning.specs.Inverse.{rounded, middle, railed, count}
+use Rattle.meaning.proofs.NoRails.{count-in}
 use Rattle.long_stages.specs.Work.{columnAt, railOf}
-use Rattle.long_stages.proofs.Rails.{none-yet, count-in, sum-in}
+use Rattle.long_stages.proofs.Rails.{none-yet, sum-in}
 use Rattle.long_stages.proofs.stages.middle_row.Statement.{statement}
 use Rattle.long_stages.proofs.stages.middle_row.Tie as tie
 

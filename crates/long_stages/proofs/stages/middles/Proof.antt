@@ -12,8 +12,9 @@ use Rattle.algebra.proofs.Sum.{sumℕ-next}
 use Rattle.algebra.proofs.Lists.{Rows, rows-none, rows-room, rows-next, row-in}
 use Rattle.meaning.specs.Plan.{rangeOf}
 use Rattle.meaning.specs.Inverse.{rounded, middle, railed}
+use Rattle.meaning.proofs.NoRails.{count-in}
 use Rattle.long_stages.specs.Work.{columnAt, railOf, Down}
-use Rattle.long_stages.proofs.Rails.{none-yet, count-in, sum-in}
+use Rattle.long_stages.proofs.Rails.{none-yet, sum-in}
 use Rattle.long_stages.proofs.stages.middles.Statement.{statement}
 use Rattle.long_stages.proofs.stages.middles.Tie as tie
 
