@@ -1,4 +1,4 @@
--- "It equals the calls made one by one in order." Assumes nothing.
+-- "It equals the calls made one by one in order". Assumes nothing.
 --   one-by-one:     the blocks of a list give what the calls give, each on its own stretch of both buffers
 --   row-one-by-one: the same of the outcome of a row that was taken
 --   answers-stay:   the numbers beyond the answers of the list stay

@@ -108,7 +108,7 @@ fn stage(kind: u32, a: &[i16], shift: u32, out: &mut [i16])
     }
 }
 
-// "Rows first", "then columns".
+// "Rows first", "Then columns".
 pub fn four(shape: Shape, residuals: &[i16], coefficients: &mut [i16])
     requires { ⌜ Residuals shape (now residuals) × ((length (now coefficients) ≡ shape .width * shape .height) × Whole shape) ⌝ }
     ensures { λ _. ⌜ now (coefficients .exit) ≡ forwardBlock shape (now (residuals .entry)) ⌝ }

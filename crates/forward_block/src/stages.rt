@@ -96,7 +96,7 @@ fn stage(
     }
 }
 
-// "Rows first", the kept columns of them; "then columns", the kept rows of them. In lent rooms, whatever their lengths are: `along`
+// "Rows first", the kept columns of them; "Then columns", the kept rows of them. In lent rooms, whatever their lengths are: `along`
 // has the weights of the rows, and then the rows between the stages, zipped; `down` has those of the columns.
 fn worked(
     shape: Shape,

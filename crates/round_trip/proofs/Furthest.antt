@@ -70,7 +70,7 @@ module _ (kind n : ℕ) (x : ℕ → ℤ) (j : ℕ) where
       ∙ sum-cong n (λ k. g k *ℤ x k +ℤ negℤ (e k *ℤ x k)) (λ k. (g k -ℤ e k) *ℤ x k)
       (λ k _. ring (g k ∷ e k ∷ x k ∷ []) (ν 0 ⊗ ν 2 ⊕ ⊝ (ν 1 ⊗ ν 2)) ((ν 0 ⊖ ν 1) ⊗ ν 2) refl)
 
--- "for a line of N whole numbers of size at most M"
+-- "For a line of N whole numbers of size at most M"
 pub strays : (kind n : ℕ) (x : ℕ → ℤ) (M : ℕ) → ((k : ℕ) → k < n → natAbs (x k) ≤ M) → (j : ℕ) → j < n
     → natAbs (roundTrip kind n x j -ℤ pos (4096 * n) *ℤ x j) ≤ D kind n j * M
 unfolding D

@@ -16,7 +16,7 @@ pub fn inverse(shape: &Shape, coefficients: &[i64], residuals: &mut [i64]) -> An
 }
 
 /// Both stages of an inverse that is taken, over the range of its middle values and its last shift s.
-pub fn stages(
+fn stages(
     shape: &Shape,
     range: [i64; 2],
     s: i64,
@@ -112,7 +112,7 @@ pub fn column_sums(shape: &Shape, coefficients: &[i64]) -> Vec<Vec<i64>> {
 }
 
 /// The h middle values of each kept column before the clip.
-fn unclipped(shape: &Shape, coefficients: &[i64]) -> Vec<Vec<i64>> {
+pub fn unclipped(shape: &Shape, coefficients: &[i64]) -> Vec<Vec<i64>> {
     let column = |sums: Vec<i64>| sums.into_iter().map(rounded).collect();
     let columns = column_sums(shape, coefficients).into_iter();
     columns.map(column).collect()

@@ -1,8 +1,9 @@
 //! Document 02, Wish 14: "The second edition's long numbers". The inverse of a block whose range and last shift follow the
 //! extended-precision switch; `docs/DECISIONS.md` has where the two rules come from.
 
-use super::block::{first_outside, stages};
+use super::block::{first_outside, round_shift, unclipped};
 use super::call::{refusal_at, Answer, Shape};
+use super::line::inverse_sums;
 
 /// R: coefficients and middle values are -2^R .. 2^R - 1.
 pub fn reach(extended: bool, depth: i64) -> i64 {
@@ -53,9 +54,24 @@ pub fn inverse_long(
         .or_else(|| shape.length_refusal(coefficients.len(), residuals.len()))
         .or_else(|| refusal_at(8, first_outside(shape, coefficients)))
         .or_else(|| refusal_at(27, first_beyond(shape, extended, coefficients)));
-    let range = ends(extended, shape.depth);
-    let s = last_shift(extended, shape.depth);
-    refusal.unwrap_or_else(|| stages(shape, range, s, coefficients, residuals))
+    refusal.unwrap_or_else(|| worked(shape, extended, coefficients, residuals))
+}
+
+/// The clip, the rails and the second stage of a call that is taken: written apart from those of the other inverse, so that the two
+/// are held to each other where the switch is off.
+fn worked(shape: &Shape, extended: bool, coefficients: &[i64], residuals: &mut [i64]) -> Answer {
+    let [low, high] = ends(extended, shape.depth);
+    let unclipped = unclipped(shape, coefficients);
+    let altered = |m: &&i64| !(low..=high).contains(*m);
+    let rails = unclipped.iter().flatten().filter(altered).count();
+    for (y, line) in residuals.chunks_exact_mut(shape.width as usize).enumerate() {
+        let row: Vec<i64> = unclipped.iter().map(|c| c[y].clamp(low, high)).collect();
+        let sums = inverse_sums(shape.horizontal, shape.width as usize, &row);
+        for (residual, sum) in line.iter_mut().zip(sums) {
+            *residual = round_shift(sum, last_shift(extended, shape.depth));
+        }
+    }
+    Answer::accepted(rails as i64)
 }
 
 #[cfg(test)]
