@@ -23,8 +23,8 @@ static void widen(hoengtila_shape s, const int16_t *numbers) {
 }
 
 static void run_long(hoengtila_shape s, int32_t *residuals) {
-    size_t area = (size_t)s.width * s.height;
-    hoengtila_block_inverse_long(s, 0, wide, area, residuals, area);
+    size_t elements = (size_t)s.width * s.height;
+    hoengtila_block_inverse_long(s, 0, wide, elements, residuals, elements);
 }
 
 /* The library's call of long numbers with the switch off: what it gives is what the other call gives. Where it is timed, its
@@ -147,15 +147,15 @@ static void run_line(const bench_case *c, int i) {
 }
 
 static void run_row(const bench_case *c, int i) {
-    size_t area = (size_t)c->shape.width * c->shape.height;
-    if (i == 0) hoengtila_blocks_inverse(shapes, ROW, answers, input, ROW * area, sums, ROW * area);
-    else for (size_t k = 0; k < ROW; k++) answers[k] = hoengtila_block_inverse(shapes[k], input + k * area, area, sums + k * area, area);
+    size_t elements = (size_t)c->shape.width * c->shape.height;
+    if (i == 0) hoengtila_blocks_inverse(shapes, ROW, answers, input, ROW * elements, sums, ROW * elements);
+    else for (size_t k = 0; k < ROW; k++) answers[k] = hoengtila_block_inverse(shapes[k], input + k * elements, elements, sums + k * elements, elements);
 }
 
 static void run_library(const bench_case *c) {
-    size_t area = (size_t)c->shape.width * c->shape.height;
-    if (c->forward) hoengtila_block_forward(c->shape, input, area, coefficients, area);
-    else hoengtila_block_inverse(c->shape, input, area, sums, area);
+    size_t elements = (size_t)c->shape.width * c->shape.height;
+    if (c->forward) hoengtila_block_forward(c->shape, input, elements, coefficients, elements);
+    else hoengtila_block_inverse(c->shape, input, elements, sums, elements);
 }
 
 void run_case(const bench_case *c, int i) {

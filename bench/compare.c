@@ -35,27 +35,27 @@ static int differ(hoengtila_shape s, const char *direction, int i) {
 }
 
 static int compare_inverse(hoengtila_shape s, int block) {
-    size_t area = (size_t)s.width * s.height;
+    size_t elements = (size_t)s.width * s.height;
     fill(s, 32767, 1, block);
-    if (hoengtila_block_inverse(s, input, area, output32[0], area).number != 0) return differ(s, "inverse", 0);
+    if (hoengtila_block_inverse(s, input, elements, output32[0], elements).number != 0) return differ(s, "inverse", 0);
     for (int i = 1; i < IMPLEMENTATIONS; i++) {
         if (!has_shape(i, 0, s)) continue;
         memset(output32[1], 0x55, sizeof output32[1]);
         inverse_of(i)(s, input, output32[1]);
-        if (memcmp(output32[0], output32[1], area * sizeof **output32)) return differ(s, "inverse", i);
+        if (memcmp(output32[0], output32[1], elements * sizeof **output32)) return differ(s, "inverse", i);
     }
     return 0;
 }
 
 static int compare_forward(hoengtila_shape s, int block) {
-    size_t area = (size_t)s.width * s.height;
+    size_t elements = (size_t)s.width * s.height;
     fill(s, (1 << s.depth) - 1, 0, block);
-    if (hoengtila_block_forward(s, input, area, output16[0], area).number != 0) return differ(s, "forward", 0);
+    if (hoengtila_block_forward(s, input, elements, output16[0], elements).number != 0) return differ(s, "forward", 0);
     for (int i = 1; i < IMPLEMENTATIONS; i++) {
         if (!has_shape(i, 1, s)) continue;
         memset(output16[1], 0x55, sizeof output16[1]);
         forward_of(i)(s, input, output16[1]);
-        if (memcmp(output16[0], output16[1], area * sizeof **output16)) return differ(s, "forward", i);
+        if (memcmp(output16[0], output16[1], elements * sizeof **output16)) return differ(s, "forward", i);
     }
     return 0;
 }
@@ -64,12 +64,12 @@ static int compare_forward(hoengtila_shape s, int block) {
 static int compare_row(hoengtila_shape s) {
     static hoengtila_shape shapes[ROW];
     static hoengtila_answer one[ROW], each[ROW];
-    size_t area = (size_t)s.width * s.height, count = LARGEST / area < ROW ? LARGEST / area : ROW;
+    size_t elements = (size_t)s.width * s.height, count = LARGEST / elements < ROW ? LARGEST / elements : ROW;
     for (size_t k = 0; k < count; k++) shapes[k] = s;
-    for (uint32_t k = 0; k < count * area; k++) input[k] = is_kept(s, k % s.width, k / s.width % s.height) ? number(32767, 1) : 0;
-    if (hoengtila_blocks_inverse(shapes, count, one, input, count * area, output32[0], count * area) != 0) return differ(s, "row", 0);
-    for (size_t k = 0; k < count; k++) each[k] = hoengtila_block_inverse(s, input + k * area, area, output32[1] + k * area, area);
-    if (memcmp(one, each, count * sizeof *one) || memcmp(output32[0], output32[1], count * area * sizeof **output32)) return differ(s, "row", 0);
+    for (uint32_t k = 0; k < count * elements; k++) input[k] = is_kept(s, k % s.width, k / s.width % s.height) ? number(32767, 1) : 0;
+    if (hoengtila_blocks_inverse(shapes, count, one, input, count * elements, output32[0], count * elements) != 0) return differ(s, "row", 0);
+    for (size_t k = 0; k < count; k++) each[k] = hoengtila_block_inverse(s, input + k * elements, elements, output32[1] + k * elements, elements);
+    if (memcmp(one, each, count * sizeof *one) || memcmp(output32[0], output32[1], count * elements * sizeof **output32)) return differ(s, "row", 0);
     return 0;
 }
 

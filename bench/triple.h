@@ -1,5 +1,5 @@
 /* Blocks by triple loops, over lines, sums and inputs: each sum is shifted and clipped, and the result of the first stage
- * turned over for the second. What the scope zeroes is skipped, as the reference software skips it; a coefficient that
+ * turned over for the second. What document 01 zeroes is skipped, as the reference software skips it; a coefficient that
  * happens to be 0 is not. Numbers between the stages are ints, and lines are called through a table, as there. The size of
  * a line is a constant; the file that includes this says by KEPT_OF whether the number of its kept places is one too. */
 #ifndef TRIPLE_H

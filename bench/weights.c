@@ -1,4 +1,4 @@
-/* The weights: kinds 1 and 2 by the scope's fold rule from the first rows, kind 0 by H.266's numbers of its odd rows. */
+/* The weights: kinds 1 and 2 by document 01's fold rule from the first rows, kind 0 by H.266's numbers of its odd rows. */
 #include "bench.h"
 
 #include <stdlib.h>

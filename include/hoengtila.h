@@ -256,12 +256,12 @@ hoengtila_saved hoengtila_salvage(const uint8_t *file, size_t file_len, uint8_t 
 typedef struct {
     uint32_t number; /* 0, or the number of the refusal */
     uint32_t count;  /* how many multiplying steps the run took; 0 where refused */
-} hoengtila_taken;
+} hoengtila_step_count;
 
 /* Any list: x holds the inputs, y takes the outputs. Refusals, in this order: 18, 6, 7, 28, 17, 29. 6 and 7: x or y has not the list's
  * number of inputs or of outputs. 28 is met by more inputs than cells before any step; then the last three are looked for at each step,
  * and after the last step 28 and 17 at each output cell. */
-hoengtila_taken hoengtila_steps_run(uint32_t inputs, uint32_t cells, const int32_t *steps, size_t steps_len, const int32_t *outs, size_t outs_len, const int16_t *x, size_t x_len, int32_t *y, size_t y_len);
+hoengtila_step_count hoengtila_steps_run(uint32_t inputs, uint32_t cells, const int32_t *steps, size_t steps_len, const int32_t *outs, size_t outs_len, const int16_t *x, size_t x_len, int32_t *y, size_t y_len);
 
 typedef struct {
     uint32_t number; /* 0, or the number of the refusal; the others are told with 7 too */
@@ -277,7 +277,7 @@ typedef struct {
 hoengtila_listed hoengtila_steps_list(uint32_t n, int32_t *steps, size_t steps_len, int32_t *outs, size_t outs_len);
 
 /* The forward DST-VII of n points by its list: what hoengtila_line_forward_product gives. Refusals, in this order: 1, 6, 7. 1 as above. */
-hoengtila_taken hoengtila_steps_forward(uint32_t n, const int16_t *x, size_t x_len, int32_t *y, size_t y_len);
+hoengtila_step_count hoengtila_steps_forward(uint32_t n, const int16_t *x, size_t x_len, int32_t *y, size_t y_len);
 
 #ifdef __cplusplus
 }

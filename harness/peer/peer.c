@@ -184,7 +184,7 @@ static void row(void) {
     put_output(row32[0], sizeof **row32, out);
 }
 
-static void put_taken(hoengtila_taken t, uint32_t out) {
+static void put_step_count(hoengtila_step_count t, uint32_t out) {
     put_number(t.number);
     put_number(t.count);
     put_output(out32, sizeof *out32, out);
@@ -196,7 +196,7 @@ static void steps_run(void) {
     get(outs32, sizeof *outs32, outs);
     get(in16, sizeof *in16, in);
     get_output(out32, sizeof *out32, out);
-    put_taken(hoengtila_steps_run(inputs, cells, steps32, steps, outs32, outs, in16, in, out32, out), out);
+    put_step_count(hoengtila_steps_run(inputs, cells, steps32, steps, outs32, outs, in16, in, out32, out), out);
 }
 
 static void steps_list(void) {
@@ -218,7 +218,7 @@ static void steps_forward(void) {
     uint32_t n = number(), in = length(), out = length();
     get(in16, sizeof *in16, in);
     get_output(out32, sizeof *out32, out);
-    put_taken(hoengtila_steps_forward(n, in16, in, out32, out), out);
+    put_step_count(hoengtila_steps_forward(n, in16, in, out32, out), out);
 }
 
 int main(void) {

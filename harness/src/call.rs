@@ -4,7 +4,7 @@ use crate::library::{Answer, Shape};
 use crate::model;
 use crate::peer::{Replies, Request};
 use crate::subject::{Answered, Asked};
-use crate::widths::{most_kept, narrow, number, shape_numbers, wide};
+use crate::widths::{narrow, number, shape_numbers, shape_of, wide};
 use std::io;
 
 /// Which function of the header, with its numbers.
@@ -138,7 +138,7 @@ impl Asked for Call {
     fn by_model(&self) -> Outcome {
         let (input, mut output) = (wide(&self.input), wide(&self.held));
         let answer = match self.what {
-            What::ShapeOf(numbers) => return Outcome::of_shape(&most_kept(numbers)),
+            What::ShapeOf(numbers) => return Outcome::of_shape(&shape_of(numbers)),
             What::Weight { kind, n, i, j } => {
                 return Outcome::of_numbers(vec![model_weight(kind, n, i, j)])
             }

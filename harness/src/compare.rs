@@ -102,13 +102,13 @@ impl Comparison {
 mod tests {
     use super::*;
     use crate::call::{Outcome, What};
-    use crate::widths::most_kept;
+    use crate::widths::shape_of;
     use std::panic::{catch_unwind, AssertUnwindSafe};
 
     /// A comparison that overlooked a part of the outcome would pass whatever the library did there.
     #[test]
     fn every_part_of_an_outcome_counts() {
-        let what = What::Inverse(most_kept([4, 4, 1, 1, 10]));
+        let what = What::Inverse(shape_of([4, 4, 1, 1, 10]));
         let call = Call::new(what, vec![32767; 16], vec![7; 16]);
         let agrees = |found: &Outcome| {
             let mut c = Comparison::of(Subject::Model, "a block that is clipped");

@@ -53,7 +53,7 @@ fn alone(count: usize, place: usize, number: i16) -> Vec<i16> {
     numbers
 }
 
-/// The two fields of the scope's whole case.
+/// The two fields of document 01's whole case.
 fn four() -> Vec<u8> {
     shape(4, 4, 1, 1, 10)
 }

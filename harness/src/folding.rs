@@ -86,7 +86,7 @@ mod tests {
         }
     }
 
-    /// In the other rows each of the last places is the sum that the scope names.
+    /// In the other rows each of the last places is the sum that document 01 names.
     #[test]
     fn last_places_are_sums_of_earlier_ones() {
         for n in [4, 16, 32] {

@@ -1,4 +1,4 @@
-//! An independent model of document 01 (the scope) and document 02, and what compares other things with it.
+//! An independent model of document 01 and document 02, and what compares other things with it.
 //!
 //! `model` is written from the text of the two documents, and from a decoder where they leave a rule to H.266 (`docs/DECISIONS.md`), with
 //! no eye to the code and none to speed.

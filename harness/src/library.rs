@@ -59,7 +59,7 @@ pub struct Thin {
 /// steps it took.
 #[repr(C)]
 #[derive(Clone, Copy, Debug, PartialEq, Eq)]
-pub struct Taken {
+pub struct StepCount {
     pub number: u32,
     pub count: u32,
 }
@@ -117,7 +117,7 @@ pub struct Saved {
 // Nothing holds these lines to the header or to the Rattle source but the tests. One line each, as in the header.
 #[rustfmt::skip]
 mod c {
-    use super::{Answer, Listed, Parts, Picture, Saved, Shape, Taken, Thin, Written};
+    use super::{Answer, Listed, Parts, Picture, Saved, Shape, StepCount, Thin, Written};
 
     unsafe extern "C" {
         pub fn hoengtila_shape_of(width: u32, height: u32, horizontal: u32, vertical: u32, depth: u32) -> Shape;
@@ -141,9 +141,9 @@ mod c {
         pub fn hoengtila_picture_write(width: u32, height: u32, residuals: *const i32, residuals_len: usize, file: *mut u8, file_len: usize) -> Written;
         pub fn hoengtila_picture_read(file: *const u8, file_len: usize, residuals: *mut i32, residuals_len: usize) -> Picture;
         pub fn hoengtila_salvage(file: *const u8, file_len: usize, out: *mut u8, out_len: usize, list: *mut u32, list_len: usize) -> Saved;
-        pub fn hoengtila_steps_run(inputs: u32, cells: u32, steps: *const i32, steps_len: usize, outs: *const i32, outs_len: usize, x: *const i16, x_len: usize, y: *mut i32, y_len: usize) -> Taken;
+        pub fn hoengtila_steps_run(inputs: u32, cells: u32, steps: *const i32, steps_len: usize, outs: *const i32, outs_len: usize, x: *const i16, x_len: usize, y: *mut i32, y_len: usize) -> StepCount;
         pub fn hoengtila_steps_list(n: u32, steps: *mut i32, steps_len: usize, outs: *mut i32, outs_len: usize) -> Listed;
-        pub fn hoengtila_steps_forward(n: u32, x: *const i16, x_len: usize, y: *mut i32, y_len: usize) -> Taken;
+        pub fn hoengtila_steps_forward(n: u32, x: *const i16, x_len: usize, y: *mut i32, y_len: usize) -> StepCount;
     }
 }
 
@@ -231,7 +231,7 @@ pub fn block_inverse(shape: Shape, coefficients: &[i16], residuals: &mut [i32]) 
     call!(c::hoengtila_block_inverse(shape; coefficients; residuals))
 }
 
-/// The residuals of a block of long coefficients; `extended` is the extended-precision switch.
+/// The residuals of a block of long numbers; `extended` is the extended-precision switch.
 #[inline]
 pub fn block_inverse_long(
     shape: Shape,
@@ -303,7 +303,7 @@ pub fn block_why(shape: Shape, coefficients: &[i16], place: u32) -> Parts {
     unsafe { c::hoengtila_block_why(shape, input.as_ptr(), input.len(), place) }
 }
 
-/// The same of a block of long coefficients; `extended` is the extended-precision switch.
+/// The same of a block of long numbers; `extended` is the extended-precision switch.
 #[inline]
 pub fn block_why_long(shape: Shape, extended: bool, coefficients: &[i32], place: u32) -> Parts {
     let (input, switch) = (coefficients, u32::from(extended));
@@ -319,7 +319,7 @@ pub fn steps_run(
     outs: &[i32],
     x: &[i16],
     y: &mut [i32],
-) -> Taken {
+) -> StepCount {
     call!(c::hoengtila_steps_run(inputs, cells; steps, outs, x; y))
 }
 
@@ -331,7 +331,7 @@ pub fn steps_list(n: u32, steps: &mut [i32], outs: &mut [i32]) -> Listed {
 
 /// The forward DST-VII of `n` points by its list of steps.
 #[inline]
-pub fn steps_forward(n: u32, x: &[i16], y: &mut [i32]) -> Taken {
+pub fn steps_forward(n: u32, x: &[i16], y: &mut [i32]) -> StepCount {
     call!(c::hoengtila_steps_forward(n; x; y))
 }
 

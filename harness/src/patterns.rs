@@ -243,7 +243,7 @@ fn kept(shape: &Shape) -> [usize; 2] {
 /// The shape with other kept numbers, each of those that are allowed, the ends often: one, or all.
 pub fn keeping_any(random: &mut Random, shape: &Shape) -> Shape {
     let mut any = |kind: u32, n: u32| {
-        let most = call::most(kind.into(), n.into());
+        let most = call::most_kept(kind.into(), n.into());
         let between = random.between(1, most);
         random.choose(&[1, most, between, between]) as u32
     };

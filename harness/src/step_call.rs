@@ -1,6 +1,6 @@
 //! Calls on lists of steps as values: a run of any list, the list of n points, and the line by it.
 
-use crate::library::{Listed, Taken};
+use crate::library::{Listed, StepCount};
 use crate::model;
 use crate::peer::{Replies, Request};
 use crate::steps::{make, LISTED};
@@ -36,7 +36,7 @@ pub struct ForwardCall {
 /// Of a run, or of a line by its list: what it hands back, and what its output holds then.
 #[derive(Clone, Debug, PartialEq, Eq)]
 pub struct RunOutcome {
-    pub told: Taken,
+    pub told: StepCount,
     pub output: Vec<i32>,
 }
 
@@ -49,9 +49,9 @@ pub struct ListOutcome {
 }
 
 impl RunOutcome {
-    fn of(taken: model::steps::Taken, output: &[i64]) -> RunOutcome {
+    fn of(told: model::steps::StepCount, output: &[i64]) -> RunOutcome {
         RunOutcome {
-            told: taken.into(),
+            told: told.into(),
             output: narrow(output),
         }
     }
@@ -59,7 +59,7 @@ impl RunOutcome {
     fn read(replies: &mut Replies, length: usize) -> io::Result<RunOutcome> {
         let [number, count] = replies.told()?;
         Ok(RunOutcome {
-            told: Taken { number, count },
+            told: StepCount { number, count },
             output: replies.numbers(length)?,
         })
     }
@@ -92,8 +92,8 @@ impl Asked for RunCall {
         let (inputs, cells) = (self.inputs.into(), self.cells.into());
         let (steps, outs) = (wide(&self.steps), wide(&self.outs));
         let (x, mut y) = (wide(&self.x), wide(&self.held));
-        let taken = model::steps::run(inputs, cells, &steps, &outs, &x, &mut y);
-        RunOutcome::of(taken, &y)
+        let told = model::steps::run(inputs, cells, &steps, &outs, &x, &mut y);
+        RunOutcome::of(told, &y)
     }
 
     #[cfg(hoengtila_linked)]
@@ -206,7 +206,7 @@ impl Asked for ForwardCall {
             0 => make(self.n as usize).multiplying() as i64,
             _ => 0,
         };
-        RunOutcome::of(model::steps::Taken { number, count }, &y)
+        RunOutcome::of(model::steps::StepCount { number, count }, &y)
     }
 
     #[cfg(hoengtila_linked)]

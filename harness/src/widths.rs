@@ -1,6 +1,6 @@
 //! Between the library's numbers, of 16 and 32 bits, and the model's, of 64.
 
-use crate::library::{Answer, Parts, Shape, Taken, Thin};
+use crate::library::{Answer, Parts, Shape, StepCount, Thin};
 use crate::model;
 use std::any::type_name;
 
@@ -8,7 +8,7 @@ pub fn wide<T: Copy + Into<i64>>(numbers: &[T]) -> Vec<i64> {
     numbers.iter().map(|z| (*z).into()).collect()
 }
 
-/// Fewer bits have to hold each number: the scope says that they do, and the model, on 64, would show it.
+/// Fewer bits have to hold each number: document 01 says that they do, and the model, on 64, would show it.
 pub fn narrow<T: TryFrom<i64>>(numbers: &[i64]) -> Vec<T> {
     numbers.iter().map(|z| number(*z)).collect()
 }
@@ -31,7 +31,7 @@ pub fn shape_numbers(shape: &Shape) -> [u32; 7] {
 }
 
 /// A shape that keeps the most, by the model: tests that reach the library through a peer cannot call it here.
-pub fn most_kept(numbers: [u32; 5]) -> Shape {
+pub fn shape_of(numbers: [u32; 5]) -> Shape {
     let [width, height, horizontal, vertical, depth] = numbers.map(i64::from);
     model::Shape::new(width, height, horizontal, vertical, depth).into()
 }
@@ -89,11 +89,11 @@ impl From<model::thin::Thin> for Thin {
     }
 }
 
-impl From<model::steps::Taken> for Taken {
-    fn from(taken: model::steps::Taken) -> Taken {
-        Taken {
-            number: number(taken.number),
-            count: number(taken.count),
+impl From<model::steps::StepCount> for StepCount {
+    fn from(told: model::steps::StepCount) -> StepCount {
+        StepCount {
+            number: number(told.number),
+            count: number(told.count),
         }
     }
 }

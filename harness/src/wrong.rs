@@ -3,7 +3,7 @@
 use crate::library::Shape;
 use crate::patterns::{clear_outside, is_kept};
 use crate::random::Random;
-use crate::widths::most_kept;
+use crate::widths::shape_of;
 
 /// Numbers that no size, kind or depth is; a caller can hand over any of 32 bits.
 pub const NO_SIZE: [i64; 8] = [0, 1, 2, 5, 24, 64, 65_536, 4_294_967_295];
@@ -76,7 +76,7 @@ impl Wrong {
         let no_depths = NO_DEPTH.iter().filter(|d| !depths.contains(d));
         let no_depths: Vec<i64> = no_depths.copied().chain([i64::from(deepest) + 1]).collect();
         let depth = self.pick(random, 5, &depths, &no_depths) as u32;
-        let most = most_kept([w, h, horizontal, vertical, depth]);
+        let most = shape_of([w, h, horizontal, vertical, depth]);
         let [columns, rows] = self.kept(random, [most.columns.into(), most.rows.into()]);
         most.keeping(columns as u32, rows as u32)
     }
@@ -116,7 +116,7 @@ impl Wrong {
 /// The length that a shape asks for, where the peer has room for twice as many numbers, or another.
 pub fn right_length(shape: &Shape) -> i64 {
     match u64::from(shape.width) * u64::from(shape.height) {
-        area @ 1..=2048 => area as i64,
+        elements @ 1..=2048 => elements as i64,
         _ => 16,
     }
 }

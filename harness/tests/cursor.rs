@@ -31,16 +31,16 @@ fn line(cursor: Cursor) -> String {
 
 /// What the model's reader gives: a new cursor; the number, the tag of a field that was read, and the next cursor; the body.
 fn wanted(cursor: Cursor, file: &[u8]) -> Vec<u8> {
-    let step = cursor.step(file);
-    let read = step.next.at != cursor.at;
+    let advance = cursor.advance(file);
+    let read = advance.next.at != cursor.at;
     let tag = if read { file[cursor.at] } else { 0 };
     let text = format!(
         "{}{} {tag} {}",
         line(Cursor::new()),
-        step.number,
-        line(step.next)
+        advance.number,
+        line(advance.next)
     );
-    [text.as_bytes(), step.body].concat()
+    [text.as_bytes(), advance.body].concat()
 }
 
 /// The places of a file's fields, as far as it is whole.
@@ -49,7 +49,7 @@ fn places(file: &[u8]) -> Vec<usize> {
     let mut places = vec![];
     loop {
         places.push(cursor.at);
-        let next = cursor.step(file).next;
+        let next = cursor.advance(file).next;
         if next.at == cursor.at {
             return places;
         }
@@ -79,7 +79,7 @@ fn shape(random: &mut Random, file: &[u8]) -> Option<Shape> {
     ];
     let mut numbers = [width, height, kinds[0], kinds[1], depth];
     match random.below(6) {
-        0 | 1 => return Cursor::new().step(file).next.shape,
+        0 | 1 => return Cursor::new().advance(file).next.shape,
         2 => return None,
         3 => numbers[random.below(5)] = random.choose(&[0, 3, 5, 7, 13, 64, 256, 0xFFFF_FFFF]),
         4 => kept[random.below(2)] = random.choose(&[0, 17, 33, 256, 257, 0xFFFF_FFFF]),
@@ -114,7 +114,7 @@ fn steps_from_any_cursor() {
         let at = place(&mut random, &file);
         let shape = shape(&mut random, &file);
         let cursor = Cursor { at, shape };
-        met[cursor.step(&file).number as usize] += 1;
+        met[cursor.advance(&file).number as usize] += 1;
         assert_eq!(
             run_on(&command_line, &input(cursor, &file), &[]).0,
             wanted(cursor, &file),
@@ -126,5 +126,5 @@ fn steps_from_any_cursor() {
     for number in [0, 1, 2, 3, 4, 5, 20, 6, 10, 11, 12, 13, 14] {
         assert!(met[number] > 0, "{number} was not met");
     }
-    println!("cursor: {CASES} steps from cursors of any kind are the model's");
+    println!("cursor: {CASES} advances from cursors of any kind are the model's");
 }

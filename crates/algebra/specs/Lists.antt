@@ -19,7 +19,7 @@ unfoldable pub block : ℕ → ℕ → (ℕ → ℕ → ℤ) → List ℤ
 block w zero f = []
 block w (suc h) f = block w h f ++ tabulate w (λ x. f x h)
 
--- what is written at the start of an area; what it held behind that stays
+-- what is written at the start of a buffer; what it held behind that stays
 abbrev pub over : {A : Type 0} → List A → List A → List A
 over l held = l ++ drop (length l) held
 

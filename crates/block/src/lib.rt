@@ -2,9 +2,9 @@
 // `forward_hunt` and `forward_block`.
 use meaning::Answer;
 use meaning::Shape;
-use meaning::acceptance;
+use meaning::accepted;
 use meaning::block_refusal;
-use meaning::refusal;
+use meaning::refused;
 ghost use mathlib.Core.Path.{_≡_};
 ghost use Rattle.meaning.specs.Answer.{Outcome};
 ghost use Rattle.meaning.specs.Forward.{forwardOutcome};
@@ -16,15 +16,15 @@ pub fn inverse(shape: Shape, coefficients: &[i16], residuals: &mut [i32]) -> Ans
 {
     let number = block_refusal(shape, false, coefficients.len(), residuals.len());
     if number != 0 {
-        return refusal(number, 0);
+        return refused(number, 0);
     }
     let rows = inverse_hunt::live::rows(shape, coefficients);
     let columns = inverse_hunt::live::columns(shape, rows, coefficients);
-    let place = inverse_hunt::hunt::hunt(shape, columns, rows, coefficients);
+    let place = inverse_hunt::hunt::first_outside(shape, columns, rows, coefficients);
     if place < coefficients.len() {
-        return refusal(8, place as u32);
+        return refused(8, place as u32);
     }
-    acceptance(inverse_block::stages::stages(shape, rows, columns, coefficients, residuals))
+    accepted(inverse_block::stages::stages(shape, rows, columns, coefficients, residuals))
 }
 
 /// The forward block: residuals to coefficients. Refusals 1 to 5, 20, 6, 7, then 9.
@@ -33,12 +33,12 @@ pub fn forward(shape: Shape, residuals: &[i16], coefficients: &mut [i16]) -> Ans
 {
     let number = block_refusal(shape, false, residuals.len(), coefficients.len());
     if number != 0 {
-        return refusal(number, 0);
+        return refused(number, 0);
     }
     let place = forward_hunt::hunt::first_too_large(shape, residuals);
     if place < residuals.len() {
-        return refusal(9, place as u32);
+        return refused(9, place as u32);
     }
     forward_block::stages::stages(shape, residuals, coefficients);
-    acceptance(0)
+    accepted(0)
 }

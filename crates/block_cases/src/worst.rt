@@ -8,7 +8,7 @@ use meaning::Shape;
 fn three(
     is_forward: bool,
     shape: Shape,
-    area: usize,
+    elements: usize,
     columns: usize,
     rows: usize,
     high: i16,
@@ -20,34 +20,34 @@ fn three(
         is_forward,
         shape,
         filled(w, columns, rows, high, high),
-        area,
-        area,
+        elements,
+        elements,
     );
     text(b"low");
     line(
         is_forward,
         shape,
         filled(w, columns, rows, low, low),
-        area,
-        area,
+        elements,
+        elements,
     );
     text(b"by turns");
     line(
         is_forward,
         shape,
         filled(w, columns, rows, high, low),
-        area,
-        area,
+        elements,
+        elements,
     );
 }
 
-fn blocks(is_forward: bool, shape: Shape, area: usize, high: i16, low: i16) {
+fn blocks(is_forward: bool, shape: Shape, elements: usize, high: i16, low: i16) {
     if is_forward {
-        three(is_forward, shape, area, 32, 32, high, low);
+        three(is_forward, shape, elements, 32, 32, high, low);
     } else {
         let columns = shape.columns as usize;
         let rows = shape.rows as usize;
-        three(is_forward, shape, area, columns, rows, high, low);
+        three(is_forward, shape, elements, columns, rows, high, low);
     }
 }
 

@@ -11,8 +11,8 @@ use lib.Dec.{eqb, ltb}
 use lib.ListN.{length}
 use Rattle.block_file.specs.declared.cursor.Cursor.{Cursor}
 use Rattle.block_file.specs.declared.field.Field.{Field}
-use Rattle.block_file.specs.Field.{fieldNumber, fieldAt, nothing, whole}
-use Rattle.block_file.specs.Cursor.{foundAt, tooLong, stepOf, bodyStart, bodyLength}
+use Rattle.block_file.specs.Field.{fieldNumber, fieldAt, nothing, wholeField}
+use Rattle.block_file.specs.Cursor.{foundAt, tooLong, advanceOf, bodyStart, bodyLength}
 use Rattle.block_file.proofs.Whole.{Whole, whole-field, some-body}
 
 pick : (P : Field → Type 0) (b : Bool) (f g : Field) → (b ≡ true → P f) → (b ≡ false → P g) → P (cond b f g)
@@ -23,7 +23,7 @@ module _ (file : List ℕ) (c : Cursor) where
   -- number 0 where there is nothing says that the place is at the end or past it
   pub found-cases : (P : Field → Type 0)
       → ((n : ℕ) → (n ≡ 0 → length file ≤ c .at) → P (nothing n (c .at) (c .shape)))
-      → (c .at < length file → length file ≤ 65536 → Whole file (c .at) (c .shape) → P (whole file (c .at) (c .shape)))
+      → (c .at < length file → length file ≤ 65536 → Whole file (c .at) (c .shape) → P (wholeField file (c .at) (c .shape)))
       → P (foundAt file c)
   unfolding foundAt fieldAt
   found-cases P none some =
@@ -31,14 +31,14 @@ module _ (file : List ℕ) (c : Cursor) where
       let l = ltb (c .at) (length file) in
       pick P (tooLong file) (nothing 14 (c .at) (c .shape)) _ (λ p. none 14 (λ e. absurd (omega arith)))
       (λ p. pick P (not l) (nothing 0 (c .at) (c .shape)) _ (λ q. none 0 (λ e. ltb-false (c .at) (length file) (not-true l q)))
-      (λ q. pick P (eqb n 0) (whole file (c .at) (c .shape)) (nothing n (c .at) (c .shape))
+      (λ q. pick P (eqb n 0) (wholeField file (c .at) (c .shape)) (nothing n (c .at) (c .shape))
       (λ r. some (ltb-true (c .at) (length file) (not-false l q)) (ltb-false 65536 (length file) p) (whole-field file (c .at) (c .shape) (eqb-true n 0 r)))
       (λ r. none n (λ e. absurd (eqb-false n 0 r e)))))
 
   pub body-within : bodyStart file c + bodyLength file c ≤ length file
   body-within = found-cases (λ f. f .start + f .bytes ≤ length file) (λ n h. omega arith) (λ h l w. w .body)
 
-  pub read-body : c .at < length file → stepOf file c .number ≡ 0 → 0 < bodyLength file c
+  pub read-body : c .at < length file → advanceOf file c .number ≡ 0 → 0 < bodyLength file c
   read-body h =
       found-cases (λ f. f .number ≡ 0 → 0 < f .bytes) (λ n e z. absurd (omega (arith, e z)))
       (λ h l w z. some-body file (c .at) (c .shape) w)

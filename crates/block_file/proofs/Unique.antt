@@ -5,16 +5,16 @@ use mathlib.Core.List.{List}
 use Prim.Native.Nat.{ℕ}
 use Rattle.algebra.proofs.Unique.{one}
 use Rattle.block_file.specs.declared.cursor.Cursor.{Cursor}
-use Rattle.block_file.specs.declared.cursor.Step.{Step}
-use Rattle.block_file.specs.Cursor.{start, stepOf, bodyOf}
+use Rattle.block_file.specs.declared.cursor.Advance.{Advance}
+use Rattle.block_file.specs.Cursor.{fileStart, advanceOf, bodyOf}
 
 -- `Cursor::new`
-pub one-new : {x y : Cursor} → x ≡ start → y ≡ start → x ≡ y
+pub one-new : {x y : Cursor} → x ≡ fileStart → y ≡ fileStart → x ≡ y
 one-new p q = one p q
 
--- `step`: the number, the tag, the next place and the shape
-pub one-step : (file : List ℕ) (cursor : Cursor) {x y : Step} → x ≡ stepOf file cursor → y ≡ stepOf file cursor → x ≡ y
-one-step file cursor p q = one p q
+-- `advance`: the number, the tag, the next place and the shape
+pub one-advance : (file : List ℕ) (cursor : Cursor) {x y : Advance} → x ≡ advanceOf file cursor → y ≡ advanceOf file cursor → x ≡ y
+one-advance file cursor p q = one p q
 
 -- `body`: where it lies, and its bytes
 pub one-body : (place : ℕ × ℕ) (file : List ℕ) (cursor : Cursor) {x y : (ℕ × ℕ) × List ℕ} → x ≡ bodyOf place file cursor → y ≡ bodyOf place file cursor → x ≡ y

@@ -7,13 +7,13 @@ use lib.Dec.{ltb}
 use lib.ListN.{length, take, drop}
 use Rattle.meaning.specs.Shape.{shapeOf}
 use Rattle.block_file.specs.declared.cursor.Cursor.{Cursor}
-use Rattle.block_file.specs.declared.cursor.Step.{Step}
+use Rattle.block_file.specs.declared.cursor.Advance.{Advance}
 use Rattle.block_file.specs.declared.field.Field.{Field}
 use Rattle.block_file.specs.Field.{nothing, fieldAt}
 
 -- the start of a file; test 1 refuses the shape, so it "counts as none"
-abbrev pub start : Cursor
-start = record { at = 0; shape = shapeOf 0 0 0 0 0 }
+abbrev pub fileStart : Cursor
+fileStart = record { at = 0; shape = shapeOf 0 0 0 0 0 }
 
 -- "14 file above 65,536 bytes"
 abbrev pub tooLong : List ℕ → Bool
@@ -24,8 +24,8 @@ unfoldable pub foundAt : List ℕ → Cursor → Field
 foundAt file cursor = cond (tooLong file) (nothing 14 (cursor .at) (cursor .shape)) (fieldAt file (cursor .at) (cursor .shape))
 
 -- "It hands back a number too: 0 for a field read and at the end"
-abbrev pub stepOf : List ℕ → Cursor → Step
-stepOf file cursor =
+abbrev pub advanceOf : List ℕ → Cursor → Advance
+advanceOf file cursor =
     let field = foundAt file cursor in
     record { number = field .number; tag = field .tag; next = field .next }
 

@@ -87,8 +87,8 @@ abbrev pub nothing : ℕ → ℕ → Shape → Field
 nothing number at shape = record { number = number; tag = 0; start = 0; bytes = 0; next = record { at = at; shape = shape } }
 
 -- a field that is whole: its body stands behind the three bytes of its header, and the next field behind the body
-abbrev pub whole : List ℕ → ℕ → Shape → Field
-whole file at shape =
+abbrev pub wholeField : List ℕ → ℕ → Shape → Field
+wholeField file at shape =
     record {
       number = 0;
       tag = byteAt file at;
@@ -101,5 +101,5 @@ whole file at shape =
 unfoldable pub fieldAt : List ℕ → ℕ → Shape → Field
 fieldAt file at shape =
     cond (not (ltb at (length file))) (nothing 0 at shape)
-    (cond (eqb (fieldNumber file at shape) 0) (whole file at shape)
+    (cond (eqb (fieldNumber file at shape) 0) (wholeField file at shape)
     (nothing (fieldNumber file at shape) at shape))

@@ -7,12 +7,12 @@ use Prim.Native.Nat.{ℕ, zero, suc, _+_, _≤_, _<_}
 use native.Mathlib.Omega.{arith}
 use lib.ListN.{length}
 use Rattle.block_file.specs.declared.cursor.Cursor.{Cursor}
-use Rattle.block_file.specs.Cursor.{start, stepOf}
+use Rattle.block_file.specs.Cursor.{fileStart, advanceOf}
 use Rattle.block_file.proofs.Found.{found-cases}
 use Rattle.block_pick.specs.Pick.{passes, left, walk, picked}
 
 -- a field that is passed over lies in the file, and the next one behind it
-pub moves : (file : List ℕ) (c : Cursor) (n : ℕ) → passes (stepOf file c .tag) n ≡ true → (c .at < length file) × (c .at < stepOf file c .next .at)
+pub moves : (file : List ℕ) (c : Cursor) (n : ℕ) → passes (advanceOf file c .tag) n ≡ true → (c .at < length file) × (c .at < advanceOf file c .next .at)
 unfolding passes
 moves file c n =
     found-cases file c (λ f. passes (f .tag) n ≡ true → (c .at < length file) × (c .at < f .next .at))
@@ -30,19 +30,19 @@ at-end false a d e = refl
 enough : (k j : ℕ) (file : List ℕ) (n : ℕ) (c : Cursor) → length file ≤ c .at + k → length file ≤ c .at + j → walk k file n c ≡ walk j file n c
 unfolding walk
 enough zero zero file n c h g = refl
-enough zero (suc j) file n c h g = at-end (passes (stepOf file c .tag) n) (walk j file (left (stepOf file c .tag) n) (stepOf file c .next)) c (λ e. let m = moves file c n e in omega arith)
-enough (suc k) zero file n c h g = sym (at-end (passes (stepOf file c .tag) n) (walk k file (left (stepOf file c .tag) n) (stepOf file c .next)) c (λ e. let m = moves file c n e in omega arith))
+enough zero (suc j) file n c h g = at-end (passes (advanceOf file c .tag) n) (walk j file (left (advanceOf file c .tag) n) (advanceOf file c .next)) c (λ e. let m = moves file c n e in omega arith)
+enough (suc k) zero file n c h g = sym (at-end (passes (advanceOf file c .tag) n) (walk k file (left (advanceOf file c .tag) n) (advanceOf file c .next)) c (λ e. let m = moves file c n e in omega arith))
 enough (suc k) (suc j) file n c h g =
-    let s = stepOf file c in
+    let s = advanceOf file c in
     either (passes (s .tag) n) (walk k file (left (s .tag) n) (s .next)) (walk j file (left (s .tag) n) (s .next)) c
     (λ e. let m = moves file c n e in enough k j file (left (s .tag) n) (s .next) (omega arith) (omega arith))
 
-pub fuel : (file : List ℕ) (n k : ℕ) → length file ≤ k → walk k file n start ≡ picked file n
+pub fuel : (file : List ℕ) (n k : ℕ) → length file ≤ k → walk k file n fileStart ≡ picked file n
 unfolding picked
-fuel file n k h = enough k (length file) file n start (omega arith) (omega arith)
+fuel file n k h = enough k (length file) file n fileStart (omega arith) (omega arith)
 
 -- one field, and then the rest
 pub one-field : (file : List ℕ) (n : ℕ) (c : Cursor)
-    → walk (length file) file n c ≡ cond (passes (stepOf file c .tag) n) (walk (length file) file (left (stepOf file c .tag) n) (stepOf file c .next)) c
+    → walk (length file) file n c ≡ cond (passes (advanceOf file c .tag) n) (walk (length file) file (left (advanceOf file c .tag) n) (advanceOf file c .next)) c
 unfolding walk
 one-field file n c = enough (length file) (suc (length file)) file n c (omega arith) (omega arith)

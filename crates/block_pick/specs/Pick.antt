@@ -7,7 +7,7 @@ use lib.Dec.{eqb}
 use lib.ListN.{length}
 use Rattle.block_file.specs.declared.cursor.Cursor.{Cursor}
 use Rattle.block_file.specs.Field.{isData}
-use Rattle.block_file.specs.Cursor.{start, stepOf}
+use Rattle.block_file.specs.Cursor.{fileStart, advanceOf}
 
 -- whether a field with a tag is passed over on the way to the n-th data field from here: one that gives a shape or its kept part
 -- is, and so is every data field but the one meant. At the end, and at a field that the reader refuses, the tag is 0
@@ -22,9 +22,9 @@ left tag n = cond (isData tag) (n - 1) n
 unfoldable pub walk : ℕ → List ℕ → ℕ → Cursor → Cursor
 walk zero file n cursor = cursor
 walk (suc k) file n cursor =
-    let step = stepOf file cursor in
-    cond (passes (step .tag) n) (walk k file (left (step .tag) n) (step .next)) cursor
+    let advance = advanceOf file cursor in
+    cond (passes (advance .tag) n) (walk k file (left (advance .tag) n) (advance .next)) cursor
 
 -- a file has no more fields than bytes (proofs/Fuel: any larger number reaches the same)
 unfoldable pub picked : List ℕ → ℕ → Cursor
-picked file n = walk (length file) file n start
+picked file n = walk (length file) file n fileStart

@@ -38,17 +38,17 @@ fn left(tag: u32, n: usize) -> usize
 }
 
 /// The cursor at the n-th data field of a file, of which the first is 1; where there is none, the cursor at which the reader
-/// stops. Its step and its body are the reader's. Any bytes.
+/// stops. Its advance and its body are the reader's. Any bytes.
 pub fn pick(file: &[u8], n: usize) -> Cursor
     ensures { λ r. ⌜ r ≡ picked (now (file .entry)) n ⌝ }
 {
     let mut left_over = n;
     let mut cursor = Cursor::new();
-    let mut step = cursor.step(file);
-    while passes(step.tag, left_over) {
-        left_over = left(step.tag, left_over);
-        cursor = step.next;
-        step = cursor.step(file);
+    let mut advance = cursor.advance(file);
+    while passes(advance.tag, left_over) {
+        left_over = left(advance.tag, left_over);
+        cursor = advance.next;
+        advance = cursor.advance(file);
     }
     cursor
 }

@@ -12,8 +12,8 @@ use Rattle.meaning.specs.declared.Answer.{Answer}
 use Rattle.meaning.specs.Answer.{Outcome}
 use Rattle.meaning.specs.Inverse.{inverseOutcome}
 use Rattle.block_file.specs.declared.cursor.Cursor.{Cursor}
-use Rattle.block_file.specs.declared.cursor.Step.{Step}
-use Rattle.block_file.specs.Cursor.{stepOf, bytesOf}
+use Rattle.block_file.specs.declared.cursor.Advance.{Advance}
+use Rattle.block_file.specs.Cursor.{advanceOf, bytesOf}
 use Rattle.block_numbers.specs.Numbers.{numbers}
 use Rattle.block_run.specs.Run.{blank}
 use Rattle.block_pick.specs.Pick.{picked}
@@ -36,8 +36,8 @@ module _ (sh : Shape) (c z : List ℤ) (offset : ℕ) (out : List ℕ) (a : Answ
   inverse-drawn h = sym (rw (eq-eqb (a .number) 0 h)) ∙ by-outcome
 
 -- ---- the field that was picked, by its tag
-module _ (file : List ℕ) (n : ℕ) (out : List ℕ) (k : Cursor) (e : k ≡ picked file n) (st : Step) (s : st ≡ stepOf file k) where
-  abbrev ofPick : Cursor → Step → View × List ℕ
+module _ (file : List ℕ) (n : ℕ) (out : List ℕ) (k : Cursor) (e : k ≡ picked file n) (st : Advance) (s : st ≡ advanceOf file k) where
+  abbrev ofPick : Cursor → Advance → View × List ℕ
   ofPick j t =
       cond (eqb (t .tag) 2) (inverseShown (j .shape) (numbers (bytesOf file j)) (j .at) out)
       (cond (eqb (t .tag) 3) (drawnAt (j .shape) (numbers (bytesOf file j)) (j .at) out)
@@ -45,7 +45,7 @@ module _ (file : List ℕ) (n : ℕ) (out : List ℕ) (k : Cursor) (e : k ≡ pi
 
   by-pick : ofPick k st ≡ shownOutcome file n out
   unfolding shownOutcome
-  by-pick = ap (ofPick k) s ∙ ap (λ (j : Cursor). ofPick j (stepOf file j)) e
+  by-pick = ap (ofPick k) s ∙ ap (λ (j : Cursor). ofPick j (advanceOf file j)) e
 
   pub is-inverse : st .tag ≡ 2 → inverseShown (k .shape) (numbers (bytesOf file k)) (k .at) out ≡ shownOutcome file n out
   is-inverse t = sym (rw (eq-eqb (st .tag) 2 t)) ∙ by-pick

@@ -7,7 +7,7 @@ use lib.Dec.{eqb}
 use lib.IntN.{ℤ}
 use Rattle.meaning.specs.declared.Shape.{Shape}
 use Rattle.meaning.specs.Inverse.{inverseOutcome}
-use Rattle.block_file.specs.Cursor.{stepOf, bytesOf}
+use Rattle.block_file.specs.Cursor.{advanceOf, bytesOf}
 use Rattle.block_numbers.specs.Numbers.{numbers}
 use Rattle.block_run.specs.Run.{blank}
 use Rattle.block_pick.specs.Pick.{picked}
@@ -33,8 +33,8 @@ inverseShown shape coefficients offset out =
 unfoldable pub shownOutcome : List ℕ → ℕ → List ℕ → View × List ℕ
 shownOutcome file n out =
     let cursor = picked file n in
-    let step = stepOf file cursor in
+    let advance = advanceOf file cursor in
     let given = numbers (bytesOf file cursor) in
-    cond (eqb (step .tag) 2) (inverseShown (cursor .shape) given (cursor .at) out)
-    (cond (eqb (step .tag) 3) (drawnAt (cursor .shape) given (cursor .at) out)
-    (refusedAt (step .number) (cursor .at), out))
+    cond (eqb (advance .tag) 2) (inverseShown (cursor .shape) given (cursor .at) out)
+    (cond (eqb (advance .tag) 3) (drawnAt (cursor .shape) given (cursor .at) out)
+    (refusedAt (advance .number) (cursor .at), out))

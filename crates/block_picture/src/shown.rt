@@ -114,9 +114,9 @@ pub fn shown(file: &[u8], n: usize, picture: &mut [u8]) -> View
     ensures { λ r. ⌜ _≡_ {A = View × List ℕ} (r, now (picture .exit)) (shownOutcome (now (file .entry)) n (now (picture .entry))) ⌝ }
 {
     let cursor = pick(file, n);
-    let step = cursor.step(file);
-    let number = step.number;
-    let tag = step.tag;
+    let advance = cursor.advance(file);
+    let number = advance.number;
+    let tag = advance.tag;
     let offset = cursor.at;
     let shape = cursor.shape;
     if tag == 2 {

@@ -13,7 +13,7 @@ use Rattle.meaning.specs.declared.Shape.{Shape}
 use Rattle.meaning.specs.Answer.{Outcome, outcome, refused, accepted}
 use Rattle.meaning.specs.Plan.{planOf}
 use Rattle.meaning.specs.Inverse.{rails, residual, inverseBlock, inverseTests, inverseOutcome}
-use Rattle.meaning.proofs.Accepted.{inverse-accepted, inverse-done}
+use Rattle.meaning.proofs.AcceptedCalls.{inverse-accepted, inverse-done}
 
 untouched : (ts : List Refusal) (out : List ℤ) (done : Outcome) → done .0 .number ≡ 0 → (outcome ts out done .0 .number ≡ 0 → ⊥) → outcome ts out done .1 ≡ out
 untouched [] out done z n = absurd (n z)

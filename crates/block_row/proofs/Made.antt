@@ -12,7 +12,7 @@ use Rattle.meaning.specs.declared.Answer.{Answer}
 use Rattle.meaning.specs.Answer.{Outcome}
 use Rattle.meaning.specs.Inverse.{inverseOutcome}
 use Rattle.block_row.specs.Numbers.{putAt, putAll}
-use Rattle.block_row.specs.Row.{span, spans, Answered, blocks, answered}
+use Rattle.block_row.specs.Row.{span, spans, Answered, blocks, rowAnswers}
 use Rattle.block_row.proofs.Spans.{spans-more}
 use Rattle.block_row.proofs.Lengths.{inverse-long}
 
@@ -20,10 +20,10 @@ use Rattle.block_row.proofs.Lengths.{inverse-long}
 pub record Made (T : List Shape) (before : List ℕ) (c out₀ : List ℤ) (k o : ℕ) (answers : List ℕ) (out : List ℤ) : Type 0 where
   pub left : o + spans (drop k T) ≡ length c
   pub long : length out ≡ length c
-  pub equal : _≡_ {A = Answered} (putAll (blocks (drop k T) (drop o c) (drop o out) .0) k answers, take o out ++ blocks (drop k T) (drop o c) (drop o out) .1) (answered T before c out₀)
+  pub equal : _≡_ {A = Answered} (putAll (blocks (drop k T) (drop o c) (drop o out) .0) k answers, take o out ++ blocks (drop k T) (drop o c) (drop o out) .1) (rowAnswers T before c out₀)
 
 pub made-none : (T : List Shape) (before : List ℕ) (c out : List ℤ) → length c ≡ spans T → length out ≡ spans T → Made T before c out 0 0 before out
-unfolding answered
+unfolding rowAnswers
 made-none T before c out a l = record { left = omega arith; long = l ∙ sym a; equal = refl }
 
 module _ {T : List Shape} {before : List ℕ} {c out₀ : List ℤ} {k o : ℕ} {answers : List ℕ} {out : List ℤ} (m : Made T before c out₀ k o answers out) where
@@ -51,7 +51,7 @@ module _ {T : List Shape} {before : List ℕ} {c out₀ : List ℤ} {k o : ℕ} 
         let t : length (D ++ ys) ≡ e = length-append D ys ∙ omega arith in
         let u : drop e c ≡ drop a C = ap (λ (m : ℕ). drop m c) q ∙ sym (drop-drop a o c) in
         let R = blocks (drop (suc k) T) (drop a C) (drop a O) in
-        let m′ : _≡_ {A = Answered} (putAll (R .0) (suc k) (putAt answers k (inverseOutcome sh (take a C) (take a O) .0)), D ++ (inverseOutcome sh (take a C) (take a O) .1 ++ R .1)) (answered T before c out₀)
+        let m′ : _≡_ {A = Answered} (putAll (R .0) (suc k) (putAt answers k (inverseOutcome sh (take a C) (take a O) .0)), D ++ (inverseOutcome sh (take a C) (take a O) .1 ++ R .1)) (rowAnswers T before c out₀)
         = rw (drop-cons T k d h) at (m .equal) in
         let x : putAll (R .0) (suc k) (putAt answers k r) ≡ putAll (R .0) (suc k) (putAt answers k (inverseOutcome sh (take a C) (take a O) .0))
         = ap (λ (z : Outcome). putAll (R .0) (suc k) (putAt answers k (z .0))) b′ in
@@ -74,7 +74,7 @@ module _ {T : List Shape} {before : List ℕ} {c out₀ : List ℤ} {k o : ℕ} 
 
 -- all calls are made
 pub made-all : {T : List Shape} {before : List ℕ} {c out₀ : List ℤ} {k o : ℕ} {answers : List ℕ} {out : List ℤ} → k ≡ length T → Made T before c out₀ k o answers out
-    → _≡_ {A = Answered} (answers, out) (answered T before c out₀)
+    → _≡_ {A = Answered} (answers, out) (rowAnswers T before c out₀)
 unfolding blocks putAll
 made-all {T} {before} {c} {out₀} {k} {o} {answers} {out} e m =
     let n : drop k T ≡ [] = let l : length T ≤ k = omega arith in drop-of-length-le T l in

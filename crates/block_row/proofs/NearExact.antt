@@ -14,7 +14,7 @@ use Rattle.meaning.specs.declared.Shape.{Shape}
 use Rattle.meaning.specs.declared.Answer.{Answer}
 use Rattle.meaning.specs.Plan.{planOf}
 use Rattle.meaning.specs.Exact.{exact, weightSizes}
-use Rattle.meaning.proofs.Accepted.{inverse-accepted}
+use Rattle.meaning.proofs.AcceptedCalls.{inverse-accepted}
 use Rattle.meaning.proofs.NearExact.{demand3-call}
 use Rattle.block_row.specs.Numbers.{answerAt}
 use Rattle.block_row.specs.Row.{span, rowOutcome}

@@ -19,7 +19,7 @@ use Rattle.meaning.specs.declared.Answer.{Answer}
 use Rattle.meaning.specs.Answer.{Outcome}
 use Rattle.meaning.specs.Inverse.{inverseOutcome}
 use Rattle.block_row.specs.Numbers.{answerAt, putAll}
-use Rattle.block_row.specs.Row.{span, spans, blocks, answered, RowOutcome, rowOutcome}
+use Rattle.block_row.specs.Row.{span, spans, blocks, rowAnswers, RowOutcome, rowOutcome}
 use Rattle.block_row.specs.Calls.{stretch, startOf, calls}
 use Rattle.block_row.proofs.Answers.{beyond, answer-at}
 use Rattle.block_row.proofs.Lengths.{inverse-long, refused-keeps}
@@ -90,22 +90,22 @@ list-stretch (sh ∷ T) (suc k) d c out h r =
 -- ---- of a row that was taken
 module _ (shapes : List Shape) (answers : List ℕ) (c out : List ℤ) (number : rowOutcome shapes answers c out .0 ≡ 0) where
   row-passed : Passed shapes (length c) (length out)
-  row-passed = passed-by (λ (o : RowOutcome). o .0) (λ number place. (number, (answers, out))) (0, answered shapes answers c out) (λ n place. refl) shapes (length c) (length out) number
+  row-passed = passed-by (λ (o : RowOutcome). o .0) (λ number place. (number, (answers, out))) (0, rowAnswers shapes answers c out) (λ n place. refl) shapes (length c) (length out) number
 
   fits : spans shapes ≤ length out
   fits = omega (arith, row-passed .room)
 
-  pub row-done : rowOutcome shapes answers c out ≡ (0, answered shapes answers c out)
+  pub row-done : rowOutcome shapes answers c out ≡ (0, rowAnswers shapes answers c out)
   row-done =
       let p = row-passed in
       rw (le-ltb 64 (length shapes) (p .few), eq-eqb (length c) (spans shapes) (p .long), eq-eqb (length out) (spans shapes) (p .room))
 
   pub row-one-by-one : rowOutcome shapes answers c out ≡ (0, (putAll (calls shapes 0 c out .0) 0 answers, calls shapes 0 c out .1))
-  unfolding answered
+  unfolding rowAnswers
   row-one-by-one = row-done ∙ ap (λ (p : List Answer × List ℤ). (0, (putAll (p .0) 0 answers, p .1))) (one-by-one shapes c out fits)
 
   pub answers-stay : (i : ℕ) → length shapes * 3 ≤ i → getD (rowOutcome shapes answers c out .1 .0) i 0 ≡ getD answers i 0
-  unfolding answered
+  unfolding rowAnswers
   answers-stay i h = ap (λ (o : RowOutcome). getD (o .1 .0) i 0) row-done ∙ beyond (blocks shapes c out .0) 0 answers i (omega (arith, blocks-many shapes c out))
 
   module _ (k : ℕ) (d : Shape) (h : k < length shapes) where
@@ -118,7 +118,7 @@ module _ (shapes : List Shape) (answers : List ℕ) (c out : List ℤ) (number :
 
     -- there is room for the answers of all blocks
     pub block-answer : length shapes * 3 ≤ length answers → answerAt (rowOutcome shapes answers c out .1 .0) k ≡ blockAt shape start c out .0
-    unfolding answered
+    unfolding rowAnswers
     block-answer room =
         let made = blocks shapes c out .0 in
         let e = blockAt shape start c out .0 in
@@ -127,7 +127,7 @@ module _ (shapes : List Shape) (answers : List ℕ) (c out : List ℤ) (number :
         ap (λ (o : RowOutcome). answerAt (o .1 .0) k) row-done ∙ at ∙ list-answer shapes k d e c out h
 
     pub block-stretch : stretch start (span shape) (rowOutcome shapes answers c out .1 .1) ≡ blockAt shape start c out .1
-    unfolding answered
+    unfolding rowAnswers
     block-stretch = ap (λ (o : RowOutcome). stretch start (span shape) (o .1 .1)) row-done ∙ list-stretch shapes k d c out h fits
 
     pub block-refused : length shapes * 3 ≤ length answers → (answerAt (rowOutcome shapes answers c out .1 .0) k .number ≡ 0 → ⊥)

@@ -6,8 +6,8 @@ use lib.ListN.{getD, set}
 use Rattle.meaning.specs.declared.Shape.{Shape}
 use Rattle.meaning.specs.declared.Answer.{Answer}
 
-abbrev pub shapeAt : List ℕ → ℕ → Shape
-shapeAt l k =
+abbrev pub rowShape : List ℕ → ℕ → Shape
+rowShape l k =
     record {
       width = getD l (k * 7) 0;
       height = getD l (k * 7 + 1) 0;
@@ -21,7 +21,7 @@ shapeAt l k =
 -- the first n shapes
 unfoldable pub shapesOf : ℕ → List ℕ → List Shape
 shapesOf zero l = []
-shapesOf (suc n) l = shapesOf n l ++ (shapeAt l n ∷ [])
+shapesOf (suc n) l = shapesOf n l ++ (rowShape l n ∷ [])
 
 abbrev pub answerAt : List ℕ → ℕ → Answer
 answerAt l k = record { number = getD l (k * 3) 0; place = getD l (k * 3 + 1) 0; rails = getD l (k * 3 + 2) 0 }

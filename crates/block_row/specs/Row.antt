@@ -36,8 +36,8 @@ abbrev pub Answered : Type 0
 Answered = List ℕ × List ℤ
 
 -- each answer in its place, and those beyond stay
-unfoldable pub answered : List Shape → List ℕ → List ℤ → List ℤ → Answered
-answered shapes answers c out = let made = blocks shapes c out in (putAll (made .0) 0 answers, made .1)
+unfoldable pub rowAnswers : List Shape → List ℕ → List ℤ → List ℤ → Answered
+rowAnswers shapes answers c out = let made = blocks shapes c out in (putAll (made .0) 0 answers, made .1)
 
 -- "Refusals, for the whole call and in this order, .. : 16 above 64 blocks; 6, then 7, where the buffers differ from the sum of
 -- w*h over the list"
@@ -51,4 +51,4 @@ RowOutcome = ℕ × Answered
 -- "with no answer per block and the output untouched"
 abbrev pub rowOutcome : List Shape → List ℕ → List ℤ → List ℤ → RowOutcome
 rowOutcome shapes answers c out =
-    firstOf (rowTests shapes (length c) (length out)) (λ number place. (number, (answers, out))) (0, answered shapes answers c out)
+    firstOf (rowTests shapes (length c) (length out)) (λ number place. (number, (answers, out))) (0, rowAnswers shapes answers c out)

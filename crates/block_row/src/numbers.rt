@@ -3,11 +3,11 @@ use meaning::Answer;
 use meaning::Shape;
 ghost use mathlib.Core.Path.{_≡_};
 ghost use Prim.Native.Nat.{_<_};
-ghost use Rattle.block_row.specs.Numbers.{shapeAt, putAt};
+ghost use Rattle.block_row.specs.Numbers.{rowShape, putAt};
 
-pub fn shape_at(shapes: &[u32; 448], k: usize) -> Shape
+pub fn row_shape(shapes: &[u32; 448], k: usize) -> Shape
     requires { ⌜ k < 64 ⌝ }
-    ensures { λ r. ⌜ r ≡ shapeAt (now (shapes .entry)) k ⌝ }
+    ensures { λ r. ⌜ r ≡ rowShape (now (shapes .entry)) k ⌝ }
 {
     let i = k * 7;
     Shape {

@@ -1,6 +1,6 @@
 // A row of inverse blocks: a count with 64 shapes, one buffer of all inputs, one of all outputs, and room for 64 answers.
 use crate::numbers::put;
-use crate::numbers::shape_at;
+use crate::numbers::row_shape;
 use meaning::Shape;
 use meaning::is_size;
 use meaning::length_refusal;
@@ -9,7 +9,7 @@ ghost use Prim.Native.Nat.{_≤_};
 ghost use lib.ListN.{length};
 ghost use Rattle.algebra.specs.Refusals.{numberOf};
 ghost use Rattle.block_row.specs.Numbers.{shapesOf};
-ghost use Rattle.block_row.specs.Row.{span, spans, Answered, answered, rowTests, RowOutcome, rowOutcome};
+ghost use Rattle.block_row.specs.Row.{span, spans, Answered, rowAnswers, rowTests, RowOutcome, rowOutcome};
 
 // How long a block's stretch of both buffers is.
 fn span_of(shape: Shape) -> usize
@@ -32,7 +32,7 @@ fn total(shapes: &[u32; 448], count: usize) -> usize
     let mut sum = 0;
     let mut i = 0;
     while i < count {
-        sum += span_of(shape_at(shapes, i));
+        sum += span_of(row_shape(shapes, i));
         i += 1;
     }
     sum
@@ -58,12 +58,12 @@ fn each(
     residuals: &mut [i32],
 )
     requires { ⌜ numberOf (rowTests (shapesOf count (now shapes)) (length (now coefficients)) (length (now residuals))) ≡ 0 ⌝ }
-    ensures { λ _. ⌜ _≡_ {A = Answered} (now (answers .exit), now (residuals .exit)) (answered (shapesOf count (now (shapes .entry))) (now (answers .entry)) (now (coefficients .entry)) (now (residuals .entry))) ⌝ }
+    ensures { λ _. ⌜ _≡_ {A = Answered} (now (answers .exit), now (residuals .exit)) (rowAnswers (shapesOf count (now (shapes .entry))) (now (answers .entry)) (now (coefficients .entry)) (now (residuals .entry))) ⌝ }
 {
     let mut k = 0;
     let mut start = 0;
     while k < count {
-        let shape = shape_at(shapes, k);
+        let shape = row_shape(shapes, k);
         let end = start + span_of(shape);
         let answer = block::inverse(shape, &coefficients[start..end], &mut residuals[start..end]);
         put(answers, k, answer);

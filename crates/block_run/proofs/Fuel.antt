@@ -16,8 +16,8 @@ use Rattle.meaning.specs.Inverse.{inverseOutcome}
 use Rattle.meaning.specs.Forward.{forwardOutcome}
 use Rattle.block_file.specs.declared.cursor.Cursor.{Cursor}
 use Rattle.block_file.specs.declared.field.Field.{Field}
-use Rattle.block_file.specs.Field.{fieldAt, whole}
-use Rattle.block_file.specs.Cursor.{start, foundAt}
+use Rattle.block_file.specs.Field.{fieldAt, wholeField}
+use Rattle.block_file.specs.Cursor.{fileStart, foundAt}
 use Rattle.block_numbers.specs.Numbers.{numbers}
 use Rattle.block_text.specs.Text.{inverseText, forwardText}
 use Rattle.block_run.specs.Run.{Turn, blank, refusedTurn, blockTurn, inverseTurn, forwardTurn, turnAt, printedFrom, printed}
@@ -68,7 +68,7 @@ module _ (file : List ℕ) (c : Cursor) where
   turn-moves =
       found-cases file c (λ f. Moves file c (turnOf file c f))
       (λ n z. both (not (eqb n 0)) (refusedTurn n (c .at) c) (record { text = []; ends = true; next = c }) (never (refusedTurn n (c .at) c) refl) (never (record { text = []; ends = true; next = c }) refl))
-      (λ h l w. let f = whole file (c .at) (c .shape) in
+      (λ h l w. let f = wholeField file (c .at) (c .shape) in
       let body = numbers (take (f .bytes) (drop (f .start) file)) in
       let on : (c .at < length file) × (c .at < f .next .at) = (h, omega arith) in
       both (eqb (f .tag) 2) (inverseTurn (c .shape) body (c .at) (f .next)) _ (inverse-moves (c .shape) body (f .next) on)
@@ -101,19 +101,19 @@ enough (suc k) (suc j) file c l h g =
     same false e = e refl
 
 -- a file that is too long ends the run at once
-long-ends : (k j : ℕ) (file : List ℕ) → 65536 < length file → printedFrom (suc k) file start ≡ printedFrom (suc j) file start
+long-ends : (k j : ℕ) (file : List ℕ) → 65536 < length file → printedFrom (suc k) file fileStart ≡ printedFrom (suc j) file fileStart
 unfolding printedFrom turnAt foundAt
 long-ends k j file h = rw (lt-ltb 65536 (length file) h)
 
-pub fuel : (file : List ℕ) (k : ℕ) → length file ≤ k → printedFrom k file start ≡ printed file
+pub fuel : (file : List ℕ) (k : ℕ) → length file ≤ k → printedFrom k file fileStart ≡ printed file
 unfolding printed
 fuel file k h = by (le-or-lt (length file) 65536)
   where
-    by : (length file ≤ 65536) ⊎ (65536 < length file) → printedFrom k file start ≡ printedFrom (length file) file start
-    by (inl l) = enough k (length file) file start l (omega arith) (omega arith)
+    by : (length file ≤ 65536) ⊎ (65536 < length file) → printedFrom k file fileStart ≡ printedFrom (length file) file fileStart
+    by (inl l) = enough k (length file) file fileStart l (omega arith) (omega arith)
     by (inr l) = both-more k (length file) (omega arith) (omega arith)
       where
-        both-more : (a b : ℕ) → 0 < a → 0 < b → printedFrom a file start ≡ printedFrom b file start
+        both-more : (a b : ℕ) → 0 < a → 0 < b → printedFrom a file fileStart ≡ printedFrom b file fileStart
         both-more zero b p q = absurd (omega arith)
         both-more (suc a) zero p q = absurd (omega arith)
         both-more (suc a) (suc b) p q = long-ends a b file l

@@ -1,6 +1,6 @@
 pub mod Unique
 pub mod Turns
-pub mod Steps
+pub mod Advances
 pub mod Fuel
 pub mod Counted
 mod Loop

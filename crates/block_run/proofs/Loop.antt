@@ -6,7 +6,7 @@ use Prim.Native.Nat.{ℕ, _+_, _≤_, _<_}
 use lib.ListN.{length, take, drop, take-append-drop}
 use lib.Seq.{length-take-le}
 use Rattle.block_file.specs.declared.cursor.Cursor.{Cursor}
-use Rattle.block_run.specs.declared.run.Done.{Done}
+use Rattle.block_run.specs.declared.run.TurnDone.{TurnDone}
 use Rattle.block_run.specs.Run.{turnAt, printedFrom, printed, runOutcome}
 use Rattle.block_text.specs.Wrote.{Wrote}
 use Rattle.block_run.specs.Does.{Does}
@@ -22,7 +22,7 @@ other true x y = refl
 other false x y = refl
 
 module _ (file : List ℕ) (c : Cursor) where
-  pub printed-more : {m at : ℕ} {o o₁ : List ℕ} {d : Done} → Does (turnAt file c) m at o o₁ d → take at o ++ printedFrom (length file) file c ≡ printed file
+  pub printed-more : {m at : ℕ} {o o₁ : List ℕ} {d : TurnDone} → Does (turnAt file c) m at o o₁ d → take at o ++ printedFrom (length file) file c ≡ printed file
       → take (d .at) o₁ ++ rest (not (d .ends)) file (d .next) ≡ printed file
   printed-more {at = at} {o = o} {d = d} a e =
       let t = turnAt file c in

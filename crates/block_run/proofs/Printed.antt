@@ -5,7 +5,7 @@ use Prim.Native.Nat.{ℕ}
 use Rattle.algebra.specs.Sum.{sum, sumℕ}
 use Rattle.algebra.specs.Lists.{tabulate, block}
 use Rattle.algebra.specs.First.{firstAt}
-use Rattle.meaning.specs.Shape.{isSize, isKind, isDepth, most, keeps}
+use Rattle.meaning.specs.Shape.{isSize, isKind, isDepth, mostKept, keeps}
 use Rattle.meaning.specs.Plan.{shortRange}
 use Rattle.meaning.specs.Weights.{first, fold, S, C, weight}
 use Rattle.meaning.specs.Line.{inverseSum}
@@ -25,7 +25,7 @@ abbrev pub wholeText : List ℕ
 wholeText = 73 ∷ 32 ∷ 52 ∷ 32 ∷ 52 ∷ 32 ∷ 48 ∷ 32 ∷ 48 ∷ 32 ∷ 49 ∷ 32 ∷ 49 ∷ 32 ∷ 49 ∷ 32 ∷ 49 ∷ 32 ∷ 50 ∷ 32 ∷ 50 ∷ 32 ∷ 50 ∷ 32 ∷ 49 ∷ 32 ∷ 50 ∷ 32 ∷ 51 ∷ 32 ∷ 51 ∷ 32 ∷ 49 ∷ 32 ∷ 50 ∷ 32 ∷ 51 ∷ 32 ∷ 51 ∷ 10 ∷ []
 
 pub whole-case : printed wholeCase ≡ wholeText
-unfolding printed printedFrom turnAt foundAt fieldAt fieldNumber shapeNumber signed16 digits decimal line isSize isKind isDepth most keeps shortRange first fold S C weight inverseSum columnSum middleAt rails rowSum residual inverseBlock sum sumℕ tabulate block firstAt
+unfolding printed printedFrom turnAt foundAt fieldAt fieldNumber shapeNumber signed16 digits decimal line isSize isKind isDepth mostKept keeps shortRange first fold S C weight inverseSum columnSum middleAt rails rowSum residual inverseBlock sum sumℕ tabulate block firstAt
 whole-case = refl
 
 -- "An empty file prints nothing"

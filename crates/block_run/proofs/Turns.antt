@@ -15,7 +15,7 @@ use Rattle.meaning.specs.Inverse.{inverseOutcome}
 use Rattle.meaning.specs.Forward.{forwardOutcome}
 use Rattle.meaning.specs.declared.Answer.{Answer}
 use Rattle.block_file.specs.declared.cursor.Cursor.{Cursor}
-use Rattle.block_run.specs.declared.run.Done.{Done}
+use Rattle.block_run.specs.declared.run.TurnDone.{TurnDone}
 use Rattle.block_numbers.specs.Numbers.{numbers}
 use Rattle.block_text.specs.Text.{inverseText, forwardText}
 use Rattle.block_run.specs.Run.{Turn, blank, refusedTurn, blockTurn, inverseTurn, forwardTurn}
@@ -24,10 +24,10 @@ use Rattle.block_file.proofs.Shapes.{shape-range}
 use Rattle.block_text.proofs.Writing.{within}
 
 -- the same turn, said otherwise, and a larger bound
-pub same-turn : {t u : Turn} {m at : ℕ} {o o₁ : List ℕ} {d : Done} → t ≡ u → Does t m at o o₁ d → Does u m at o o₁ d
+pub same-turn : {t u : Turn} {m at : ℕ} {o o₁ : List ℕ} {d : TurnDone} → t ≡ u → Does t m at o o₁ d → Does u m at o o₁ d
 same-turn {m = m} {at = at} {o = o} {o₁ = o₁} {d = d} e a = subst (λ (t : Turn). Does t m at o o₁ d) e a
 
-pub at-most : {t : Turn} {m n at : ℕ} {o o₁ : List ℕ} {d : Done} → Does t m at o o₁ d → m ≤ n → Does t n at o o₁ d
+pub at-most : {t : Turn} {m n at : ℕ} {o o₁ : List ℕ} {d : TurnDone} → Does t m at o o₁ d → m ≤ n → Does t n at o o₁ d
 at-most a h = record { wrote = within (a .wrote) h; ends = a .ends; next = a .next }
 
 -- a block that 8 or 9 refuses, and one that was run

@@ -6,7 +6,7 @@ use mathlib.Core.List.{List}
 use Prim.Native.Nat.{ℕ, _+_, _*_, _≤_, _<_}
 use lib.ListN.{length}
 use Rattle.meaning.specs.declared.Shape.{Shape}
-use Rattle.block_run.specs.declared.run.Done.{Done}
+use Rattle.block_run.specs.declared.run.TurnDone.{TurnDone}
 use Rattle.block_file.specs.Field.{shapeNumber}
 use Rattle.block_text.specs.Wrote.{Wrote}
 use Rattle.block_run.specs.Run.{Turn}
@@ -17,12 +17,12 @@ pub record Fits (shape : Shape) (body : List ℕ) : Type 0 where
   pub long : length body ≡ 2 * (shape .width * shape .height)
 
 -- the turn's text, of at most `most` bytes, was put at `at`; `done` says where it ends, and what the turn says
-pub record Does (turn : Turn) (most at : ℕ) (out out′ : List ℕ) (done : Done) : Type 0 where
+pub record Does (turn : Turn) (most at : ℕ) (out out′ : List ℕ) (done : TurnDone) : Type 0 where
   pub wrote : Wrote (turn .text) most at out out′ (done .at)
   pub ends : done .ends ≡ turn .ends
   pub next : done .next ≡ turn .next
 
 -- a turn that does not end the run moves on within a file that is not too long, and prints at most seven bytes for each byte
 -- of the file that it moves over
-abbrev pub Follows : ℕ → ℕ → Done → Type 0
+abbrev pub Follows : ℕ → ℕ → TurnDone → Type 0
 Follows place at done = done .ends ≡ false → (place < done .next .at) × (done .next .at ≤ 65536) × (done .at + 7 * place ≤ at + 7 * done .next .at)

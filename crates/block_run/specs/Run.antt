@@ -11,7 +11,7 @@ use Rattle.meaning.specs.declared.Answer.{Answer}
 use Rattle.meaning.specs.Inverse.{inverseOutcome}
 use Rattle.meaning.specs.Forward.{forwardOutcome}
 use Rattle.block_file.specs.declared.cursor.Cursor.{Cursor}
-use Rattle.block_file.specs.Cursor.{start, stepOf, bytesOf}
+use Rattle.block_file.specs.Cursor.{fileStart, advanceOf, bytesOf}
 use Rattle.block_numbers.specs.Numbers.{numbers}
 use Rattle.block_text.specs.Text.{inverseText, forwardText, refusalText}
 
@@ -50,11 +50,11 @@ forwardTurn shape residuals offset next =
 -- tag is 0. "the offset being that of the field's tag": the cursor's place, "(0 for 14)": 14 is met at the start
 unfoldable pub turnAt : List ℕ → Cursor → Turn
 turnAt file cursor =
-    let step = stepOf file cursor in
-    cond (not (eqb (step .number) 0)) (refusedTurn (step .number) (cursor .at) (step .next))
-    (cond (eqb (step .tag) 2) (inverseTurn (cursor .shape) (numbers (bytesOf file cursor)) (cursor .at) (step .next))
-    (cond (eqb (step .tag) 3) (forwardTurn (cursor .shape) (numbers (bytesOf file cursor)) (cursor .at) (step .next))
-    (record { text = []; ends = eqb (step .tag) 0; next = step .next })))
+    let advance = advanceOf file cursor in
+    cond (not (eqb (advance .number) 0)) (refusedTurn (advance .number) (cursor .at) (advance .next))
+    (cond (eqb (advance .tag) 2) (inverseTurn (cursor .shape) (numbers (bytesOf file cursor)) (cursor .at) (advance .next))
+    (cond (eqb (advance .tag) 3) (forwardTurn (cursor .shape) (numbers (bytesOf file cursor)) (cursor .at) (advance .next))
+    (record { text = []; ends = eqb (advance .tag) 0; next = advance .next })))
 
 -- at most k fields from a cursor on: "lines printed before it stand"
 unfoldable pub printedFrom : ℕ → List ℕ → Cursor → List ℕ
@@ -65,7 +65,7 @@ printedFrom (suc k) file cursor =
 
 -- a file has no more fields than bytes (proofs/Fuel: any larger number prints the same). "An empty file prints nothing"
 unfoldable pub printed : List ℕ → List ℕ
-printed file = printedFrom (length file) file start
+printed file = printedFrom (length file) file fileStart
 
 -- what the run hands back, and what its buffer holds then: "lines printed" and, behind them, what it held
 abbrev pub runOutcome : List ℕ → List ℕ → ℕ × List ℕ

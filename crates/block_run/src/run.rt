@@ -16,19 +16,19 @@ ghost use Rattle.block_run.specs.Run.{blank, refusedTurn, inverseTurn, f
 ghost use Rattle.block_run.specs.Does.{Fits, Does, Follows};
 
 // What a turn hands back: the place behind its text, whether the run ends with it, and the next cursor.
-struct Done {
+struct TurnDone {
     at: usize,
     ends: bool,
     next: Cursor,
 }
 
 // "The first refusal ends the run".
-fn refused(number: u32, offset: usize, next: Cursor, text: &mut [u8], at: usize) -> Done
+fn refused(number: u32, offset: usize, next: Cursor, text: &mut [u8], at: usize) -> TurnDone
     requires { ⌜ (offset ≤ 65536) × (at + 24 ≤ length (now text)) ⌝ }
     ensures { λ r. ⌜ Does (refusedTurn number offset next) 24 at (now (text .entry)) (now (text .exit)) r ⌝ }
 {
     let end = put_refusal(number, offset as u32, text, at);
-    Done {
+    TurnDone {
         at: end,
         ends: true,
         next,
@@ -44,7 +44,7 @@ fn inverse_line(
     next: Cursor,
     text: &mut [u8],
     at: usize,
-) -> Done
+) -> TurnDone
     requires { ⌜ (now residuals ≡ blank shape) × (offset ≤ 65536) × (at + (35 + 12 * length (now residuals)) ≤ length (now text)) ⌝ }
     ensures { λ r. ⌜ Does (inverseTurn shape (now (coefficients .entry)) offset next) (35 + 12 * length (now (residuals .entry))) at (now (text .entry)) (now (text .exit)) r ⌝ }
 {
@@ -57,7 +57,7 @@ fn inverse_line(
     let height = shape.height;
     let rails = answer.rails;
     let end = put_inverse(width, height, rails, residuals, text, at);
-    Done {
+    TurnDone {
         at: end,
         ends: false,
         next,
@@ -73,7 +73,7 @@ fn forward_line(
     next: Cursor,
     text: &mut [u8],
     at: usize,
-) -> Done
+) -> TurnDone
     requires { ⌜ (now coefficients ≡ blank shape) × (offset ≤ 65536) × (at + (24 + 12 * length (now coefficients)) ≤ length (now text)) ⌝ }
     ensures { λ r. ⌜ Does (forwardTurn shape (now (residuals .entry)) offset next) (24 + 12 * length (now (coefficients .entry))) at (now (text .entry)) (now (text .exit)) r ⌝ }
 {
@@ -85,7 +85,7 @@ fn forward_line(
     let width = shape.width;
     let height = shape.height;
     let end = put_forward(width, height, coefficients, text, at);
-    Done {
+    TurnDone {
         at: end,
         ends: false,
         next,
@@ -114,7 +114,7 @@ fn inverse_turn(
     next: Cursor,
     text: &mut [u8],
     at: usize,
-) -> Done
+) -> TurnDone
     requires { ⌜ Fits shape (now body) × (offset ≤ 65536) × (at + 12323 ≤ length (now text)) ⌝ }
     ensures { λ r. ⌜ Does (inverseTurn shape (numbers (now (body .entry))) offset next) (35 + 6 * length (now (body .entry))) at (now (text .entry)) (now (text .exit)) r ⌝ }
 {
@@ -141,7 +141,7 @@ fn forward_turn(
     next: Cursor,
     text: &mut [u8],
     at: usize,
-) -> Done
+) -> TurnDone
     requires { ⌜ Fits shape (now body) × (offset ≤ 65536) × (at + 12323 ≤ length (now text)) ⌝ }
     ensures { λ r. ⌜ Does (forwardTurn shape (numbers (now (body .entry))) offset next) (35 + 6 * length (now (body .entry))) at (now (text .entry)) (now (text .exit)) r ⌝ }
 {
@@ -161,14 +161,14 @@ fn forward_turn(
 }
 
 // The field at the cursor's place: a refusal, a block, a shape or its kept part, or the end.
-fn turn(file: &[u8], cursor: Cursor, text: &mut [u8], at: usize) -> Done
+fn turn(file: &[u8], cursor: Cursor, text: &mut [u8], at: usize) -> TurnDone
     requires { ⌜ (cursor .at ≤ 65536) × (at + 12323 ≤ length (now text)) ⌝ }
     ensures { λ r. ⌜ Does (turnAt (now (file .entry)) cursor) 12323 at (now (text .entry)) (now (text .exit)) r × Follows (cursor .at) at r ⌝ }
 {
-    let step = cursor.step(file);
-    let number = step.number;
-    let tag = step.tag;
-    let next = step.next;
+    let advance = cursor.advance(file);
+    let number = advance.number;
+    let tag = advance.tag;
+    let next = advance.next;
     let offset = cursor.at;
     let shape = cursor.shape;
     if number != 0 {
@@ -180,7 +180,7 @@ fn turn(file: &[u8], cursor: Cursor, text: &mut [u8], at: usize) -> Done
     if tag == 3 {
         return forward_turn(shape, cursor.body(file), offset, next, text, at);
     }
-    Done {
+    TurnDone {
         at,
         ends: tag == 0,
         next,

@@ -25,15 +25,15 @@ use Rattle.meaning.specs.Taken.{Taken, NoneAbove}
 use Rattle.meaning.specs.Answer.{Outcome, refused, accepted, shapeTests, inputTest}
 use Rattle.meaning.specs.Inverse.{residual, inverseBlock, outside, firstOutside, inverseOutcome}
 use Rattle.meaning.specs.Forward.{columnValue, coefficient, forwardBlock, tooLargeTest, forwardOutcome}
-use Rattle.meaning.proofs.Accepted.{no-refusal, shape-clear, area-in, inverse-done, without-7}
+use Rattle.meaning.proofs.AcceptedCalls.{no-refusal, shape-clear, elements-in, inverse-done, without-7}
 use Rattle.meaning.proofs.Small.{block-in, none-too-large}
 use Rattle.meaning.proofs.Stages.{residual-in}
-use Rattle.block_trip.specs.Trip.{area, tripTests, tripAnswer, railCount, returned, apart, greatest, largest, squares}
+use Rattle.block_trip.specs.Trip.{elements, tripTests, tripAnswer, railCount, returned, apart, greatest, largest, squares}
 
 -- ---- a block that is not refused
 pub record Took (sh : Shape) (r : List ℤ) : Type 0 where
   pub taken : Taken sh
-  pub long : length r ≡ area sh
+  pub long : length r ≡ elements sh
   pub small : NoneAbove (2 ^ sh .depth - 1) r
   pub answer : tripAnswer sh r ≡ accepted (railCount sh r)
 
@@ -41,10 +41,10 @@ module _ (sh : Shape) (r : List ℤ) where
   took-clear : Clear (tripTests sh r) → Took sh r
   unfolding tripAnswer
   took-clear c =
-      let parts = clear-split (shapeTests sh) (inputTest (area sh) (length r) ∷ tooLargeTest sh r ∷ []) c in
+      let parts = clear-split (shapeTests sh) (inputTest (elements sh) (length r) ∷ tooLargeTest sh r ∷ []) c in
       record {
         taken = shape-clear (isSize (sh .width)) (isSize (sh .height)) (isDepth (sh .depth)) sh (parts .0);
-        long = eqb-true (length r) (area sh) (not-false (eqb (length r) (area sh)) (parts .1 .0));
+        long = eqb-true (length r) (elements sh) (not-false (eqb (length r) (elements sh)) (parts .1 .0));
         small = none-too-large sh r (parts .1 .1 .0);
         answer = none-applies refused (accepted (railCount sh r)) (tripTests sh r) c;
       }
@@ -64,8 +64,8 @@ module _ (sh : Shape) (r : List ℤ) where
     -- its outcome is that of the block's tests
     same : _≡_ {A = Outcome} (a, l) (firstOf (tripTests sh r) refuse done)
     same =
-        e ∙ without-7 refuse done (isSize (sh .width)) (isSize (sh .height)) (isDepth (sh .depth)) sh (area sh) (length r) (length out)
-        (λ t q. omega (arith, long, area-in sh t, q)) (tooLargeTest sh r ∷ [])
+        e ∙ without-7 refuse done (isSize (sh .width)) (isSize (sh .height)) (isDepth (sh .depth)) sh (elements sh) (length r) (length out)
+        (λ t q. omega (arith, long, elements-in sh t, q)) (tooLargeTest sh r ∷ [])
 
     pub forward-refused : (a .number ≡ 0 → ⊥) → a ≡ tripAnswer sh r
     unfolding tripAnswer
@@ -80,11 +80,11 @@ module _ (sh : Shape) (r : List ℤ) where
         (took-clear c, ap (λ (o : Outcome). o .1) (same ∙ none-applies refuse done (tripTests sh r) c))
 
   -- ---- the way back: "Coefficients outside the kept rows and columns are written 0"
-  forward-long : length (forwardBlock sh r) ≡ area sh
+  forward-long : length (forwardBlock sh r) ≡ elements sh
   unfolding forwardBlock
   forward-long = block-length (sh .width) (sh .height) (coefficient sh r) ∙ mul-comm (sh .height) (sh .width)
 
-  pub returned-long : length (returned sh r) ≡ area sh
+  pub returned-long : length (returned sh r) ≡ elements sh
   unfolding returned inverseBlock
   returned-long = block-length (sh .width) (sh .height) (residual (planOf sh) (forwardBlock sh r)) ∙ mul-comm (sh .height) (sh .width)
 
@@ -110,7 +110,7 @@ module _ (sh : Shape) (r : List ℤ) where
       → (a ≡ tripAnswer sh r) × (l ≡ returned sh r)
   unfolding returned railCount
   back t out long a l e =
-      let room : length out ≡ area sh = omega (arith, long, t .long, area-in sh (t .taken)) in
+      let room : length out ≡ elements sh = omega (arith, long, t .long, elements-in sh (t .taken)) in
       let done = e ∙ inverse-done sh (forwardBlock sh r) out (record { taken = t .taken; long = forward-long; room = room }, none-outside) in
       (ap (λ (o : Outcome). o .0) done ∙ sym (t .answer), ap (λ (o : Outcome). o .1) done)
 
@@ -120,12 +120,12 @@ module _ (sh : Shape) (r : List ℤ) where
   returned-in t = block-in (sh .width) (sh .height) (residual (planOf sh) (forwardBlock sh r)) 262144 (λ x y h l. residual-in sh t (forwardBlock sh r) x y h)
 
 pub few : (sh : Shape) (r : List ℤ) → Took sh r → length r ≤ 1024
-few sh r t = omega (arith, t .long, area-in sh (t .taken))
+few sh r t = omega (arith, t .long, elements-in sh (t .taken))
 
--- ---- what came back, read from the start of the area that it was put into
+-- ---- what came back, read from the start of the buffer that it was put into
 module _ (sh : Shape) (r : List ℤ) (t : Took sh r) (n : ℕ) (room : n ≡ min (length r) 1024) (l rest : List ℤ) (e : l ≡ returned sh r) where
   all : length l ≡ n
-  all = omega (arith, ap length e, returned-long sh r, t .long, area-in sh (t .taken), room)
+  all = omega (arith, ap length e, returned-long sh r, t .long, elements-in sh (t .taken), room)
 
   pub part-fit : n ≤ length (l ++ rest)
   part-fit = simp length-append (omega (arith, all))

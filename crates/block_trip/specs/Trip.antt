@@ -14,13 +14,13 @@ use Rattle.meaning.specs.Answer.{refused, accepted, inputTest, shapeTests}
 use Rattle.meaning.specs.Inverse.{rails, inverseBlock}
 use Rattle.meaning.specs.Forward.{tooLargeTest, forwardBlock}
 
-abbrev pub area : Shape → ℕ
-area sh = sh .width * sh .height
+abbrev pub elements : Shape → ℕ
+elements sh = sh .width * sh .height
 
 -- the forward's refusals, without 7: nothing is written that could have another length
 abbrev pub tripTests : Shape → List ℤ → List Refusal
 tripTests sh r =
-    shapeTests sh ++ (inputTest (area sh) (length r) ∷ tooLargeTest sh r ∷ [])
+    shapeTests sh ++ (inputTest (elements sh) (length r) ∷ tooLargeTest sh r ∷ [])
 
 -- "the rail counts": of the way back
 unfoldable pub railCount : Shape → List ℤ → ℕ
@@ -45,8 +45,8 @@ greatest (suc n) f = max (greatest n f) (f n)
 
 -- "the largest difference"
 unfoldable pub largest : Shape → List ℤ → ℕ
-largest sh r = greatest (area sh) (apart r (returned sh r))
+largest sh r = greatest (elements sh) (apart r (returned sh r))
 
 -- "the sum of squared differences"
 unfoldable pub squares : Shape → List ℤ → ℕ
-squares sh r = sumℕ (area sh) (λ k. apart r (returned sh r) k * apart r (returned sh r) k)
+squares sh r = sumℕ (elements sh) (λ k. apart r (returned sh r) k * apart r (returned sh r) k)

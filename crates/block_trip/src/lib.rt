@@ -52,7 +52,7 @@ fn squared_differences(given: &[i16], back: &[i32]) -> u64
     sum
 }
 
-// The forward into one area, the inverse into another.
+// The forward into one buffer, the inverse into another.
 fn there_and_back(
     shape: Shape,
     residuals: &[i16],

@@ -6,20 +6,20 @@ use Prim.Native.Nat.{ℕ}
 use borrow.Author.Tests.{eq-eqb, ne-eqb}
 use lib.Dec.{eqb}
 use Rattle.block_file.specs.declared.cursor.Cursor.{Cursor}
-use Rattle.block_file.specs.declared.cursor.Step.{Step}
-use Rattle.block_file.specs.Cursor.{stepOf, bytesOf}
+use Rattle.block_file.specs.declared.cursor.Advance.{Advance}
+use Rattle.block_file.specs.Cursor.{advanceOf, bytesOf}
 use Rattle.block_numbers.specs.Numbers.{numbers}
 use Rattle.block_pick.specs.Pick.{picked}
 use Rattle.block_why.specs.declared.named.Reasons.{Reasons}
 use Rattle.block_why.specs.Named.{inverseNamed, noneNamed, namedOutcome}
 
-module _ (file : List ℕ) (n place : ℕ) (k : Cursor) (e : k ≡ picked file n) (st : Step) (s : st ≡ stepOf file k) where
-  abbrev ofPick : Cursor → Step → Reasons
+module _ (file : List ℕ) (n place : ℕ) (k : Cursor) (e : k ≡ picked file n) (st : Advance) (s : st ≡ advanceOf file k) where
+  abbrev ofPick : Cursor → Advance → Reasons
   ofPick j t = cond (eqb (t .tag) 2) (inverseNamed (j .shape) (numbers (bytesOf file j)) (j .at) place) (noneNamed (t .tag) (t .number) (j .at))
 
   by-pick : ofPick k st ≡ namedOutcome file n place
   unfolding namedOutcome
-  by-pick = ap (ofPick k) s ∙ ap (λ (j : Cursor). ofPick j (stepOf file j)) e
+  by-pick = ap (ofPick k) s ∙ ap (λ (j : Cursor). ofPick j (advanceOf file j)) e
 
   pub is-inverse : st .tag ≡ 2 → inverseNamed (k .shape) (numbers (bytesOf file k)) (k .at) place ≡ namedOutcome file n place
   is-inverse t = sym (rw (eq-eqb (st .tag) 2 t)) ∙ by-pick

@@ -7,7 +7,7 @@ use lib.Dec.{eqb}
 use lib.IntN.{ℤ}
 use Rattle.meaning.specs.declared.Shape.{Shape}
 use Rattle.why.specs.Why.{whyOutcome, noParts}
-use Rattle.block_file.specs.Cursor.{stepOf, bytesOf}
+use Rattle.block_file.specs.Cursor.{advanceOf, bytesOf}
 use Rattle.block_numbers.specs.Numbers.{numbers}
 use Rattle.block_pick.specs.Pick.{picked}
 use Rattle.block_why.specs.declared.named.Reasons.{Reasons}
@@ -25,6 +25,6 @@ noneNamed tag number offset = record { tag = tag; offset = offset; depth = 0; pa
 unfoldable pub namedOutcome : List ℕ → ℕ → ℕ → Reasons
 namedOutcome file n place =
     let cursor = picked file n in
-    let step = stepOf file cursor in
-    cond (eqb (step .tag) 2) (inverseNamed (cursor .shape) (numbers (bytesOf file cursor)) (cursor .at) place)
-    (noneNamed (step .tag) (step .number) (cursor .at))
+    let advance = advanceOf file cursor in
+    cond (eqb (advance .tag) 2) (inverseNamed (cursor .shape) (numbers (bytesOf file cursor)) (cursor .at) place)
+    (noneNamed (advance .tag) (advance .number) (cursor .at))

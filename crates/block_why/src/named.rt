@@ -56,9 +56,9 @@ pub fn named(file: &[u8], n: usize, place: u32) -> Reasons
     ensures { λ r. ⌜ r ≡ namedOutcome (now (file .entry)) n place ⌝ }
 {
     let cursor = pick(file, n);
-    let step = cursor.step(file);
-    let number = step.number;
-    let tag = step.tag;
+    let advance = cursor.advance(file);
+    let number = advance.number;
+    let tag = advance.tag;
     let offset = cursor.at;
     let shape = cursor.shape;
     if tag == 2 {

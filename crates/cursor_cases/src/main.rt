@@ -1,5 +1,5 @@
 // Drives the reader from any cursor: standard input holds a cursor, its place in eight bytes and its shape in seven times four,
-// and then a file. Prints a new cursor, the step's number and tag and its next cursor, and the body. `tests/cursor` holds it to
+// and then a file. Prints a new cursor, the advance's number and tag and its next cursor, and the body. `tests/cursor` holds it to
 // the independent model.
 use block_file::cursor::Cursor;
 use libc::STDOUT_FILENO;
@@ -75,12 +75,12 @@ fn print_cursor(cursor: Cursor) {
     io::write_all(STDOUT_FILENO, b"\n");
 }
 
-fn print_step(cursor: Cursor, file: &[u8]) {
+fn print_advance(cursor: Cursor, file: &[u8]) {
     print_cursor(Cursor::new());
-    let step = cursor.step(file);
-    print_number(step.number as u64);
-    print_number(step.tag as u64);
-    print_cursor(step.next);
+    let advance = cursor.advance(file);
+    print_number(advance.number as u64);
+    print_number(advance.tag as u64);
+    print_cursor(advance.next);
     io::write_all(STDOUT_FILENO, cursor.body(file));
 }
 
@@ -91,5 +91,5 @@ fn main() {
         return;
     }
     let given = &input[..count];
-    print_step(cursor_of(given), &given[36..]);
+    print_advance(cursor_of(given), &given[36..]);
 }

@@ -57,9 +57,9 @@ module _ {n m : ℕ} (q : n ≡ m) (pairs : ℕ) (two : 2 * pairs ≡ m) (few : 
       ∙ tab-cong m _ _ output ∙ sums forward kind m (at x) ∙ ap (λ (k : ℕ). lineOf forward kind k (at x)) (sym q)
 
 -- a single weight: input i of output j of an inverse line
-pub entry-is : {n m : ℕ} → n ≡ m → (pairs : ℕ) → 2 * pairs ≡ m → (kind : ℕ) {t : List ℤ} → Laid m pairs 2 (2 * m) (λ i j. term false kind m j i) t
+pub weight-is : {n m : ℕ} → n ≡ m → (pairs : ℕ) → 2 * pairs ≡ m → (kind : ℕ) {t : List ℤ} → Laid m pairs 2 (2 * m) (λ i j. term false kind m j i) t
     → (i j : ℕ) → Place n i j → (2 * j + spot (2 * m) i < length t) × (at t (2 * j + spot (2 * m) i) ≡ weight kind n i j)
-entry-is q pairs two kind z i j p = (
+weight-is q pairs two kind z i j p = (
   z .held i j (omega (arith, p .row)) (omega (arith, p .column)),
   z .right i j (omega (arith, p .row)) (omega (arith, p .column)) ∙ ap (λ (k : ℕ). weight kind k i j) (sym q),
 )

@@ -30,7 +30,7 @@ fn stored(t: &[i16], apart: usize, i: usize, j: usize) -> i32
 }
 
 /// The weight of row i in column j.
-pub fn entry(n: usize, kind: u32, i: usize, j: usize) -> i32
+pub fn weight(n: usize, kind: u32, i: usize, j: usize) -> i32
     requires { ⌜ Place n i j ⌝ }
     ensures { λ r. ⌜ r ≡ weight kind n i j ⌝ }
 {
@@ -49,6 +49,15 @@ pub fn entry(n: usize, kind: u32, i: usize, j: usize) -> i32
     let mut t = [0i16; 1024];
     put_1024(kind, false, n, &mut t);
     stored(&t, 64, i, j)
+}
+
+/// The line of 8 points as the full product, for callers who know the size: it has the weights of 8 points alone on its stack.
+pub fn eight(kind: u32, forward: bool, x: &[i16], y: &mut [i32])
+    requires { ⌜ TakenLine 8 kind (length (now x)) (length (now y)) ⌝ }
+    ensures { λ _. ⌜ now (y .exit) ≡ lineOf forward kind 8 (at (now (x .entry))) ⌝ }
+{
+    let weights = zipped_8(kind, forward);
+    line(4, 16, x, 0, 2, &weights, 0, 0, y);
 }
 
 /// The line as the full product. Each size has its branch and its literal number of pairs: docs/DECISIONS.md, "The product".

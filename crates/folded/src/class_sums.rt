@@ -4,11 +4,11 @@ ghost use mathlib.Core.Path.{_≡_};
 ghost use lib.IntN.{pos};
 ghost use lib.ListN.{replicate};
 ghost use Rattle.folding.specs.Lines.{used};
-ghost use Rattle.folding.specs.Steps.{Adding, Small, Class};
+ghost use Rattle.folding.specs.Steps.{Adding, Bounded, Class};
 
 pub fn first_4(w: &[i16], x: &[i16], back: bool, a: &mut [i32])
     requires { ⌜ Adding 4 3 0 (now w) (now x) (now a) × (now a ≡ replicate 3 (pos 0)) ⌝ }
-    ensures { λ _. ⌜ Class 4 3 3 1 (used back (now (x .entry))) (now (a .exit)) × Small 3 94371840 (now (a .exit)) ⌝ }
+    ensures { λ _. ⌜ Class 4 3 3 1 (used back (now (x .entry))) (now (a .exit)) × Bounded 3 94371840 (now (a .exit)) ⌝ }
 {
     row(w, 4, 0, 3, x, back, a);
     row(w, 4, 2, 3, x, back, a);
@@ -17,14 +17,14 @@ pub fn first_4(w: &[i16], x: &[i16], back: bool, a: &mut [i32])
 
 pub fn second_4(w: &[i16], x: &[i16], back: bool, a: &mut [i32])
     requires { ⌜ Adding 4 1 0 (now w) (now x) (now a) × (now a ≡ replicate 1 (pos 0)) ⌝ }
-    ensures { λ _. ⌜ Class 4 3 3 2 (used back (now (x .entry))) (now (a .exit)) × Small 1 94371840 (now (a .exit)) ⌝ }
+    ensures { λ _. ⌜ Class 4 3 3 2 (used back (now (x .entry))) (now (a .exit)) × Bounded 1 94371840 (now (a .exit)) ⌝ }
 {
     row(w, 4, 1, 1, x, back, a);
 }
 
 pub fn first_16(w: &[i16], x: &[i16], back: bool, a: &mut [i32])
     requires { ⌜ Adding 16 11 0 (now w) (now x) (now a) × (now a ≡ replicate 11 (pos 0)) ⌝ }
-    ensures { λ _. ⌜ Class 16 3 11 1 (used back (now (x .entry))) (now (a .exit)) × Small 11 94371840 (now (a .exit)) ⌝ }
+    ensures { λ _. ⌜ Class 16 3 11 1 (used back (now (x .entry))) (now (a .exit)) × Bounded 11 94371840 (now (a .exit)) ⌝ }
 {
     row(w, 16, 0, 11, x, back, a);
     row(w, 16, 2, 11, x, back, a);
@@ -40,7 +40,7 @@ pub fn first_16(w: &[i16], x: &[i16], back: bool, a: &mut [i32])
 
 pub fn second_16(w: &[i16], x: &[i16], back: bool, a: &mut [i32])
     requires { ⌜ Adding 16 5 0 (now w) (now x) (now a) × (now a ≡ replicate 5 (pos 0)) ⌝ }
-    ensures { λ _. ⌜ Class 16 3 11 2 (used back (now (x .entry))) (now (a .exit)) × Small 5 94371840 (now (a .exit)) ⌝ }
+    ensures { λ _. ⌜ Class 16 3 11 2 (used back (now (x .entry))) (now (a .exit)) × Bounded 5 94371840 (now (a .exit)) ⌝ }
 {
     row(w, 16, 1, 5, x, back, a);
     row(w, 16, 4, 5, x, back, a);
@@ -51,14 +51,14 @@ pub fn second_16(w: &[i16], x: &[i16], back: bool, a: &mut [i32])
 
 pub fn third_16(w: &[i16], x: &[i16], back: bool, a: &mut [i32])
     requires { ⌜ Adding 16 1 0 (now w) (now x) (now a) × (now a ≡ replicate 1 (pos 0)) ⌝ }
-    ensures { λ _. ⌜ Class 16 3 11 3 (used back (now (x .entry))) (now (a .exit)) × Small 1 94371840 (now (a .exit)) ⌝ }
+    ensures { λ _. ⌜ Class 16 3 11 3 (used back (now (x .entry))) (now (a .exit)) × Bounded 1 94371840 (now (a .exit)) ⌝ }
 {
     row(w, 16, 5, 1, x, back, a);
 }
 
 pub fn first_32(w: &[i16], x: &[i16], back: bool, a: &mut [i32])
     requires { ⌜ Adding 32 26 0 (now w) (now x) (now a) × (now a ≡ replicate 26 (pos 0)) ⌝ }
-    ensures { λ _. ⌜ Class 32 5 13 1 (used back (now (x .entry))) (now (a .exit)) × Small 26 94371840 (now (a .exit)) ⌝ }
+    ensures { λ _. ⌜ Class 32 5 13 1 (used back (now (x .entry))) (now (a .exit)) × Bounded 26 94371840 (now (a .exit)) ⌝ }
 {
     row(w, 32, 0, 26, x, back, a);
     row(w, 32, 1, 26, x, back, a);
@@ -88,7 +88,7 @@ pub fn first_32(w: &[i16], x: &[i16], back: bool, a: &mut [i32])
 
 pub fn second_32(w: &[i16], x: &[i16], back: bool, a: &mut [i32])
     requires { ⌜ Adding 32 6 0 (now w) (now x) (now a) × (now a ≡ replicate 6 (pos 0)) ⌝ }
-    ensures { λ _. ⌜ Class 32 5 13 2 (used back (now (x .entry))) (now (a .exit)) × Small 6 94371840 (now (a .exit)) ⌝ }
+    ensures { λ _. ⌜ Class 32 5 13 2 (used back (now (x .entry))) (now (a .exit)) × Bounded 6 94371840 (now (a .exit)) ⌝ }
 {
     row(w, 32, 2, 6, x, back, a);
     row(w, 32, 7, 6, x, back, a);
@@ -100,7 +100,7 @@ pub fn second_32(w: &[i16], x: &[i16], back: bool, a: &mut [i32])
 
 pub fn third_32(w: &[i16], x: &[i16], back: bool, a: &mut [i32])
     requires { ⌜ Adding 32 2 0 (now w) (now x) (now a) × (now a ≡ replicate 2 (pos 0)) ⌝ }
-    ensures { λ _. ⌜ Class 32 5 13 3 (used back (now (x .entry))) (now (a .exit)) × Small 2 94371840 (now (a .exit)) ⌝ }
+    ensures { λ _. ⌜ Class 32 5 13 3 (used back (now (x .entry))) (now (a .exit)) × Bounded 2 94371840 (now (a .exit)) ⌝ }
 {
     row(w, 32, 6, 2, x, back, a);
     row(w, 32, 19, 2, x, back, a);

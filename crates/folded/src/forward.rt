@@ -16,7 +16,7 @@ ghost use mathlib.Core.Path.{_≡_};
 ghost use lib.ListN.{length};
 ghost use Rattle.algebra.specs.Lists.{at};
 ghost use Rattle.meaning.specs.Line.{forwardLine};
-ghost use Rattle.folding.specs.Lines.{Given, kindOf, reading};
+ghost use Rattle.folding.specs.Lines.{GivenLine, kindOf, reading};
 ghost use Rattle.folding.specs.Steps.{Gathered};
 
 // The numbers of class 1 at 32 points.
@@ -78,7 +78,7 @@ fn forward_32(x: &[i16], back: bool, y: &mut [i32])
 }
 
 pub fn forward(n: usize, kind: u32, x: &[i16], y: &mut [i32])
-    requires { ⌜ Given n kind (now x) (now y) ⌝ }
+    requires { ⌜ GivenLine n kind (now x) (now y) ⌝ }
     ensures { λ _. ⌜ now (y .exit) ≡ forwardLine kind n (at (now (x .entry))) ⌝ }
 {
     let back = kind == 2;

@@ -15,8 +15,8 @@ ghost use mathlib.Core.Path.{_≡_};
 ghost use lib.ListN.{length};
 ghost use Rattle.algebra.specs.Lists.{at};
 ghost use Rattle.meaning.specs.Line.{inverseLine};
-ghost use Rattle.folding.specs.Lines.{Given, kindOf};
-ghost use Rattle.folding.specs.Steps.{Sums, Front, joined};
+ghost use Rattle.folding.specs.Lines.{GivenLine, kindOf};
+ghost use Rattle.folding.specs.Steps.{ClassSums, FilledTo, joinedSums};
 
 fn inverse_4(x: &[i16], back: bool, y: &mut [i32])
     requires { ⌜ (length (now x) ≡ 4) × (length (now y) ≡ 4) ⌝ }
@@ -32,8 +32,8 @@ fn inverse_4(x: &[i16], back: bool, y: &mut [i32])
 }
 
 fn places_16(a: &[i32], c: &[i32], d: &[i32], back: bool, y: &mut [i32])
-    requires { ⌜ Sums 16 3 11 (now a) (now c) (now d) × (length (now y) ≡ 16) ⌝ }
-    ensures { λ _. ⌜ Front back 16 16 (joined 3 11 (now (a .entry)) (now (c .entry)) (now (d .entry))) (now (y .exit)) ⌝ }
+    requires { ⌜ ClassSums 16 3 11 (now a) (now c) (now d) × (length (now y) ≡ 16) ⌝ }
+    ensures { λ _. ⌜ FilledTo back 16 16 (joinedSums 3 11 (now (a .entry)) (now (c .entry)) (now (d .entry))) (now (y .exit)) ⌝ }
 {
     spread(a, c, d, 16, 3, 11, back, 0, 8, y);
     spread(a, c, d, 16, 3, 11, back, 8, 16, y);
@@ -54,8 +54,8 @@ fn inverse_16(x: &[i16], back: bool, y: &mut [i32])
 }
 
 fn places_32(a: &[i32], c: &[i32], d: &[i32], back: bool, y: &mut [i32])
-    requires { ⌜ Sums 32 5 13 (now a) (now c) (now d) × (length (now y) ≡ 32) ⌝ }
-    ensures { λ _. ⌜ Front back 32 32 (joined 5 13 (now (a .entry)) (now (c .entry)) (now (d .entry))) (now (y .exit)) ⌝ }
+    requires { ⌜ ClassSums 32 5 13 (now a) (now c) (now d) × (length (now y) ≡ 32) ⌝ }
+    ensures { λ _. ⌜ FilledTo back 32 32 (joinedSums 5 13 (now (a .entry)) (now (c .entry)) (now (d .entry))) (now (y .exit)) ⌝ }
 {
     spread(a, c, d, 32, 5, 13, back, 0, 8, y);
     spread(a, c, d, 32, 5, 13, back, 8, 16, y);
@@ -78,7 +78,7 @@ fn inverse_32(x: &[i16], back: bool, y: &mut [i32])
 }
 
 pub fn inverse(n: usize, kind: u32, x: &[i16], y: &mut [i32])
-    requires { ⌜ Given n kind (now x) (now y) ⌝ }
+    requires { ⌜ GivenLine n kind (now x) (now y) ⌝ }
     ensures { λ _. ⌜ now (y .exit) ≡ inverseLine kind n n (at (now (x .entry))) ⌝ }
 {
     let back = kind == 2;

@@ -10,18 +10,18 @@ use Rattle.algebra.specs.Lists.{at}
 use Rattle.algebra.proofs.Lists.{Filled, zeros-at}
 use Rattle.meaning.specs.Weights.{S}
 use Rattle.tables.specs.Table.{Table}
-use Rattle.folding.specs.Folds.{Part, plus}
-use Rattle.folding.specs.Steps.{Small, Adding, Added}
+use Rattle.folding.specs.Folds.{SignedPlace, plus}
+use Rattle.folding.specs.Steps.{Bounded, Adding, Added}
 use Rattle.meaning.proofs.Sizes.{S-size}
 use Rattle.folding.proofs.Classes.{Summed}
 use Rattle.folding.proofs.Dots.{grown}
 
 -- a larger bound
-pub larger : {m A : ℕ} {a : List ℤ} (B : ℕ) → A ≤ B → Small m A a → Small m B a
+pub larger : {m A : ℕ} {a : List ℤ} (B : ℕ) → A ≤ B → Bounded m A a → Bounded m B a
 larger B h p = record { long = p .long; small = λ k l. le-trans (p .small k l) h }
 
 -- nothing is added yet
-pub nothing : (m B : ℕ) → Small m B (replicate m (pos 0))
+pub nothing : (m B : ℕ) → Bounded m B (replicate m (pos 0))
 nothing m B = record { long = length-replicate m (pos 0); small = λ k h. subst (λ (z : ℤ). natAbs z ≤ B) (sym (zeros-at m k)) (omega arith) }
 
 pub none-summed : (n m l : ℕ) (x : ℕ → ℤ) → Summed n m x [] (replicate l (pos 0))
@@ -31,7 +31,7 @@ none-summed n m l x = record { are = λ g h. zeros-at l g }
 pub from-row : {n m i : ℕ} {w x a : List ℤ} (j : ℕ) → i ≤ j → Adding n m i w x a → Adding n m j w x a
 from-row j h p = record { few = p .few; fits = p .fits; table = p .table; inputs = p .inputs; sums = larger (j * 2949120) (mul-le-mul-right 2949120 h) (p .sums) }
 
-pub row-summed : {n m i : ℕ} {x : ℕ → ℤ} {rows : List Part} {a b : List ℤ} → Summed n m x rows a → Added n m i (x i) a b → Summed n m x (plus i ∷ rows) b
+pub row-summed : {n m i : ℕ} {x : ℕ → ℤ} {rows : List SignedPlace} {a b : List ℤ} → Summed n m x rows a → Added n m i (x i) a b → Summed n m x (plus i ∷ rows) b
 row-summed {n} {m} {i} {x} {rows} {a} s p =
     record { are = λ g h. p .are g h ∙ +ℤ-comm (at a g) (S n i g *ℤ x i) ∙ ap (λ (z : ℤ). S n i g *ℤ x i +ℤ z) (s .are g h) }
 
@@ -57,7 +57,7 @@ pub zero-summed : {n m : ℕ} {x : ℕ → ℤ} (l : ℕ) {a : List ℤ} → a �
 zero-summed {n} {m} {x} l e = subst (Summed n m x []) (sym e) (none-summed n m l x)
 
 -- the sums after the last row
-pub sums-small : {n m i : ℕ} {w x a : List ℤ} → i ≤ 32 → Adding n m i w x a → Small m 94371840 a
+pub sums-small : {n m i : ℕ} {w x a : List ℤ} → i ≤ 32 → Adding n m i w x a → Bounded m 94371840 a
 sums-small {i = i} h p = larger 94371840 (mul-le-mul-right 2949120 h) (p .sums)
 
 pub adding-long : {n m i j : ℕ} {w x a b : List ℤ} → Adding n m i w x a → Adding n m j w x b → length b ≡ length a

@@ -13,7 +13,7 @@ use lib.IntN.{ℤ, pos, natAbs, _+ℤ_}
 use Rattle.algebra.specs.Lists.{at}
 use Rattle.folding.specs.Folds.{folded, half, width, into, periodicInto, leading, periodic}
 use Rattle.folding.specs.Lines.{turned}
-use Rattle.folding.specs.Steps.{Sized, Gathered, Front, joined}
+use Rattle.folding.specs.Steps.{Factored, Gathered, FilledTo, joinedSums}
 use Rattle.folding.proofs.Reading.{turned-in, turned-apart}
 
 -- the third class
@@ -25,7 +25,7 @@ module _ (p q c : ℕ) (d : c ≡ 1 → ⊥) (e : c ≡ 2 → ⊥) where
   third-into n g = rw (ne-eqb c 1 d, ne-eqb c 2 e)
 
 -- before the first number
-pub gather-none : {n p q c : ℕ} (X : ℕ → ℤ) → Sized n p q → Gathered n p q c X 0 (replicate (width p q c) (pos 0))
+pub gather-none : {n p q c : ℕ} (X : ℕ → ℤ) → Factored n p q → Gathered n p q c X 0 (replicate (width p q c) (pos 0))
 gather-none {n} {p} {q} {c} X s =
     record { size = s; long = length-replicate (width p q c) (pos 0); are = λ g h. absurd (not-suc-le-zero h); small = λ g h. absurd (not-suc-le-zero h) }
 
@@ -48,10 +48,10 @@ gather-next {n} {p} {q} {c} {X} {g} {t} z s h e b =
         pick (no d) = subst (P k) (sym (getD-set-other t g k z (pos 0) d)) (before k (omega arith))
 
 -- ---- inverse
-pub front-none : {back : Bool} {n : ℕ} (f : ℕ → ℤ) {y : List ℤ} → length y ≡ n → Front back n 0 f y
+pub front-none : {back : Bool} {n : ℕ} (f : ℕ → ℤ) {y : List ℤ} → length y ≡ n → FilledTo back n 0 f y
 front-none f l = record { long = l; done = λ j h. absurd (not-suc-le-zero h) }
 
-pub front-next : {back : Bool} {n k : ℕ} {f : ℕ → ℤ} {y : List ℤ} (i : ℕ) (z : ℤ) → Front back n k f y → k < n → i ≡ turned back n k → z ≡ f k → Front back n (k + 1) f (set y i z)
+pub front-next : {back : Bool} {n k : ℕ} {f : ℕ → ℤ} {y : List ℤ} (i : ℕ) (z : ℤ) → FilledTo back n k f y → k < n → i ≡ turned back n k → z ≡ f k → FilledTo back n (k + 1) f (set y i z)
 front-next {back} {n} {k} {f} {y} i z p h e v =
     record { long = length-set y i z ∙ p .long; done = λ j l. one j l (ℕ-discrete j k) }
   where
@@ -65,6 +65,6 @@ front-next {back} {n} {k} {f} {y} i z p h e v =
     one j l (no d) =
         getD-set-other y i (turned back n j) z (pos 0) (λ q. turned-apart back n j k (omega arith) h d (q ∙ e)) ∙ p .done j (omega arith)
 
-pub joined-at : (p q : ℕ) (a c d : List ℤ) (k : ℕ) → folded (at a) (leading p q k) +ℤ (folded (at c) (periodic q k) +ℤ folded (at d) (periodic p k)) ≡ joined p q a c d k
-unfolding joined
+pub joined-at : (p q : ℕ) (a c d : List ℤ) (k : ℕ) → folded (at a) (leading p q k) +ℤ (folded (at c) (periodic q k) +ℤ folded (at d) (periodic p k)) ≡ joinedSums p q a c d k
+unfolding joinedSums
 joined-at p q a c d k = refl

@@ -18,7 +18,7 @@ use Rattle.algebra.specs.Sum.{sum}
 use Rattle.algebra.proofs.Ring.{add-*ℤ, neg-*ℤ, one-*ℤ, *ℤ-assoc}
 use Rattle.algebra.proofs.Sum.{sum-cong, sum-add, sum-scale, sum-none, sum-swap}
 use Rattle.algebra.proofs.Table.{and-left, and-right}
-use Rattle.folding.specs.Folds.{Part, plus, minus, folded, occurrence}
+use Rattle.folding.specs.Folds.{SignedPlace, plus, minus, folded, occurrence}
 
 pub law : (n m : ℕ) (A : ℕ → ℕ → ℤ) (w x : ℕ → ℤ) → sum n (λ i. sum m (λ g. A i g *ℤ w g) *ℤ x i) ≡ sum m (λ g. w g *ℤ sum n (λ i. A i g *ℤ x i))
 law n m A w x =
@@ -32,7 +32,7 @@ law n m A w x =
     inner a w x = *ℤ-comm x (a *ℤ w) ∙ ap (λ (z : ℤ). z *ℤ x) (*ℤ-comm a w) ∙ *ℤ-assoc w a x
 
 -- ---- a signed sum of places as a sum over all places
-abbrev pub below : ℕ → List Part → Bool
+abbrev pub below : ℕ → List SignedPlace → Bool
 below m [] = true
 below m (plus g ∷ E) = ltb g m && below m E
 below m (minus g ∷ E) = ltb g m && below m E
@@ -61,13 +61,13 @@ sum-lone (suc m) g c f h = pick (ℕ-discrete g m) (sum-lone m g c f)
     pick (no d) r = ap₂ (λ (y z : ℤ). y +ℤ z) (r (omega arith)) (lone-off g c f m d) ∙ +ℤ-idr (c *ℤ f g)
 
 -- one part more
-one-more : (m : ℕ) (f : ℕ → ℤ) (g : ℕ) (c : ℤ) (E : List Part) (z : ℤ) → z ≡ c *ℤ f g → T (ltb g m) → folded f E ≡ sum m (λ k. occurrence E k *ℤ f k)
+one-more : (m : ℕ) (f : ℕ → ℤ) (g : ℕ) (c : ℤ) (E : List SignedPlace) (z : ℤ) → z ≡ c *ℤ f g → T (ltb g m) → folded f E ≡ sum m (λ k. occurrence E k *ℤ f k)
     → z +ℤ folded f E ≡ sum m (λ k. (cond (eqb g k) c (pos 0) +ℤ occurrence E k) *ℤ f k)
 one-more m f g c E z e t r =
     ap₂ (λ (u v : ℤ). u +ℤ v) (e ∙ sym (sum-lone m g c f (ltb→lt g m t))) r ∙ sym (sum-add m (lone g c f) (λ k. occurrence E k *ℤ f k))
     ∙ sum-cong m (λ k. lone g c f k +ℤ occurrence E k *ℤ f k) (λ k. (cond (eqb g k) c (pos 0) +ℤ occurrence E k) *ℤ f k) (λ k h. sym (add-*ℤ (cond (eqb g k) c (pos 0)) (occurrence E k) (f k)))
 
-pub folded-sum : (m : ℕ) (f : ℕ → ℤ) (E : List Part) → T (below m E) → folded f E ≡ sum m (λ k. occurrence E k *ℤ f k)
+pub folded-sum : (m : ℕ) (f : ℕ → ℤ) (E : List SignedPlace) → T (below m E) → folded f E ≡ sum m (λ k. occurrence E k *ℤ f k)
 folded-sum m f [] t = sym (sum-cong m (λ k. pos 0 *ℤ f k) (λ k. pos 0) (λ k h. zero-*ℤ (f k)) ∙ sum-none m)
 folded-sum m f (plus g ∷ E) t =
     one-more m f g (pos 1) E (f g) (sym (one-*ℤ (f g))) (and-left (ltb g m) (below m E) t) (folded-sum m f E (and-right (ltb g m) (below m E) t))
@@ -76,13 +76,13 @@ folded-sum m f (minus g ∷ E) t =
     (folded-sum m f E (and-right (ltb g m) (below m E) t))
 
 -- ---- the law from either side
-pub fold-inputs : (n m : ℕ) (w x : ℕ → ℤ) (E : ℕ → List Part) → ((k : ℕ) → k < n → T (below m (E k))) → ((k : ℕ) → k < n → w k ≡ folded w (E k))
+pub fold-inputs : (n m : ℕ) (w x : ℕ → ℤ) (E : ℕ → List SignedPlace) → ((k : ℕ) → k < n → T (below m (E k))) → ((k : ℕ) → k < n → w k ≡ folded w (E k))
     → sum n (λ k. w k *ℤ x k) ≡ sum m (λ g. w g *ℤ sum n (λ k. occurrence (E k) g *ℤ x k))
 fold-inputs n m w x E b e =
     sum-cong n (λ k. w k *ℤ x k) (λ k. sum m (λ g. occurrence (E k) g *ℤ w g) *ℤ x k) (λ k h. ap (λ (z : ℤ). z *ℤ x k) (e k h ∙ folded-sum m w (E k) (b k h)))
     ∙ law n m (λ k. occurrence (E k)) w x
 
-pub fold-sums : (n m : ℕ) (W : ℕ → ℕ → ℤ) (x : ℕ → ℤ) (k : ℕ) (E : List Part) → T (below m E) → ((i : ℕ) → i < n → W i k *ℤ x i ≡ folded (W i) E *ℤ x i)
+pub fold-sums : (n m : ℕ) (W : ℕ → ℕ → ℤ) (x : ℕ → ℤ) (k : ℕ) (E : List SignedPlace) → T (below m E) → ((i : ℕ) → i < n → W i k *ℤ x i ≡ folded (W i) E *ℤ x i)
     → sum n (λ i. W i k *ℤ x i) ≡ folded (λ g. sum n (λ i. W i g *ℤ x i)) E
 fold-sums n m W x k E b e =
     sum-cong n (λ i. W i k *ℤ x i) (λ i. sum m (λ g. W i g *ℤ occurrence E g) *ℤ x i)

@@ -15,7 +15,7 @@ use Rattle.algebra.proofs.Word.{small}
 use Rattle.algebra.proofs.Order.{abs-add}
 use Rattle.meaning.specs.Weights.{signed}
 use Rattle.meaning.proofs.Sizes.{abs-signed}
-use Rattle.folding.specs.Folds.{Part, part, folded, half, odd, nearer, leading, periodic, leadingInto, stretches, periodicInto, plus, minus}
+use Rattle.folding.specs.Folds.{SignedPlace, signedPlace, folded, half, isOdd, nearer, leading, periodic, leadingInto, stretches, periodicInto, plus, minus}
 use Rattle.folding.specs.Lines.{turned}
 
 pub read-back : (z : ℤ) (B : ℕ) → natAbs z ≤ B → B ≤ 1000000000 → toZ w32 (ofZ w32 z) ≡ z
@@ -71,11 +71,11 @@ nearer-in w q o s l = go (ltb (w + w) q) refl
         rw e (omega arith, omega arith)
 
 -- one part
-pub part-sum : (b : Bool) (f : ℕ → ℤ) (g : ℕ) (E : List Part) → folded f (part b g ∷ E) ≡ signed b (f g) +ℤ folded f E
+pub part-sum : (b : Bool) (f : ℕ → ℤ) (g : ℕ) (E : List SignedPlace) → folded f (signedPlace b g ∷ E) ≡ signed b (f g) +ℤ folded f E
 part-sum true f g E = refl
 part-sum false f g E = refl
 
-pub lone-part : (b : Bool) (f : ℕ → ℤ) (g : ℕ) → folded f (part b g ∷ []) ≡ signed b (f g)
+pub lone-part : (b : Bool) (f : ℕ → ℤ) (g : ℕ) → folded f (signedPlace b g ∷ []) ≡ signed b (f g)
 lone-part b f g = part-sum b f g [] ∙ +ℤ-idr (signed b (f g))
 
 pub signed-add : (b : Bool) (y z : ℤ) → signed b (y +ℤ z) ≡ signed b y +ℤ signed b z
@@ -83,19 +83,19 @@ signed-add true y z = negℤ-+ℤ y z
 signed-add false y z = refl
 
 -- one stretch more
-pub stretch-next : (f : ℕ → ℤ) (q g k : ℕ) → folded f (stretches q g (k + 1)) ≡ folded f (stretches q g k) +ℤ signed (odd k) (f (k * q + g) +ℤ f (k * q + q - 2 - g))
+pub stretch-next : (f : ℕ → ℤ) (q g k : ℕ) → folded f (stretches q g (k + 1)) ≡ folded f (stretches q g k) +ℤ signed (isOdd k) (f (k * q + g) +ℤ f (k * q + q - 2 - g))
 stretch-next f q g k =
-    let b = odd k in
+    let b = isOdd k in
     let u = f (k * q + g) in
     let v = f (k * q + q - 2 - g) in
     let s = folded f (stretches q g k) in
     ap (λ (j : ℕ). folded f (stretches q g j)) (add-one k)
-    ∙ part-sum b f (k * q + g) (part b (k * q + q - 2 - g) ∷ stretches q g k) ∙ ap (λ (z : ℤ). signed b u +ℤ z) (part-sum b f (k * q + q - 2 - g) (stretches q g k))
+    ∙ part-sum b f (k * q + g) (signedPlace b (k * q + q - 2 - g) ∷ stretches q g k) ∙ ap (λ (z : ℤ). signed b u +ℤ z) (part-sum b f (k * q + q - 2 - g) (stretches q g k))
     ∙ sym (+ℤ-assoc (signed b u) (signed b v) s) ∙ +ℤ-comm (signed b u +ℤ signed b v) s ∙ ap (λ (z : ℤ). s +ℤ z) (sym (signed-add b u v))
 
-pub stretch-last : (f : ℕ → ℤ) (n q g : ℕ) → folded f (periodicInto n q g) ≡ folded f (stretches q g (n / q)) +ℤ signed (odd (n / q)) (f (n / q * q + g))
+pub stretch-last : (f : ℕ → ℤ) (n q g : ℕ) → folded f (periodicInto n q g) ≡ folded f (stretches q g (n / q)) +ℤ signed (isOdd (n / q)) (f (n / q * q + g))
 unfolding periodicInto
-stretch-last f n q g = part-sum (odd (n / q)) f (n / q * q + g) (stretches q g (n / q)) ∙ +ℤ-comm (signed (odd (n / q)) (f (n / q * q + g))) (folded f (stretches q g (n / q)))
+stretch-last f n q g = part-sum (isOdd (n / q)) f (n / q * q + g) (stretches q g (n / q)) ∙ +ℤ-comm (signed (isOdd (n / q)) (f (n / q * q + g))) (folded f (stretches q g (n / q)))
 
 -- ---- the cases of leadingInto, leading and periodic
 pub into-own : (p q g : ℕ) → g % q + 1 ≡ q → leadingInto p q g ≡ plus g ∷ []
@@ -103,7 +103,7 @@ unfolding leadingInto
 into-own p q g e = rw (eq-eqb (g % q + 1) q e)
 
 pub into-two : (p q g : ℕ) → (g % q + 1 ≡ q → ⊥)
-    → leadingInto p q g ≡ plus g ∷ part (ltb (g / q + 1) (half p)) (half p * q + (nearer (g % q + 1) q - 1)) ∷ []
+    → leadingInto p q g ≡ plus g ∷ signedPlace (ltb (g / q + 1) (half p)) (half p * q + (nearer (g % q + 1) q - 1)) ∷ []
 unfolding leadingInto
 into-two p q g d = rw (ne-eqb (g % q + 1) q d)
 
@@ -120,7 +120,7 @@ pub leading-four : (p q k : ℕ) → half p * q ≤ k → (p ≡ 3 → ⊥)
 unfolding leading
 leading-four p q k h d = rw (le-ltb k (half p * q) h, ne-eqb p 3 d)
 
-pub periodic-one : (q k : ℕ) → ((k + 1) % q ≡ 0 → ⊥) → periodic q k ≡ part (not (ltb ((k + 1) % (2 * q)) q)) (nearer ((k + 1) % q) q - 1) ∷ []
+pub periodic-one : (q k : ℕ) → ((k + 1) % q ≡ 0 → ⊥) → periodic q k ≡ signedPlace (not (ltb ((k + 1) % (2 * q)) q)) (nearer ((k + 1) % q) q - 1) ∷ []
 unfolding periodic
 periodic-one q k d = rw (ne-eqb ((k + 1) % q) 0 d)
 

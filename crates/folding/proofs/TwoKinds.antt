@@ -16,9 +16,9 @@ use Rattle.algebra.proofs.Sum.{sum-cong, sum-rev, sum-neg}
 use Rattle.algebra.proofs.Lists.{tabulated}
 use Rattle.meaning.specs.Weights.{S, C, weight, signed}
 use Rattle.meaning.specs.Line.{forwardSum, inverseSum, forwardLine, inverseLine}
-use Rattle.folding.specs.Folds.{odd}
+use Rattle.folding.specs.Folds.{isOdd}
 use Rattle.folding.specs.Lines.{turned, alternated, reading, used, isFolded, isShared, kindOf}
-use Rattle.folding.specs.Steps.{Front}
+use Rattle.folding.specs.Steps.{FilledTo}
 use Rattle.folding.proofs.Reading.{turned-in, turned-twice}
 
 sum-turned : (back : Bool) (n : ℕ) (f : ℕ → ℤ) → sum n (λ k. f (turned back n k)) ≡ sum n f
@@ -46,22 +46,22 @@ unfolding output forwardSum weight C
 output-is false n x i = refl
 output-is true n x i =
     let f : ℕ → ℤ = λ k. S n i k *ℤ at x (n - 1 - k) in
-    ap (signed (odd i))
+    ap (signed (isOdd i))
     (sym (sum-turned true n f)
     ∙ sum-cong n (λ k. f (n - 1 - k)) (λ k. S n i (n - 1 - k) *ℤ at x k) (λ k h. ap (λ (j : ℕ). S n i (n - 1 - k) *ℤ at x j) (turned-twice true n k h)))
-    ∙ sym (sum-signed (odd i) n (λ k. S n i (n - 1 - k) *ℤ at x k))
-    ∙ sum-cong n (λ k. signed (odd i) (S n i (n - 1 - k) *ℤ at x k)) (λ k. signed (odd i) (S n i (n - 1 - k)) *ℤ at x k) (λ k h. sym (signed-left (odd i) (S n i (n - 1 - k)) (at x k)))
+    ∙ sym (sum-signed (isOdd i) n (λ k. S n i (n - 1 - k) *ℤ at x k))
+    ∙ sum-cong n (λ k. signed (isOdd i) (S n i (n - 1 - k) *ℤ at x k)) (λ k. signed (isOdd i) (S n i (n - 1 - k)) *ℤ at x k) (λ k h. sym (signed-left (isOdd i) (S n i (n - 1 - k)) (at x k)))
 
 -- place j of the line, which is place k of the sums
 pub place-sum : (back : Bool) (n : ℕ) (x : List ℤ) (j : ℕ) → sum n (λ i. S n i (turned back n j) *ℤ used back x i) ≡ inverseSum (kindOf back) n n (at x) j
 unfolding inverseSum weight C
 place-sum false n x j = refl
 place-sum true n x j =
-    sum-cong n (λ i. S n i (n - 1 - j) *ℤ signed (odd i) (at x i)) (λ i. signed (odd i) (S n i (n - 1 - j)) *ℤ at x i)
-    (λ i h. signed-right (odd i) (S n i (n - 1 - j)) (at x i) ∙ sym (signed-left (odd i) (S n i (n - 1 - j)) (at x i)))
+    sum-cong n (λ i. S n i (n - 1 - j) *ℤ signed (isOdd i) (at x i)) (λ i. signed (isOdd i) (S n i (n - 1 - j)) *ℤ at x i)
+    (λ i h. signed-right (isOdd i) (S n i (n - 1 - j)) (at x i) ∙ sym (signed-left (isOdd i) (S n i (n - 1 - j)) (at x i)))
 
 -- all places are written
-pub inverse-whole : {back : Bool} {n : ℕ} {f : ℕ → ℤ} {y : List ℤ} (x : List ℤ) → Front back n n f y
+pub inverse-whole : {back : Bool} {n : ℕ} {f : ℕ → ℤ} {y : List ℤ} (x : List ℤ) → FilledTo back n n f y
     → ((k : ℕ) → k < n → f k ≡ sum n (λ i. S n i k *ℤ used back x i)) → y ≡ inverseLine (kindOf back) n n (at x)
 unfolding inverseLine
 inverse-whole {back} {n} {f} {y} x w e =

@@ -15,12 +15,12 @@ use Rattle.meaning.specs.Line.{forwardLine}
 use Rattle.tables.specs.Table.{Table}
 use Rattle.folding.specs.Folds.{classOf, width}
 use Rattle.folding.specs.Lines.{alternated, reading, kindOf}
-use Rattle.folding.specs.Steps.{Gathered, Ready, Put, Wrote, shortSum}
+use Rattle.folding.specs.Steps.{Gathered, Ready, PutAlone, WroteWhere, shortSum}
 use Rattle.folding.proofs.Classes.{implied, folds, short-is}
 use Rattle.folding.proofs.TwoKinds.{output, forward-whole}
 
 -- one row
-pub put-one : {n i : ℕ} {f : ℕ → ℤ} {y z : List ℤ} → Put i (f i) y z → Wrote n (eqb i) f y z
+pub put-one : {n i : ℕ} {f : ℕ → ℤ} {y z : List ℤ} → PutAlone i (f i) y z → WroteWhere n (eqb i) f y z
 put-one {n} {i} {f} {y} {z} p =
     record {
       long = p .long;
@@ -29,7 +29,7 @@ put-one {n} {i} {f} {y} {z} p =
     }
 
 -- one after the other
-pub and-then : {n : ℕ} {P Q : ℕ → Bool} {f : ℕ → ℤ} {x y z : List ℤ} → Wrote n P f x y → Wrote n Q f y z → Wrote n (λ k. Q k || P k) f x z
+pub and-then : {n : ℕ} {P Q : ℕ → Bool} {f : ℕ → ℤ} {x y z : List ℤ} → WroteWhere n P f x y → WroteWhere n Q f y z → WroteWhere n (λ k. Q k || P k) f x z
 and-then {n} {P} {Q} {f} {x} {y} {z} p q =
     record {
       long = q .long ∙ p .long;
@@ -60,7 +60,7 @@ same-eq true false t = absurd t
 same-eq false true t = absurd t
 same-eq false false t = refl
 
-pub by-test : {n : ℕ} {P : ℕ → Bool} {f : ℕ → ℤ} {y z : List ℤ} (Q : ℕ → Bool) → T (allTo n (λ k. same (P k) (Q k))) → Wrote n P f y z → Wrote n Q f y z
+pub by-test : {n : ℕ} {P : ℕ → Bool} {f : ℕ → ℤ} {y z : List ℤ} (Q : ℕ → Bool) → T (allTo n (λ k. same (P k) (Q k))) → WroteWhere n P f y z → WroteWhere n Q f y z
 by-test {n} {P} Q t p =
     let e : (k : ℕ) → k < n → P k ≡ Q k = λ k h. same-eq (P k) (Q k) (allTo-at n (λ k. same (P k) (Q k)) t k h) in
     record { long = p .long; these = λ k h q. p .these k h (e k h ∙ q); others = λ k h q. p .others k h (e k h ∙ q) }
@@ -68,7 +68,7 @@ by-test {n} {P} Q t p =
 -- the rows of one class are the line's outputs
 pub of-class : (n p q c : ℕ) (back : Bool) (x : List ℤ) {P : ℕ → Bool} {t y z : List ℤ} → T (folds n p q c) → Gathered n p q c (reading back n x) (width p q c) t
     → T (allTo n (λ k. not (P k) || eqb (classOf p q k) c))
-    → Wrote n P (λ i. alternated back i (shortSum n (width p q c) t i)) y z → Wrote n P (output back n x) y z
+    → WroteWhere n P (λ i. alternated back i (shortSum n (width p q c) t i)) y z → WroteWhere n P (output back n x) y z
 unfolding output
 of-class n p q c back x {P} {t} f g e w =
     record {
@@ -77,7 +77,7 @@ of-class n p q c back x {P} {t} f g e w =
       others = w .others;
     }
 
-pub all-rows : (back : Bool) {n : ℕ} (x : List ℤ) {P : ℕ → Bool} {y z : List ℤ} → length y ≡ n → T (allTo n P) → Wrote n P (output back n x) y z → z ≡ forwardLine (kindOf back) n (at x)
+pub all-rows : (back : Bool) {n : ℕ} (x : List ℤ) {P : ℕ → Bool} {y z : List ℤ} → length y ≡ n → T (allTo n P) → WroteWhere n P (output back n x) y z → z ≡ forwardLine (kindOf back) n (at x)
 all-rows back {n} x {P} l t w = forward-whole back n x (w .long ∙ l) (λ i h. w .these i h (yes (P i) (allTo-at n P t i h)))
   where
     yes : (b : Bool) → T b → b ≡ true
@@ -85,7 +85,7 @@ all-rows back {n} x {P} l t w = forward-whole back n x (w .long ∙ l) (λ i h. 
     yes false t = absurd t
 
 -- row i is written
-pub put-done : {n m i : ℕ} {w t y : List ℤ} {v : ℤ} (z : ℤ) → i < n → Ready n m w t y → z ≡ v → Put i v y (set y i z) × Ready n m w t (set y i z)
+pub put-done : {n m i : ℕ} {w t y : List ℤ} {v : ℤ} (z : ℤ) → i < n → Ready n m w t y → z ≡ v → PutAlone i v y (set y i z) × Ready n m w t (set y i z)
 put-done {n} {m} {i} {y = y} z h r e = (
   record { long = length-set y i z; here = getD-set-same y i z (pos 0) (omega (arith, r .room)) ∙ e; others = λ k d. getD-set-other y i k z (pos 0) d },
   record { few = r .few; fits = r .fits; most = r .most; table = r .table; numbers = r .numbers; room = length-set y i z ∙ r .room },

@@ -9,7 +9,7 @@ use lib.ListN.{length}
 use lib.IntN.{ℤ}
 use Rattle.algebra.specs.Lists.{at}
 use Rattle.meaning.specs.Weights.{signed}
-use Rattle.folding.specs.Folds.{odd}
+use Rattle.folding.specs.Folds.{isOdd}
 
 -- place k of n, counted from the end where asked
 abbrev pub turned : Bool → ℕ → ℕ → ℕ
@@ -17,7 +17,7 @@ turned back n k = cond back (n - 1 - k) k
 
 -- the sign changed at odd places where asked
 abbrev pub alternated : Bool → ℕ → ℤ → ℤ
-alternated change k z = signed (change && odd k) z
+alternated change k z = signed (change && isOdd k) z
 
 -- input k of a forward line, and input i of an inverse one
 abbrev pub reading : Bool → ℕ → List ℤ → ℕ → ℤ
@@ -39,7 +39,7 @@ abbrev pub kindOf : Bool → ℕ
 kindOf back = cond {A = ℕ} back 2 1
 
 -- what a line is given
-pub record Given (n kind : ℕ) (x y : List ℤ) : Type 0 where
+pub record GivenLine (n kind : ℕ) (x y : List ℤ) : Type 0 where
   pub size : isShared n ≡ true
   pub known : isFolded kind ≡ true
   pub inputs : length x ≡ n

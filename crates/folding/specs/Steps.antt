@@ -10,11 +10,11 @@ use Rattle.algebra.specs.Sum.{sum}
 use Rattle.algebra.specs.Lists.{at}
 use Rattle.meaning.specs.Weights.{S}
 use Rattle.tables.specs.Table.{Table}
-use Rattle.folding.specs.Folds.{half, classOf, width, parts, into, folded}
+use Rattle.folding.specs.Folds.{half, classOf, width, signedPlaces, into, folded}
 use Rattle.folding.specs.Lines.{turned}
 
 -- m numbers, of size at most B
-pub record Small (m B : ℕ) (a : List ℤ) : Type 0 where
+pub record Bounded (m B : ℕ) (a : List ℤ) : Type 0 where
   pub long : length a ≡ m
   pub small : (k : ℕ) → k < m → natAbs (at a k) ≤ B
 
@@ -28,7 +28,7 @@ pub record Stretched (n s : ℕ) : Type 0 where
   pub last : n / s * s + half s ≡ n
 
 -- the numbers of a size: L = 2n+1 = p * q
-pub record Sized (n p q : ℕ) : Type 0 where
+pub record Factored (n p q : ℕ) : Type 0 where
   pub by-q : Stretched n q
   pub by-p : Stretched n p
   pub all : half p * q + half q ≡ n
@@ -40,7 +40,7 @@ pub record Sized (n p q : ℕ) : Type 0 where
 -- ---- forward
 -- the first k numbers of class c that the inputs X are folded to: at most 13 inputs of size at most 32768 each
 pub record Gathered (n p q c : ℕ) (X : ℕ → ℤ) (k : ℕ) (t : List ℤ) : Type 0 where
-  pub size : Sized n p q
+  pub size : Factored n p q
   pub long : length t ≡ width p q c
   pub are : (g : ℕ) → g < k → at t g ≡ folded X (into n p q c g)
   pub small : (g : ℕ) → g < k → natAbs (at t g) ≤ 425984
@@ -51,7 +51,7 @@ pub record Ready (n m : ℕ) (w t y : List ℤ) : Type 0 where
   pub fits : m ≤ n
   pub most : m ≤ 26
   pub table : Table n w
-  pub numbers : Small m 425984 t
+  pub numbers : Bounded m 425984 t
   pub room : length y ≡ n
 
 -- row i times m folded numbers
@@ -59,13 +59,13 @@ unfoldable pub shortSum : ℕ → ℕ → List ℤ → ℕ → ℤ
 shortSum n m t i = sum m (λ g. S n i g *ℤ at t g)
 
 -- place i now holds v, and no other place changed
-pub record Put (i : ℕ) (v : ℤ) (y z : List ℤ) : Type 0 where
+pub record PutAlone (i : ℕ) (v : ℤ) (y z : List ℤ) : Type 0 where
   pub long : length z ≡ length y
   pub here : at z i ≡ v
   pub others : (k : ℕ) → (k ≡ i → ⊥) → at z k ≡ at y k
 
 -- the places of n that pass a test hold what f says, and the others are as they were
-pub record Wrote (n : ℕ) (P : ℕ → Bool) (f : ℕ → ℤ) (y z : List ℤ) : Type 0 where
+pub record WroteWhere (n : ℕ) (P : ℕ → Bool) (f : ℕ → ℤ) (y z : List ℤ) : Type 0 where
   pub long : length z ≡ length y
   pub these : (k : ℕ) → k < n → P k ≡ true → at z k ≡ f k
   pub others : (k : ℕ) → k < n → P k ≡ false → at z k ≡ at y k
@@ -77,7 +77,7 @@ pub record Adding (n m i : ℕ) (w x a : List ℤ) : Type 0 where
   pub fits : m ≤ n
   pub table : Table n w
   pub inputs : length x ≡ n
-  pub sums : Small m (i * 2949120) a
+  pub sums : Bounded m (i * 2949120) a
 
 -- row i times v is added
 pub record Added (n m i : ℕ) (v : ℤ) (a b : List ℤ) : Type 0 where
@@ -92,17 +92,17 @@ pub record Class (n p q c : ℕ) (x : ℕ → ℤ) (a : List ℤ) : Type 0 where
   pub are : (g : ℕ) → g < width p q c → at a g ≡ sum n (λ i. S n i g *ℤ only p q c x i)
 
 -- the sums of the three classes; 94371840 = 32 * 90 * 32768
-pub record Sums (n p q : ℕ) (a c d : List ℤ) : Type 0 where
-  pub size : Sized n p q
-  pub first : Small (width p q 1) 94371840 a
-  pub second : Small (width p q 2) 94371840 c
-  pub third : Small (width p q 3) 94371840 d
+pub record ClassSums (n p q : ℕ) (a c d : List ℤ) : Type 0 where
+  pub size : Factored n p q
+  pub first : Bounded (width p q 1) 94371840 a
+  pub second : Bounded (width p q 2) 94371840 c
+  pub third : Bounded (width p q 3) 94371840 d
 
 -- place k of the line that they give
-unfoldable pub joined : ℕ → ℕ → List ℤ → List ℤ → List ℤ → ℕ → ℤ
-joined p q a c d k = folded (at a) (parts p q 1 k) +ℤ (folded (at c) (parts p q 2 k) +ℤ folded (at d) (parts p q 3 k))
+unfoldable pub joinedSums : ℕ → ℕ → List ℤ → List ℤ → List ℤ → ℕ → ℤ
+joinedSums p q a c d k = folded (at a) (signedPlaces p q 1 k) +ℤ (folded (at c) (signedPlaces p q 2 k) +ℤ folded (at d) (signedPlaces p q 3 k))
 
 -- places 0 .. k - 1 are written, from the end where asked
-pub record Front (back : Bool) (n k : ℕ) (f : ℕ → ℤ) (y : List ℤ) : Type 0 where
+pub record FilledTo (back : Bool) (n k : ℕ) (f : ℕ → ℤ) (y : List ℤ) : Type 0 where
   pub long : length y ≡ n
   pub done : (j : ℕ) → j < k → at y (turned back n j) ≡ f j

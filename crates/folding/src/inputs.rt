@@ -10,11 +10,11 @@ ghost use lib.IntN.{natAbs};
 ghost use lib.ListN.{length};
 ghost use Rattle.folding.specs.Folds.{half, width, leadingInto, periodicInto, into, folded};
 ghost use Rattle.folding.specs.Lines.{reading};
-ghost use Rattle.folding.specs.Steps.{Stretched, Sized, Gathered};
+ghost use Rattle.folding.specs.Steps.{Stretched, Factored, Gathered};
 
 // Feature 1: a first place, and one past them.
 fn leading_input(x: &[i16], n: usize, p: usize, q: usize, back: bool, g: usize) -> i32
-    requires { ⌜ (length (now x) ≡ n) × ((g < half p * q) × Sized n p q) ⌝ }
+    requires { ⌜ (length (now x) ≡ n) × ((g < half p * q) × Factored n p q) ⌝ }
     ensures { λ r. ⌜ (r ≡ folded (reading back n (now (x .entry))) (leadingInto p q g)) × (natAbs r ≤ 425984) ⌝ }
 {
     let own = taken(x, n, back, g);
@@ -43,7 +43,7 @@ fn periodic_input(x: &[i16], n: usize, q: usize, back: bool, g: usize) -> i32
 }
 
 fn folded_input(x: &[i16], n: usize, p: usize, q: usize, class: usize, back: bool, g: usize) -> i32
-    requires { ⌜ (length (now x) ≡ n) × ((g < width p q class) × Sized n p q) ⌝ }
+    requires { ⌜ (length (now x) ≡ n) × ((g < width p q class) × Factored n p q) ⌝ }
     ensures { λ r. ⌜ (r ≡ folded (reading back n (now (x .entry))) (into n p q class g)) × (natAbs r ≤ 425984) ⌝ }
 {
     if class == 1 {

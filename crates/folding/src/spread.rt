@@ -9,11 +9,11 @@ ghost use Prim.Native.Nat.{_≤_, _<_};
 ghost use lib.IntN.{natAbs};
 ghost use Rattle.algebra.specs.Lists.{at};
 ghost use Rattle.folding.specs.Folds.{half, width, leading as leadingParts, periodic as periodicParts, folded};
-ghost use Rattle.folding.specs.Steps.{Small, Stretched, Sized, Sums, Front, joined};
+ghost use Rattle.folding.specs.Steps.{Bounded, Stretched, Factored, ClassSums, FilledTo, joinedSums};
 
 // Feature 1 at place k.
 fn leading(a: &[i32], n: usize, p: usize, q: usize, k: usize) -> i32
-    requires { ⌜ (k < n) × (Sized n p q × Small (width p q 1) 94371840 (now a)) ⌝ }
+    requires { ⌜ (k < n) × (Factored n p q × Bounded (width p q 1) 94371840 (now a)) ⌝ }
     ensures { λ r. ⌜ (r ≡ folded (at (now (a .entry))) (leadingParts p q k)) × (natAbs r ≤ 377487360) ⌝ }
 {
     let m = p / 2 * q;
@@ -30,7 +30,7 @@ fn leading(a: &[i32], n: usize, p: usize, q: usize, k: usize) -> i32
 
 // Features 2 and 3 at place k.
 fn periodic(c: &[i32], n: usize, q: usize, k: usize) -> i32
-    requires { ⌜ (k < n) × (Stretched n q × Small (half q) 94371840 (now c)) ⌝ }
+    requires { ⌜ (k < n) × (Stretched n q × Bounded (half q) 94371840 (now c)) ⌝ }
     ensures { λ r. ⌜ (r ≡ folded (at (now (c .entry))) (periodicParts q k)) × (natAbs r ≤ 94371840) ⌝ }
 {
     let w = (k + 1) % q;
@@ -53,8 +53,8 @@ pub fn spread(
     to: usize,
     y: &mut [i32],
 )
-    requires { ⌜ ((from ≤ to) × (to ≤ n)) × (Sums n p q (now a) (now c) (now d) × Front back n from (joined p q (now a) (now c) (now d)) (now y)) ⌝ }
-    ensures { λ _. ⌜ Front back n to (joined p q (now (a .entry)) (now (c .entry)) (now (d .entry))) (now (y .exit)) ⌝ }
+    requires { ⌜ ((from ≤ to) × (to ≤ n)) × (ClassSums n p q (now a) (now c) (now d) × FilledTo back n from (joinedSums p q (now a) (now c) (now d)) (now y)) ⌝ }
+    ensures { λ _. ⌜ FilledTo back n to (joinedSums p q (now (a .entry)) (now (c .entry)) (now (d .entry))) (now (y .exit)) ⌝ }
 {
     let mut k = from;
     while k < to {

@@ -60,8 +60,8 @@ module _ (kind shift : ℕ) {a t : List ℤ} (u : Laid 4 2 2 8 (λ i j. weight k
 
 -- ---- both stages
 module _ {sh : Shape} {r : List ℤ} (g : Residuals sh r) (e : Whole sh) where
-  pub area : sh .width * sh .height ≡ 16
-  area = λ i. e .width i * e .height i
+  pub elements : sh .width * sh .height ≡ 16
+  elements = λ i. e .width i * e .height i
 
   row-is : (x y : ℕ) → fourValue (sh .horizontal) r (rowShift sh) x y ≡ rowValue sh r x y
   unfolding rowValue
@@ -73,7 +73,7 @@ module _ {sh : Shape} {r : List ℤ} (g : Residuals sh r) (e : Whole sh) where
       let d = depth-cases (sh .depth) (g .taken .depth) in
       record {
         known = g .taken .horizontal;
-        long = g .long ∙ area;
+        long = g .long ∙ elements;
         low = omega arith;
         high = omega arith;
         fits = λ x y h v. subst (SFits w16) (sym (row-is x y)) (rowValue-fits sh (g .taken) r (g .small) x y (omega (arith, e .width)));

@@ -30,7 +30,7 @@ use Rattle.product.specs.Product.{Laid}
 use Rattle.product.proofs.Laid.{laid-less, block-laid, lines-given, line-is}
 use Rattle.layout.specs.Zip.{Rows}
 use Rattle.layout.proofs.Zipping.{size-even, rows-given}
-use Rattle.forward_block.specs.Stage.{Residuals, lineValue, Put, Stage, Outputs, Rooms}
+use Rattle.forward_block.specs.Stage.{Residuals, lineValue, PutLines, Stage, Outputs, Rooms}
 
 -- a number of rows or columns that is not all of them leaves places
 fewer-columns : {rows h k w : ℕ} → rows ≤ h → 0 < h → k < w → rows * k < h * w
@@ -56,8 +56,8 @@ module _ {sh : Shape} {r t u : List ℤ} {room : ℕ} (g : Residuals sh r) (m : 
   abbrev rows : ℕ
   rows = sh .rows
 
-  area : h * w ≡ w * h
-  area = mul-comm h w
+  elements : h * w ≡ w * h
+  elements = mul-comm h w
 
   wide : (4 ≤ w) × (2 * (w / 2) ≡ w)
   wide = size-even w (g .taken .width)
@@ -70,7 +70,7 @@ module _ {sh : Shape} {r t u : List ℤ} {room : ℕ} (g : Residuals sh r) (m : 
 
   -- ---- rows
   row-laid : Laid h (w / 2) w 2 (λ i y. at r (i + y * w)) r
-  row-laid = block-laid (omega (arith, wide)) (omega (arith, area, g .long))
+  row-laid = block-laid (omega (arith, wide)) (omega (arith, elements, g .long))
 
   row-same : (x y : ℕ) → x < columns → y < h → lineValue (w / 2) r w 2 t (2 * w) (rowShift sh) x y ≡ rowValue sh r x y
   unfolding rowValue forwardSum
@@ -80,7 +80,7 @@ module _ {sh : Shape} {r t u : List ℤ} {room : ℕ} (g : Residuals sh r) (m : 
       ∙ ap (λ (n : ℕ). sum n (λ i. at r (i + y * w) *ℤ weight (sh .horizontal) w x i)) (wide .1)
       ∙ sum-cong w _ _ (λ i _. *ℤ-comm (at r (i + y * w)) (weight (sh .horizontal) w x i)))
 
-  pub row-put : (size : ℕ) → size ≡ w * h → Put (w / 2) r w 2 t (2 * w) columns h columns (rowShift sh) size
+  pub row-put : (size : ℕ) → size ≡ w * h → PutLines (w / 2) r w 2 t (2 * w) columns h columns (rowShift sh) size
   row-put size e =
       let l = log-in w in
       let d = depth-cases (sh .depth) (g .taken .depth) in
@@ -88,7 +88,7 @@ module _ {sh : Shape} {r t u : List ℤ} {room : ℕ} (g : Residuals sh r) (m : 
         lines = lines-given row-laid (laid-few (sh .horizontal) (columns-kept sh (g .taken) .within) (m .along)) (omega (arith, wide)) (omega (arith, size-in w (g .taken .width))) (λ i x y. inl (weightSize (sh .horizontal) w x i));
         few = few;
         narrow = omega arith;
-        held = omega (arith, mul-le-mul-left h (columns-kept sh (g .taken) .within), area);
+        held = omega (arith, mul-le-mul-left h (columns-kept sh (g .taken) .within), elements);
         low = omega arith;
         high = omega arith;
         fits = λ x y hx hy. subst (SFits w16) (sym (row-same x y hx hy)) (rowValue-fits sh (g .taken) r (g .small) x y (omega (arith, columns-kept sh (g .taken) .within)));
@@ -99,7 +99,7 @@ module _ {sh : Shape} {r t u : List ℤ} {room : ℕ} (g : Residuals sh r) (m : 
     pub zip-given : {z : List ℤ} → length z ≡ room → Rows (h / 2) columns columns c z
     zip-given e =
         rows-given h (g .taken .height) (columns-kept sh (g .taken) .some) (omega arith)
-        (omega (arith, mul-le-mul-left h (columns-kept sh (g .taken) .within), area, s .long)) (omega (arith, m .between))
+        (omega (arith, mul-le-mul-left h (columns-kept sh (g .taken) .within), elements, s .long)) (omega (arith, m .between))
 
     -- ---- columns
     module _ {z : List ℤ} (zipped : Laid columns (h / 2) 2 (2 * columns) (λ i x. at c (x + i * columns)) z) where
@@ -111,14 +111,14 @@ module _ {sh : Shape} {r t u : List ℤ} {room : ℕ} (g : Residuals sh r) (m : 
           ∙ ap (λ (n : ℕ). sum n (λ i. weight (sh .vertical) h y i *ℤ at c (x + i * columns))) (high .1)
           ∙ sum-cong h _ _ (λ i k q. weight (sh .vertical) h y i *ℤ (s .done x i hx k ∙ row-same x i hx k) q))
 
-      pub column-put : (size : ℕ) → size ≡ w * h → Put (h / 2) u 2 (2 * h) z (2 * columns) columns rows w (columnShift sh) size
+      pub column-put : (size : ℕ) → size ≡ w * h → PutLines (h / 2) u 2 (2 * h) z (2 * columns) columns rows w (columnShift sh) size
       column-put size e =
           let l = log-in h in
           record {
             lines = lines-given (laid-few (sh .vertical) (rows-kept sh (g .taken) .within) (m .down)) zipped (omega (arith, high)) (omega (arith, size-in h (g .taken .height))) (λ i x y. inr (weightSize (sh .vertical) h y i));
             few = few;
             narrow = columns-kept sh (g .taken) .within;
-            held = omega (arith, mul-le-mul-right w (rows-kept sh (g .taken) .within), area);
+            held = omega (arith, mul-le-mul-right w (rows-kept sh (g .taken) .within), elements);
             low = omega arith;
             high = omega arith;
             fits = λ x y hx hy.
@@ -131,20 +131,20 @@ module _ {sh : Shape} {r t u : List ℤ} {room : ℕ} (g : Residuals sh r) (m : 
           → Stage columns w rows (lineValue (h / 2) u 2 (2 * h) z (2 * columns) (columnShift sh)) a a₀ → a ≡ forwardBlock sh r
       unfolding forwardBlock coefficient
       block-done {a} {a₀} l none q =
-          block-ext w h (coefficient sh r) a (q .long ∙ l ∙ sym area)
+          block-ext w h (coefficient sh r) a (q .long ∙ l ∙ sym elements)
           (λ x y hx hy. one x y hx hy (ltb x columns) (ltb y rows) refl refl)
         where
           inside : (x y : ℕ) → x < w → y < h → x + y * w < length a₀
-          inside x y hx hy = omega (arith, place-in {x = x} {y = y} {w = w} {h = h} hx hy, area)
+          inside x y hx hy = omega (arith, place-in {x = x} {y = y} {w = w} {h = h} hx hy, elements)
 
           under : (x y : ℕ) → x < w → y < h → rows ≤ y → at a (x + y * w) ≡ pos 0
           under x y hx hy k =
-              let some : rows * columns < length a₀ = omega (arith, area, fewer-rows {rows = rows} {h = h} (columns-kept sh (g .taken) .within) (omega (arith, wide)) (omega arith)) in
+              let some : rows * columns < length a₀ = omega (arith, elements, fewer-rows {rows = rows} {h = h} (columns-kept sh (g .taken) .within) (omega (arith, wide)) (omega arith)) in
               q .below (x + y * w) (omega (arith, mul-le-mul-right w k)) ∙ none some (x + y * w) (inside x y hx hy)
 
           right : (x y : ℕ) → x < w → y < h → columns ≤ x → y < rows → at a (x + y * w) ≡ pos 0
           right x y hx hy k v =
-              let some : rows * columns < length a₀ = omega (arith, area, fewer-columns {rows = rows} {h = h} {k = columns} {w = w} (rows-kept sh (g .taken) .within) (omega (arith, high)) (omega arith)) in
+              let some : rows * columns < length a₀ = omega (arith, elements, fewer-columns {rows = rows} {h = h} {k = columns} {w = w} (rows-kept sh (g .taken) .within) (omega (arith, high)) (omega arith)) in
               q .beside x y k hx v ∙ none some (x + y * w) (inside x y hx hy)
 
           one : (x y : ℕ) → x < w → y < h → (b d : Bool) → ltb x columns ≡ b → ltb y rows ≡ d → at a (x + y * w) ≡ cond (b && d) (columnValue sh r x y) (pos 0)

@@ -25,7 +25,7 @@ abbrev pub lineValue : ℕ → List ℤ → ℕ → ℕ → List ℤ → ℕ →
 lineValue pairs a step gap b apart shift x y = nearest shift (lineSum a (step * y) gap b apart pairs x)
 
 -- `some` lines of `kept` outputs, none of which leaves 16 bits, and rows of `wide` for them in `room` numbers
-pub record Put (pairs : ℕ) (a : List ℤ) (step gap : ℕ) (b : List ℤ) (apart kept some wide shift room : ℕ) : Type 0 where
+pub record PutLines (pairs : ℕ) (a : List ℤ) (step gap : ℕ) (b : List ℤ) (apart kept some wide shift room : ℕ) : Type 0 where
   pub lines : Lines some kept pairs a step gap b apart
   pub few : kept ≤ 32
   pub narrow : kept ≤ wide

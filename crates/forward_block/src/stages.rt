@@ -22,7 +22,7 @@ ghost use Prim.Native.Nat.{_*_, _/_, _≤_};
 ghost use lib.ListN.{length};
 ghost use Rattle.meaning.specs.Shape.{isSize};
 ghost use Rattle.meaning.specs.Forward.{forwardBlock};
-ghost use Rattle.forward_block.specs.Stage.{Residuals, lineValue, Put, Stage, Rooms};
+ghost use Rattle.forward_block.specs.Stage.{Residuals, lineValue, PutLines, Stage, Rooms};
 
 // Lines in 16 bits, each in the first places of its row. The sums of one line stand in a list of this function's own: of one that
 // was lent the compiler would not know that it is apart from inputs and weights, and lose the pairs (docs/DECISIONS.md).
@@ -39,7 +39,7 @@ fn put_lines(
     shift: u32,
     out: &mut [i16],
 )
-    requires { ⌜ Put pairs (now a) step gap (now b) apart kept some wide shift (length (now out)) ⌝ }
+    requires { ⌜ PutLines pairs (now a) step gap (now b) apart kept some wide shift (length (now out)) ⌝ }
     ensures { λ _. ⌜ Stage kept wide some (lineValue pairs (now (a .entry)) step gap (now (b .entry)) apart shift) (now (out .exit)) (now (out .entry)) ⌝ }
 {
     let half = half(shift);
@@ -82,7 +82,7 @@ fn stage(
     shift: u32,
     out: &mut [i16],
 )
-    requires { ⌜ (isSize n ≡ true) × Put (n / 2) (now a) step gap (now b) apart kept some wide shift (length (now out)) ⌝ }
+    requires { ⌜ (isSize n ≡ true) × PutLines (n / 2) (now a) step gap (now b) apart kept some wide shift (length (now out)) ⌝ }
     ensures { λ _. ⌜ Stage kept wide some (lineValue (n / 2) (now (a .entry)) step gap (now (b .entry)) apart shift) (now (out .exit)) (now (out .entry)) ⌝ }
 {
     if n == 4 {

@@ -13,7 +13,7 @@ use Rattle.algebra.proofs.Normal.{ν, _⊕_, ring! }
 use Rattle.algebra.proofs.Sum.{sum-cong, sum-add, sum-neg, sum-split, sum-rev}
 use Rattle.meaning.specs.Weights.{weight}
 use Rattle.meaning.specs.Line.{forwardSum, inverseSum}
-use Rattle.halves.specs.Halves.{Halves, odd, oddSum, evens, sums, differences}
+use Rattle.halves.specs.Halves.{Halves, odd, oddSum, evens, endSums, endDifferences}
 
 -- ---- a sum by its even and odd places, and by places from both ends
 sum-halves : (c : ℕ) (f : ℕ → ℤ) → sum (c + c) f ≡ sum c (λ i. f (2 * i)) +ℤ sum c (λ i. f (2 * i + 1))
@@ -69,11 +69,11 @@ module _ {n h : ℕ} (p : Halves n h) (x : ℕ → ℤ) where
   -- ---- forward
   module _ (i : ℕ) (l : i < h) where
     -- y[2i] is y[i] of h points over x[j] + x[n-1-j]
-    pub forward-even : forwardSum 0 n x (2 * i) ≡ forwardSum 0 h (sums n x) i
+    pub forward-even : forwardSum 0 n x (2 * i) ≡ forwardSum 0 h (endSums n x) i
     unfolding forwardSum
     forward-even =
         sum-ends n h (p .doubled) (λ j. W (2 * i) j *ℤ x j)
-        ∙ sum-cong h (λ j. W (2 * i) j *ℤ x j +ℤ W (2 * i) (n - 1 - j) *ℤ x (n - 1 - j)) (λ j. weight 0 h i j *ℤ sums n x j) both
+        ∙ sum-cong h (λ j. W (2 * i) j *ℤ x j +ℤ W (2 * i) (n - 1 - j) *ℤ x (n - 1 - j)) (λ j. weight 0 h i j *ℤ endSums n x j) both
       where
         both : (j : ℕ) → j < h → weight 0 n (2 * i) j *ℤ x j +ℤ weight 0 n (2 * i) (n - 1 - j) *ℤ x (n - 1 - j) ≡ weight 0 h i j *ℤ (x j +ℤ x (n - 1 - j))
         both j q =
@@ -81,11 +81,11 @@ module _ {n h : ℕ} (p : Halves n h) (x : ℕ → ℤ) where
             ∙ sym (*ℤ-add (weight 0 h i j) (x j) (x (n - 1 - j)))
 
     -- y[2i+1] is the first half of its row over x[j] - x[n-1-j]
-    pub forward-odd : forwardSum 0 n x (2 * i + 1) ≡ sum h (λ j. odd n i j *ℤ differences n x j)
+    pub forward-odd : forwardSum 0 n x (2 * i + 1) ≡ sum h (λ j. odd n i j *ℤ endDifferences n x j)
     unfolding forwardSum
     forward-odd =
         sum-ends n h (p .doubled) (λ j. W (2 * i + 1) j *ℤ x j)
-        ∙ sum-cong h (λ j. W (2 * i + 1) j *ℤ x j +ℤ W (2 * i + 1) (n - 1 - j) *ℤ x (n - 1 - j)) (λ j. W (2 * i + 1) j *ℤ differences n x j) both
+        ∙ sum-cong h (λ j. W (2 * i + 1) j *ℤ x j +ℤ W (2 * i + 1) (n - 1 - j) *ℤ x (n - 1 - j)) (λ j. W (2 * i + 1) j *ℤ endDifferences n x j) both
       where
         both : (j : ℕ) → j < h → weight 0 n (2 * i + 1) j *ℤ x j +ℤ weight 0 n (2 * i + 1) (n - 1 - j) *ℤ x (n - 1 - j) ≡ weight 0 n (2 * i + 1) j *ℤ (x j -ℤ x (n - 1 - j))
         both j q =

@@ -16,8 +16,8 @@ use Rattle.meaning.specs.Weights.{weight}
 use Rattle.meaning.specs.Line.{forwardSum, forwardLine}
 use Rattle.meaning.specs.Taken.{NoneAbove}
 use Rattle.product.specs.Product.{spot}
-use Rattle.halves.specs.Halves.{Halves, odd, sums, differences}
-use Rattle.halves.specs.Lines.{Half, Small}
+use Rattle.halves.specs.Halves.{Halves, odd, endSums, endDifferences}
+use Rattle.halves.specs.Lines.{Half, SmallLine}
 use Rattle.halves.proofs.Tables.{tab-holds, row-sum}
 
 -- n a ≤ B and 1 ≤ n give a ≤ B
@@ -67,22 +67,22 @@ tab-low h s f e p =
     everywhere h s (λ k q. subst (λ (z : ℤ). h * natAbs z ≤ 1048576) (sym (tab-holds h s f e k (omega arith))) (p k (omega arith)))
 
 -- what the lines and the differences of half the points are given
-pub sums-small : (h : ℕ) (x s : List ℤ) → 1 ≤ h → Small (h + h) x → s ≡ tabulate h (sums (h + h) (at x)) → Small h s
+pub sums-small : (h : ℕ) (x s : List ℤ) → 1 ≤ h → SmallLine (h + h) x → s ≡ tabulate h (endSums (h + h) (at x)) → SmallLine h s
 sums-small h x s o p e =
     record {
       some = o;
       few = omega (arith, p .few);
-      long = ap length e ∙ tab-length h (sums (h + h) (at x));
-      low = tab-low h s (sums (h + h) (at x)) e (λ k l. add-low h (at x k) (at x (h + h - 1 - k)) (p .low k) (p .low (h + h - 1 - k)));
+      long = ap length e ∙ tab-length h (endSums (h + h) (at x));
+      low = tab-low h s (endSums (h + h) (at x)) e (λ k l. add-low h (at x k) (at x (h + h - 1 - k)) (p .low k) (p .low (h + h - 1 - k)));
     }
 
-differences-small : (h : ℕ) (x d : List ℤ) → 1 ≤ h → Small (h + h) x → d ≡ tabulate h (differences (h + h) (at x)) → Small h d
+differences-small : (h : ℕ) (x d : List ℤ) → 1 ≤ h → SmallLine (h + h) x → d ≡ tabulate h (endDifferences (h + h) (at x)) → SmallLine h d
 differences-small h x d o p e =
     record {
       some = o;
       few = omega (arith, p .few);
-      long = ap length e ∙ tab-length h (differences (h + h) (at x));
-      low = tab-low h d (differences (h + h) (at x)) e (λ k l. sub-low h (at x k) (at x (h + h - 1 - k)) (p .low k) (p .low (h + h - 1 - k)));
+      long = ap length e ∙ tab-length h (endDifferences (h + h) (at x));
+      low = tab-low h d (endDifferences (h + h) (at x)) e (λ k l. sub-low h (at x k) (at x (h + h - 1 - k)) (p .low k) (p .low (h + h - 1 - k)));
     }
 
 -- a line over a list is the line over what the list holds
@@ -92,16 +92,16 @@ over h s f e =
     tab-cong h _ _ (λ i q. sum-cong h (λ j. weight 0 h i j *ℤ at s j) (λ j. weight 0 h i j *ℤ f j) (λ j l. ap (λ (z : ℤ). weight 0 h i j *ℤ z) (tab-holds h s f e j l)))
 
 -- what the outputs are woven of: the line of half the points over the sums s, and the differences d
-pub weave-given : {h m : ℕ} {x s d e t : List ℤ} → 1 ≤ h → Small (h + h) x → m ≡ h + h → (s ≡ tabulate h (sums (h + h) (at x))) × (d ≡ tabulate h (differences (h + h) (at x)))
+pub weave-given : {h m : ℕ} {x s d e t : List ℤ} → 1 ≤ h → SmallLine (h + h) x → m ≡ h + h → (s ≡ tabulate h (endSums (h + h) (at x))) × (d ≡ tabulate h (endDifferences (h + h) (at x)))
     → e ≡ tabulate h (forwardSum 0 h (at s)) → Half (odd (h + h)) h t → Halves (h + h) h
-    → (Half (odd (h + h)) h t × Halves (h + h) h) × (Small h d × ((e ≡ tabulate h (forwardSum 0 h (sums (h + h) (at x)))) × ((d ≡ tabulate h (differences (h + h) (at x))) × (m ≡ h + h))))
-weave-given {h} {x = x} {s} {d} o p l q e t v = ((t, v), (differences-small h x d o p (q .1), (e ∙ over h s (sums (h + h) (at x)) (q .0), (q .1, l))))
+    → (Half (odd (h + h)) h t × Halves (h + h) h) × (SmallLine h d × ((e ≡ tabulate h (forwardSum 0 h (endSums (h + h) (at x)))) × ((d ≡ tabulate h (endDifferences (h + h) (at x))) × (m ≡ h + h))))
+weave-given {h} {x = x} {s} {d} o p l q e t v = ((t, v), (differences-small h x d o p (q .1), (e ∙ over h s (endSums (h + h) (at x)) (q .0), (q .1, l))))
 
 pub recount : {m n : ℕ} {a a₀ : List ℤ} {f : ℕ → ℤ} → m ≡ n → Filled 0 m a a₀ f → Filled 0 n a a₀ f
 recount {a = a} {a₀} {f} e p = subst (λ (k : ℕ). Filled 0 k a a₀ f) e p
 
 -- ---- a whole line
-pub whole-small : (x : List ℤ) (m : ℕ) → 1 ≤ m → m ≤ 32 → NoneAbove 32768 x → (a : List ℤ) → a ≡ tabulate m (at x) → Small m a
+pub whole-small : (x : List ℤ) (m : ℕ) → 1 ≤ m → m ≤ 32 → NoneAbove 32768 x → (a : List ℤ) → a ≡ tabulate m (at x) → SmallLine m a
 whole-small x m some few low a q =
     record {
       some = some;

@@ -18,7 +18,7 @@ use Rattle.meaning.specs.Taken.{TakenLine, NoneAbove}
 use Rattle.meaning.proofs.Sizes.{weightSize}
 use Rattle.product.specs.Product.{lineSum, shifted}
 use Rattle.halves.specs.Halves.{Halves, odd, oddSum, evens}
-use Rattle.halves.specs.Lines.{Half, strided, Inputs, Sums, Joined}
+use Rattle.halves.specs.Lines.{Half, strided, Inputs, HalfSums, Joined}
 use Rattle.halves.proofs.Tables.{odd-size, tab-holds, tab-long, pairs-hold}
 use Rattle.halves.proofs.Joining.{joined}
 
@@ -53,7 +53,7 @@ module _ {h apart : ℕ} {x : List ℤ} (inputs : Inputs (h + h) apart x) where
     odded : (j : ℕ) → j < h → at o j ≡ sum h (λ i. odd (h + h) i j *ℤ at x (apart + i * (2 * apart)))
     odded j l = pairs-hold stored (odd-size (h + h)) pairs two a _ dealt m (omega arith) o lined j (omega arith)
 
-    pub step-given : Sums h e o
+    pub step-given : HalfSums h e o
     unfolding inverseSum
     step-given =
         record {

@@ -24,8 +24,8 @@ unfoldable pub oddSum : ℕ → ℕ → (ℕ → ℤ) → ℕ → ℤ
 oddSum n count x j = sum count (λ i. odd n i j *ℤ x (2 * i + 1))
 
 -- forward: x[j] + x[n-1-j] and x[j] - x[n-1-j]
-abbrev pub sums : ℕ → (ℕ → ℤ) → ℕ → ℤ
-sums n x j = x j +ℤ x (n - 1 - j)
+abbrev pub endSums : ℕ → (ℕ → ℤ) → ℕ → ℤ
+endSums n x j = x j +ℤ x (n - 1 - j)
 
-abbrev pub differences : ℕ → (ℕ → ℤ) → ℕ → ℤ
-differences n x j = x j -ℤ x (n - 1 - j)
+abbrev pub endDifferences : ℕ → (ℕ → ℤ) → ℕ → ℤ
+endDifferences n x j = x j -ℤ x (n - 1 - j)

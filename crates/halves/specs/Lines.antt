@@ -30,7 +30,7 @@ pub record Inputs (n apart : ℕ) (x : List ℤ) : Type 0 where
   pub low : NoneAbove 32768 x
 
 -- sums of h even and h odd inputs, of which any two may be added in 32 bits
-pub record Sums (h : ℕ) (e o : List ℤ) : Type 0 where
+pub record HalfSums (h : ℕ) (e o : List ℤ) : Type 0 where
   pub few : h ≤ 16
   pub evens : length e ≡ h
   pub odds : h ≤ length o
@@ -45,7 +45,7 @@ pub record Joined (count h : ℕ) (e o out : List ℤ) : Type 0 where
 
 -- ---- forward
 -- n numbers of which n times the largest is at most 32 * 32768, so that no sum leaves 32 bits
-pub record Small (n : ℕ) (x : List ℤ) : Type 0 where
+pub record SmallLine (n : ℕ) (x : List ℤ) : Type 0 where
   pub some : 1 ≤ n
   pub few : n ≤ 32
   pub long : length x ≡ n

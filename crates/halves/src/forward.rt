@@ -17,8 +17,8 @@ ghost use Rattle.algebra.specs.Lists.{at, tabulate};
 ghost use Rattle.meaning.specs.Weights.{weight};
 ghost use Rattle.meaning.specs.Line.{forwardSum, forwardLine};
 ghost use Rattle.meaning.specs.Taken.{TakenLine, NoneAbove};
-ghost use Rattle.halves.specs.Halves.{Halves, odd, sums, differences};
-ghost use Rattle.halves.specs.Lines.{Half, Row, Small};
+ghost use Rattle.halves.specs.Halves.{Halves, odd, endSums, endDifferences};
+ghost use Rattle.halves.specs.Lines.{Half, Row, SmallLine};
 
 // The inputs in 32 bits; each was one of 16.
 fn widen(x: &[i16], a: &mut [i32])
@@ -34,7 +34,7 @@ fn widen(x: &[i16], a: &mut [i32])
 
 // The row of h weights from o on, over v.
 fn row(t: &[i16], o: usize, h: usize, v: &[i32]) -> i32
-    requires { ⌜ Row h o (now t) × Small h (now v) ⌝ }
+    requires { ⌜ Row h o (now t) × SmallLine h (now v) ⌝ }
     ensures { λ r. ⌜ r ≡ sum h (λ j. at (now (t .entry)) (2 * j + o) *ℤ at (now (v .entry)) j) ⌝ }
 {
     let mut total: i32 = 0;
@@ -48,8 +48,8 @@ fn row(t: &[i16], o: usize, h: usize, v: &[i32]) -> i32
 
 // x[j] + x[n-1-j] and x[j] - x[n-1-j]
 fn fold(x: &[i32], h: usize, s: &mut [i32], d: &mut [i32])
-    requires { ⌜ Small (h + h) (now x) × ((length (now s) ≡ h) × (length (now d) ≡ h)) ⌝ }
-    ensures { λ _. ⌜ (now (s .exit) ≡ tabulate h (sums (h + h) (at (now (x .entry))))) × (now (d .exit) ≡ tabulate h (differences (h + h) (at (now (x .entry))))) ⌝ }
+    requires { ⌜ SmallLine (h + h) (now x) × ((length (now s) ≡ h) × (length (now d) ≡ h)) ⌝ }
+    ensures { λ _. ⌜ (now (s .exit) ≡ tabulate h (endSums (h + h) (at (now (x .entry))))) × (now (d .exit) ≡ tabulate h (endDifferences (h + h) (at (now (x .entry))))) ⌝ }
 {
     let mut j = 0;
     while j < h {
@@ -61,7 +61,7 @@ fn fold(x: &[i32], h: usize, s: &mut [i32], d: &mut [i32])
 
 // The even outputs from the line of h points, the odd ones from the differences.
 fn weave(t: &[i16], h: usize, x: &[i32], e: &[i32], d: &[i32], out: &mut [i32])
-    requires { ⌜ (Half (odd (h + h)) h (now t) × Halves (h + h) h) × (Small h (now d) × ((now e ≡ tabulate h (forwardSum 0 h (sums (h + h) (at (now x))))) × ((now d ≡ tabulate h (differences (h + h) (at (now x)))) × (length (now out) ≡ h + h)))) ⌝ }
+    requires { ⌜ (Half (odd (h + h)) h (now t) × Halves (h + h) h) × (SmallLine h (now d) × ((now e ≡ tabulate h (forwardSum 0 h (endSums (h + h) (at (now x))))) × ((now d ≡ tabulate h (endDifferences (h + h) (at (now x)))) × (length (now out) ≡ h + h)))) ⌝ }
     ensures { λ _. ⌜ now (out .exit) ≡ tabulate (h + h) (forwardSum 0 (h + h) (at (now (x .entry)))) ⌝ }
 {
     let mut i = 0;
@@ -74,7 +74,7 @@ fn weave(t: &[i16], h: usize, x: &[i32], e: &[i32], d: &[i32], out: &mut [i32])
 
 // All rows of 4 points.
 fn four(t: &[i16], x: &[i32], out: &mut [i32])
-    requires { ⌜ Half (weight 0 4) 4 (now t) × (Small 4 (now x) × (length (now out) ≡ 4)) ⌝ }
+    requires { ⌜ Half (weight 0 4) 4 (now t) × (SmallLine 4 (now x) × (length (now out) ≡ 4)) ⌝ }
     ensures { λ _. ⌜ now (out .exit) ≡ tabulate 4 (forwardSum 0 4 (at (now (x .entry)))) ⌝ }
 {
     let mut i = 0;
@@ -85,7 +85,7 @@ fn four(t: &[i16], x: &[i32], out: &mut [i32])
 }
 
 fn forward_4(x: &[i32], out: &mut [i32])
-    requires { ⌜ Small 4 (now x) × (length (now out) ≡ 4) ⌝ }
+    requires { ⌜ SmallLine 4 (now x) × (length (now out) ≡ 4) ⌝ }
     ensures { λ _. ⌜ now (out .exit) ≡ tabulate 4 (forwardSum 0 4 (at (now (x .entry)))) ⌝ }
 {
     let t = zipped_4(0, false);
@@ -93,7 +93,7 @@ fn forward_4(x: &[i32], out: &mut [i32])
 }
 
 fn forward_8(x: &[i32], out: &mut [i32])
-    requires { ⌜ Small 8 (now x) × (length (now out) ≡ 8) ⌝ }
+    requires { ⌜ SmallLine 8 (now x) × (length (now out) ≡ 8) ⌝ }
     ensures { λ _. ⌜ now (out .exit) ≡ tabulate 8 (forwardSum 0 8 (at (now (x .entry)))) ⌝ }
 {
     let mut s = [0i32; 4];
@@ -106,7 +106,7 @@ fn forward_8(x: &[i32], out: &mut [i32])
 }
 
 fn forward_16(x: &[i32], out: &mut [i32])
-    requires { ⌜ Small 16 (now x) × (length (now out) ≡ 16) ⌝ }
+    requires { ⌜ SmallLine 16 (now x) × (length (now out) ≡ 16) ⌝ }
     ensures { λ _. ⌜ now (out .exit) ≡ tabulate 16 (forwardSum 0 16 (at (now (x .entry)))) ⌝ }
 {
     let mut s = [0i32; 8];
@@ -119,7 +119,7 @@ fn forward_16(x: &[i32], out: &mut [i32])
 }
 
 fn forward_32(x: &[i32], out: &mut [i32])
-    requires { ⌜ Small 32 (now x) × (length (now out) ≡ 32) ⌝ }
+    requires { ⌜ SmallLine 32 (now x) × (length (now out) ≡ 32) ⌝ }
     ensures { λ _. ⌜ now (out .exit) ≡ tabulate 32 (forwardSum 0 32 (at (now (x .entry)))) ⌝ }
 {
     let mut s = [0i32; 16];

@@ -14,7 +14,7 @@ ghost use lib.ListN.{length};
 ghost use Rattle.algebra.specs.Lists.{at, tabulate};
 ghost use Rattle.meaning.specs.Line.{inverseSum, inverseLine};
 ghost use Rattle.meaning.specs.Taken.{TakenLine, NoneAbove};
-ghost use Rattle.halves.specs.Lines.{strided, Inputs, Sums, Joined};
+ghost use Rattle.halves.specs.Lines.{strided, Inputs, HalfSums, Joined};
 
 // What reading tells of each input: in 16 bits, a size of at most 32768. The compiler sees that this does nothing.
 fn read(x: &[i16])
@@ -41,7 +41,7 @@ fn deal(x: &[i16], from: usize, step: usize, a: &mut [i16])
 
 // z[j] = E[j] + O[j], z[n-1-j] = E[j] - O[j]
 fn butterfly(e: &[i32], o: &[i32], h: usize, out: &mut [i32])
-    requires { ⌜ Sums h (now e) (now o) × (length (now out) ≡ h + h) ⌝ }
+    requires { ⌜ HalfSums h (now e) (now o) × (length (now out) ≡ h + h) ⌝ }
     ensures { λ _. ⌜ Joined h h (now (e .entry)) (now (o .entry)) (now (out .exit)) ⌝ }
 {
     let mut j = 0;

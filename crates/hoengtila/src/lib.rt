@@ -2,7 +2,7 @@
 // `step_run`, `step_lists`, `picture` and `salvage` under the names and with the arguments that include/hoengtila.h declares, and the one
 // that makes a shape. A wrapper is one call and has the contract of what it calls; none has a `requires`, so whatever numbers and lengths
 // a caller hands over, the contract says what comes back. For Rattle callers alone are the 4 by 4 block by value (`small_block`),
-// the calls that run two ways side by side (`forward_both`, `inverse_both`), the thin block that hands a part of an area back (`inverse`
+// the calls that run two ways side by side (`forward_both`, `inverse_both`), the thin block that hands a stretch of an area back (`inverse`
 // of `thin_block`; `work` is here), `empty` of `report` and `is_listed` of `step_lists`. Read it beside the header.
 use meaning::Answer;
 use meaning::Shape;
@@ -10,7 +10,7 @@ use picture::read::Picture;
 use picture::write::Written;
 use salvage::saving::Saved;
 use step_lists::Listed;
-use steps::Taken;
+use steps::StepCount;
 use thin_block::Thin;
 use why::Parts;
 ghost use mathlib.Core.Path.{_≡_};
@@ -33,7 +33,7 @@ ghost use Rattle.thin_block.specs.Thin.{Areas, thinOutcome};
 ghost use Rattle.steps.specs.Outcome.{Result, stepsOutcome};
 ghost use Rattle.wrapping.specs.Outcome.{forwardWrapped, inverseWrapped};
 ghost use Rattle.picture.specs.Outcomes.{writeOutcome, readOutcome};
-ghost use Rattle.salvage.specs.Outcomes.{savedOutcome};
+ghost use Rattle.salvage.specs.Outcomes.{salvageOutcome};
 ghost use Rattle.report.specs.Totals.{empty, addOutcome};
 ghost use Rattle.step_lists.specs.Listed.{HandedList, listOutcome, stepLineOutcome};
 ghost use Rattle.why.specs.Why.{whyOutcome, longWhyOutcome};
@@ -217,7 +217,7 @@ pub extern "C" fn hoengtila_steps_run(
     outs: &[i32],
     x: &[i16],
     y: &mut [i32],
-) -> Taken
+) -> StepCount
     ensures { λ r. ⌜ _≡_ {A = Result} (r, now (y .exit)) (stepsOutcome (listOf inputs cells (now (steps .entry)) (now (outs .entry))) (now (x .entry)) (now (y .entry))) ⌝ }
 {
     step_run::run::run(inputs, cells, steps, outs, x, y)
@@ -231,7 +231,7 @@ pub extern "C" fn hoengtila_steps_list(n: u32, steps: &mut [i32], outs: &mut [i3
 }
 
 #[no_mangle]
-pub extern "C" fn hoengtila_steps_forward(n: u32, x: &[i16], y: &mut [i32]) -> Taken
+pub extern "C" fn hoengtila_steps_forward(n: u32, x: &[i16], y: &mut [i32]) -> StepCount
     ensures { λ r. ⌜ _≡_ {A = Result} (r, now (y .exit)) (stepLineOutcome n (now (x .entry)) (now (y .entry))) ⌝ }
 {
     step_lists::forward::forward(n, x, y)
@@ -258,7 +258,7 @@ pub extern "C" fn hoengtila_picture_read(file: &[u8], residuals: &mut [i32]) -> 
 
 #[no_mangle]
 pub extern "C" fn hoengtila_salvage(file: &[u8], out: &mut [u8], list: &mut [u32]) -> Saved
-    ensures { λ r. ⌜ _≡_ {A = Saved × List ℕ × List ℕ} (r, now (out .exit), now (list .exit)) (savedOutcome (now (file .entry)) (now (out .entry)) (now (list .entry))) ⌝ }
+    ensures { λ r. ⌜ _≡_ {A = Saved × List ℕ × List ℕ} (r, now (out .exit), now (list .exit)) (salvageOutcome (now (file .entry)) (now (out .entry)) (now (list .entry))) ⌝ }
 {
     salvage::saving::salvage(file, out, list)
 }

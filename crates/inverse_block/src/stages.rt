@@ -20,17 +20,17 @@ ghost use mathlib.Core.Path.{_≡_};
 ghost use Prim.Native.Nat.{_*_};
 ghost use Rattle.meaning.specs.Plan.{planOf};
 ghost use Rattle.meaning.specs.Inverse.{rails, inverseBlock};
-ghost use Rattle.inverse_stage.specs.Given.{Given, Room};
+ghost use Rattle.inverse_stage.specs.Given.{GivenStages, Room};
 
 // Where every list that a stage needs has room in 128 numbers: buffers have to be zeroed, and those of `large` would take as long
 // as a small block does.
 fn small(shape: Shape, rows: usize, columns: usize, c: &[i16], r: &mut [i32]) -> u32
-    requires { ⌜ Given shape rows columns (now c) (now r) × Room 128 shape rows columns ⌝ }
+    requires { ⌜ GivenStages shape rows columns (now c) (now r) × Room 128 shape rows columns ⌝ }
     ensures { λ n. ⌜ (n ≡ rails (planOf shape) (now (c .entry))) × (now (r .exit) ≡ inverseBlock (planOf shape) (now (c .entry))) ⌝ }
 {
     let w = shape.width as usize;
     let h = shape.height as usize;
-    let area = h * columns;
+    let elements = h * columns;
     let wide = 2 * columns;
     let tall = 2 * h;
     let full = 2 * w;
@@ -43,7 +43,7 @@ fn small(shape: Shape, rows: usize, columns: usize, c: &[i16], r: &mut [i32]) ->
     } else {
         lines(4, wide, &t, 2, tall, &z, columns, h, 64, 7, r);
     }
-    let rails = settle(&r[0..area], &mut z[0..area]);
+    let rails = settle(&r[0..elements], &mut z[0..elements]);
     let last = last_shift(shape);
     let half = half(last);
     put_128(shape.horizontal, false, w, &mut t);
@@ -56,12 +56,12 @@ fn small(shape: Shape, rows: usize, columns: usize, c: &[i16], r: &mut [i32]) ->
 }
 
 fn large(shape: Shape, rows: usize, columns: usize, c: &[i16], r: &mut [i32]) -> u32
-    requires { ⌜ Given shape rows columns (now c) (now r) ⌝ }
+    requires { ⌜ GivenStages shape rows columns (now c) (now r) ⌝ }
     ensures { λ n. ⌜ (n ≡ rails (planOf shape) (now (c .entry))) × (now (r .exit) ≡ inverseBlock (planOf shape) (now (c .entry))) ⌝ }
 {
     let w = shape.width as usize;
     let h = shape.height as usize;
-    let area = h * columns;
+    let elements = h * columns;
     let wide = 2 * columns;
     let tall = 2 * h;
     let full = 2 * w;
@@ -78,7 +78,7 @@ fn large(shape: Shape, rows: usize, columns: usize, c: &[i16], r: &mut [i32]) ->
     } else {
         lines(16, wide, &t, 2, tall, &z, columns, h, 64, 7, r);
     }
-    let rails = settle(&r[0..area], &mut z[0..area]);
+    let rails = settle(&r[0..elements], &mut z[0..elements]);
     let last = last_shift(shape);
     let half = half(last);
     put_1024(shape.horizontal, false, w, &mut t);
@@ -97,7 +97,7 @@ fn large(shape: Shape, rows: usize, columns: usize, c: &[i16], r: &mut [i32]) ->
 // Hands back the rail count. Neither `eight`, `small` nor `large` is called from one place alone: the compiler would move it into its
 // caller then, and lose the pairs (docs/DECISIONS.md).
 pub fn stages(shape: Shape, rows: usize, columns: usize, c: &[i16], r: &mut [i32]) -> u32
-    requires { ⌜ Given shape rows columns (now c) (now r) ⌝ }
+    requires { ⌜ GivenStages shape rows columns (now c) (now r) ⌝ }
     ensures { λ n. ⌜ (n ≡ rails (planOf shape) (now (c .entry))) × (now (r .exit) ≡ inverseBlock (planOf shape) (now (c .entry))) ⌝ }
 {
     let w = shape.width as usize;

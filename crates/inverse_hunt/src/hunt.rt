@@ -57,7 +57,7 @@ fn searched(shape: Shape, c: &[i16]) -> usize
 }
 
 // The same, where the block is known to be zero outside of some part of it: if that is kept, nothing can be found.
-pub fn hunt(shape: Shape, columns: usize, rows: usize, c: &[i16]) -> usize
+pub fn first_outside(shape: Shape, columns: usize, rows: usize, c: &[i16]) -> usize
     requires { ⌜ ((length (now c) ≡ shape .width * shape .height) × (shape .columns ≤ shape .width)) × Part (shape .width) (shape .height) columns rows (now c) ⌝ }
     ensures { λ r. ⌜ r ≡ firstOutside (planOf shape) (now (c .entry)) ⌝ }
 {

@@ -23,7 +23,7 @@ use Rattle.meaning.proofs.Cases.{kind-cases}
 use Rattle.meaning.proofs.Sizes.{weightSize}
 use Rattle.product.specs.Product.{Laid, lineSum, shifted, Lines}
 use Rattle.product.proofs.Laid.{block-laid, lines-given, lines-are}
-use Rattle.inverse_stage.specs.Given.{Given}
+use Rattle.inverse_stage.specs.Given.{GivenStages}
 use Rattle.inverse_squares.specs.Square.{Square, downBlock, alongBlock}
 use Rattle.inverse_stage.proofs.Work.{keeps, sums, middles, middle-at}
 use Rattle.layout.proofs.Alive.{column-is, row-is}
@@ -71,7 +71,7 @@ module _ {n pairs : ℕ} (kind : ℕ) (e : 2 * pairs ≡ n) (some : 0 < pairs) (
         ∙ ap (nearest last) (sum-cong n _ _ (λ i _. *ℤ-comm (at m (i + y * n)) (weight kind n i x))))
 
 -- ---- as the stages of a block
-module _ {sh : Shape} {c r : List ℤ} (g : Given sh (sh .height) (sh .width) c r) where
+module _ {sh : Shape} {c r : List ℤ} (g : GivenStages sh (sh .height) (sh .width) c r) where
   pub whole-sums : downBlock (sh .vertical) (sh .width) (sh .height) c ≡ sums g
   unfolding inverseSum
   whole-sums = block-cong (sh .width) (sh .height) _ _ (λ x y h _. ap rounded (column-is (planOf sh) (keeps g) c (sh .width) (sh .height) (g .live) (g .kept) x y h))

@@ -17,7 +17,7 @@ ghost use Rattle.meaning.specs.Weights.{weight};
 ghost use Rattle.meaning.specs.Plan.{planOf};
 ghost use Rattle.meaning.specs.Inverse.{rails, inverseBlock};
 ghost use Rattle.product.specs.Product.{Laid};
-ghost use Rattle.inverse_stage.specs.Given.{Given};
+ghost use Rattle.inverse_stage.specs.Given.{GivenStages};
 ghost use Rattle.inverse_squares.specs.Square.{Square};
 
 // The weights of a kind. It is a literal at each call, so that they are copied: of one that is not known the compiler would choose
@@ -37,7 +37,7 @@ fn put(kind: u32, t: &mut [i16; 64])
 
 // Hands back the rail count. All of the block is worked, whatever is kept: it is zero outside of its kept part.
 pub fn eight(shape: Shape, horizontal: u32, c: &[i16], r: &mut [i32]) -> u32
-    requires { ⌜ Given shape (shape .height) (shape .width) (now c) (now r) × (Square 8 shape × (horizontal ≡ shape .horizontal)) ⌝ }
+    requires { ⌜ GivenStages shape (shape .height) (shape .width) (now c) (now r) × (Square 8 shape × (horizontal ≡ shape .horizontal)) ⌝ }
     ensures { λ n. ⌜ (n ≡ rails (planOf shape) (now (c .entry))) × (now (r .exit) ≡ inverseBlock (planOf shape) (now (c .entry))) ⌝ }
 {
     let w = shape.width as usize;
@@ -55,13 +55,13 @@ pub fn eight(shape: Shape, horizontal: u32, c: &[i16], r: &mut [i32]) -> u32
     rails
 }
 
-// Whether a block of `area` numbers is one, with no side named.
-pub fn is_eight(shape: Shape, area: usize) -> bool
-    requires { ⌜ (isSize (shape .width) ≡ true) × (area ≡ shape .width * shape .height) ⌝ }
+// Whether a block of `elements` numbers is one, with no side named.
+pub fn is_eight(shape: Shape, elements: usize) -> bool
+    requires { ⌜ (isSize (shape .width) ≡ true) × (elements ≡ shape .width * shape .height) ⌝ }
     ensures { λ r. ⌜ (r ≡ true → Square 8 shape) ⌝ }
 {
     if shape.width != shape.height {
         return false;
     }
-    area == 64
+    elements == 64
 }

@@ -15,7 +15,7 @@ ghost use lib.ListN.{length};
 ghost use Rattle.meaning.specs.Shape.{isKind};
 ghost use Rattle.meaning.specs.Plan.{planOf};
 ghost use Rattle.meaning.specs.Inverse.{rails, inverseBlock};
-ghost use Rattle.inverse_stage.specs.Given.{Given};
+ghost use Rattle.inverse_stage.specs.Given.{GivenStages};
 ghost use Rattle.inverse_squares.specs.Square.{Square, downBlock, alongBlock};
 
 // The first stage: down the columns the inputs of a line are weights and its weights are the block's rows, zipped.
@@ -57,7 +57,7 @@ fn along(kind: u32, m: &[i16; 16], last: u32, r: &mut [i32])
 
 // Hands back the rail count. All of the block is worked, whatever is kept: it is zero outside of its kept part.
 pub fn four(shape: Shape, c: &[i16], r: &mut [i32]) -> u32
-    requires { ⌜ Given shape (shape .height) (shape .width) (now c) (now r) × Square 4 shape ⌝ }
+    requires { ⌜ GivenStages shape (shape .height) (shape .width) (now c) (now r) × Square 4 shape ⌝ }
     ensures { λ n. ⌜ (n ≡ rails (planOf shape) (now (c .entry))) × (now (r .exit) ≡ inverseBlock (planOf shape) (now (c .entry))) ⌝ }
 {
     let mut e = [0i32; 16];

@@ -29,7 +29,7 @@ use Rattle.product.proofs.Laid.{laid-less, block-laid, lines-given, lines-are, 
 use Rattle.tables.specs.Stage.{Weights}
 use Rattle.layout.specs.Zip.{Rows}
 use Rattle.layout.proofs.Zipping.{size-even, rows-given}
-use Rattle.inverse_stage.specs.Given.{Given, Room}
+use Rattle.inverse_stage.specs.Given.{GivenStages, Room}
 use Rattle.inverse_stage.specs.Settled.{railsOf}
 use Rattle.inverse_stage.proofs.Blocks.{block-count}
 use Rattle.layout.proofs.Alive.{column-is, mid, row-is, rails-are}
@@ -59,7 +59,7 @@ by-pairs pairs n m e = omega (arith, ap (λ (n : ℕ). n * m) e, mul-assoc 2 pai
 pub all-written : (n : ℕ) (l o : List ℤ) → length o ≤ n → l ++ drop n o ≡ l
 all-written n l o k = ap (λ (rest : List ℤ). l ++ rest) (drop-of-length-le o k) ∙ append-nil l
 
-module _ {sh : Shape} {rows columns : ℕ} {c r : List ℤ} (g : Given sh rows columns c r) where
+module _ {sh : Shape} {rows columns : ℕ} {c r : List ℤ} (g : GivenStages sh rows columns c r) where
   abbrev w : ℕ
   w = sh .width
 
@@ -165,7 +165,7 @@ module _ {sh : Shape} {rows columns : ℕ} {c r : List ℤ} (g : Given sh rows c
     pub shift : last ≡ p .last
 
 -- ---- what the lines of either stage ask, and what they leave
-module _ {sh : Shape} {rows columns : ℕ} {c r : List ℤ} {g : Given sh rows columns c r} {room : ℕ} where
+module _ {sh : Shape} {rows columns : ℕ} {c r : List ℤ} {g : GivenStages sh rows columns c r} {room : ℕ} where
   module _ {u z : List ℤ} (d : Down g room u z) (pairs : ℕ) (e : 2 * pairs ≡ rows) where
     here : Laid columns pairs 2 (2 * columns) (λ i x. at c (x + i * sh .width)) z
     here = laid-less (omega arith) (omega arith) (λ i j _ _. refl) (d .zipped)
@@ -231,7 +231,7 @@ module _ {sh : Shape} {rows columns : ℕ} {c r : List ℤ} {g : Given sh rows c
           ∙ row-is (planOf sh) (keeps g) c columns rows (g .live) (g .kept) x y) i)))
 
 -- ---- all of the block
-pub whole : {sh : Shape} {rows columns : ℕ} {c r : List ℤ} → Given sh rows columns c r → Given sh (sh .height) (sh .width) c r
+pub whole : {sh : Shape} {rows columns : ℕ} {c r : List ℤ} → GivenStages sh rows columns c r → GivenStages sh (sh .height) (sh .width) c r
 whole {sh} g =
     record {
       block = g .block;
@@ -242,7 +242,7 @@ whole {sh} g =
     }
 
 -- room for the largest
-pub all-rooms : {sh : Shape} {rows columns : ℕ} {c r : List ℤ} → Given sh rows columns c r → Room 1024 sh rows columns
+pub all-rooms : {sh : Shape} {rows columns : ℕ} {c r : List ℤ} → GivenStages sh rows columns c r → Room 1024 sh rows columns
 all-rooms {sh} {rows} {columns} g =
     let w = size-in (sh .width) (g .block .taken .width) in
     let h = size-in (sh .height) (g .block .taken .height) in

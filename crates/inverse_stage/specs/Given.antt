@@ -11,7 +11,7 @@ use Rattle.meaning.specs.Taken.{TakenBlock}
 use Rattle.layout.specs.Part.{Part}
 
 -- what both stages are given: it is zero outside of its live part, of which rows and columns are sizes, and of its kept part
-pub record Given (sh : Shape) (rows columns : ℕ) (c r : List ℤ) : Type 0 where
+pub record GivenStages (sh : Shape) (rows columns : ℕ) (c r : List ℤ) : Type 0 where
   pub block : TakenBlock sh c r
   pub size-rows : isSize rows ≡ true
   pub size-columns : isSize columns ≡ true

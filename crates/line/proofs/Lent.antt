@@ -32,7 +32,7 @@ pub eight : {n kind a b : ℕ} → TakenLine n kind a b → n ≡ 8 → TakenLin
 eight {n} {kind} {a} {b} p e = subst (λ (m : ℕ). TakenLine m kind a b) e p
 
 -- the folded lines, of the other kinds and sizes
-pub folded-given : {n kind : ℕ} {x y : List ℤ} → TakenLine n kind (length x) (length y) → (kind ≡ 0 → ⊥) → (n ≡ 8 → ⊥) → Folded.Given n kind x y
+pub folded-given : {n kind : ℕ} {x y : List ℤ} → TakenLine n kind (length x) (length y) → (kind ≡ 0 → ⊥) → (n ≡ 8 → ⊥) → Folded.GivenLine n kind x y
 folded-given {n} {kind} p k d =
     record {
       size = size-cases (λ n. (n ≡ 8 → ⊥) → isShared n ≡ true) (λ d. refl) (λ d. absurd (d refl)) (λ d. refl) (λ d. refl) n (p .size) d;

@@ -1,14 +1,14 @@
 // Lines: the weights one by one, and lines of 4, 8, 16 and 32 points, over any numbers and any buffers. `forward` and `inverse` go
 // the fast path, `forward_product` and `inverse_product` the full product; the two of a direction have one contract. Read specs/Line,
 // then proofs/Agreement and proofs/Unique. The work behind them stands in `folded`, `halves` and `engine`.
-use engine::entry;
+use engine::eight;
 use engine::full;
 use meaning::Answer;
-use meaning::acceptance;
+use meaning::accepted;
 use meaning::is_kind;
 use meaning::is_size;
 use meaning::line_refusal;
-use meaning::refusal;
+use meaning::refused;
 ghost use mathlib.Core.Path.{_≡_};
 ghost use mathlib.Core.Bool.{true, false};
 ghost use lib.ListN.{length};
@@ -40,7 +40,7 @@ pub fn weight(kind: u32, n: u32, i: u32, j: u32) -> i32
     if !is_place(kind, n, i, j) {
         return 0;
     }
-    entry(n as usize, kind, i as usize, j as usize)
+    engine::weight(n as usize, kind, i as usize, j as usize)
 }
 
 // A line that was accepted, by its folds, or of kind 0 by its halves. At 8 points of the other kinds nothing is shared, and the
@@ -52,7 +52,7 @@ fn fast_forward(n: u32, kind: u32, x: &[i16], y: &mut [i32])
     if kind == 0 {
         halves::forward::forward(n as usize, x, y);
     } else if n == 8 {
-        full(8, kind, true, x, y);
+        eight(kind, true, x, y);
     } else {
         folded::forward::forward(n as usize, kind, x, y);
     }
@@ -65,7 +65,7 @@ fn fast_inverse(n: u32, kind: u32, x: &[i16], y: &mut [i32])
     if kind == 0 {
         halves::inverse::inverse(n as usize, x, y);
     } else if n == 8 {
-        full(8, kind, false, x, y);
+        eight(kind, false, x, y);
     } else {
         folded::inverse::inverse(n as usize, kind, x, y);
     }
@@ -77,22 +77,22 @@ fn total(n: u32, kind: u32, forward: bool, x: &[i16], y: &mut [i32]) -> Answer
 {
     let number = line_refusal(n, kind, x.len(), y.len());
     if number != 0 {
-        return refusal(number, 0);
+        return refused(number, 0);
     }
     full(n as usize, kind, forward, x, y);
-    acceptance(0)
+    accepted(0)
 }
 
 /// The forward line by the fast path.
 pub fn forward(n: u32, kind: u32, x: &[i16], y: &mut [i32]) -> Answer
     ensures { λ r. ⌜ _≡_ {A = Outcome} (r, now (y .exit)) (forwardLineOutcome n kind (now (x .entry)) (now (y .entry))) ⌝ }
 {
-    let refused = line_refusal(n, kind, x.len(), y.len());
-    if refused != 0 {
-        return refusal(refused, 0);
+    let refusal = line_refusal(n, kind, x.len(), y.len());
+    if refusal != 0 {
+        return refused(refusal, 0);
     }
     fast_forward(n, kind, x, y);
-    acceptance(0)
+    accepted(0)
 }
 
 /// The forward line by the full product.
@@ -106,12 +106,12 @@ pub fn forward_product(n: u32, kind: u32, x: &[i16], y: &mut [i32]) -> Answer
 pub fn inverse(n: u32, kind: u32, x: &[i16], y: &mut [i32]) -> Answer
     ensures { λ r. ⌜ _≡_ {A = Outcome} (r, now (y .exit)) (inverseLineOutcome n kind (now (x .entry)) (now (y .entry))) ⌝ }
 {
-    let refused = line_refusal(n, kind, x.len(), y.len());
-    if refused != 0 {
-        return refusal(refused, 0);
+    let refusal = line_refusal(n, kind, x.len(), y.len());
+    if refusal != 0 {
+        return refused(refusal, 0);
     }
     fast_inverse(n, kind, x, y);
-    acceptance(0)
+    accepted(0)
 }
 
 /// The inverse line by the full product.

@@ -7,9 +7,9 @@ use long_stages::rules;
 use long_stages::stages;
 use meaning::Answer;
 use meaning::Shape;
-use meaning::acceptance;
+use meaning::accepted;
 use meaning::block_refusal;
-use meaning::refusal;
+use meaning::refused;
 ghost use mathlib.Core.Path.{_≡_};
 ghost use Rattle.meaning.specs.Answer.{Outcome};
 ghost use Rattle.meaning.specs.Long.{longOutcome};
@@ -20,19 +20,19 @@ pub fn inverse(shape: Shape, extended: bool, coefficients: &[i32], residuals: &m
 {
     let number = block_refusal(shape, extended, coefficients.len(), residuals.len());
     if number != 0 {
-        return refusal(number, 0);
+        return refused(number, 0);
     }
     let place = hunt::first_outside(shape, coefficients);
     if place < coefficients.len() {
-        return refusal(8, place as u32);
+        return refused(8, place as u32);
     }
     let reach = rules::reach_of(extended, shape.depth);
     let far = hunt::first_beyond(reach, coefficients);
     if far < coefficients.len() {
-        return refusal(27, far as u32);
+        return refused(27, far as u32);
     }
     let w = shape.width as usize;
     let rows = live::row_pairs(coefficients, w, shape.height as usize);
     let columns = live::column_pairs(coefficients, w, 2 * rows);
-    acceptance(stages::stages(shape, extended, rows, columns, coefficients, residuals))
+    accepted(stages::stages(shape, extended, rows, columns, coefficients, residuals))
 }

@@ -29,9 +29,9 @@ use Rattle.product.proofs.Summing.{odd-place}
 use Rattle.tables.specs.Stage.{Weights}
 use Rattle.layout.proofs.Alive as alive
 use Rattle.long_stages.specs.Sums.{dotted}
-use Rattle.long_stages.specs.Work.{columnAt, railOf, Down, rowAt, Along, Given}
+use Rattle.long_stages.specs.Work.{columnAt, railOf, Down, rowAt, Along, GivenLong}
 
-module _ (extended : Bool) (sh : Shape) (rows columns : ℕ) (c out : List ℤ) (g : Given extended sh rows columns c out) where
+module _ (extended : Bool) (sh : Shape) (rows columns : ℕ) (c out : List ℤ) (g : GivenLong extended sh rows columns c out) where
   abbrev p : Plan
   p = longPlan extended sh
 

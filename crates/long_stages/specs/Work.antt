@@ -41,7 +41,7 @@ pub record Along (t : List ℤ) (w h : ℕ) (m : List ℤ) (columns pairs last :
   pub fits : (x y : ℕ) → x < w → y < h → SFits w32 (nearest last (rowAt t w m columns pairs x y))
 
 -- ---- both: a block that was taken, zero outside of its live part, which is counted in pairs, and of its kept part
-pub record Given (extended : Bool) (sh : Shape) (rows columns : ℕ) (c out : List ℤ) : Type 0 where
+pub record GivenLong (extended : Bool) (sh : Shape) (rows columns : ℕ) (c out : List ℤ) : Type 0 where
   pub block : TakenLongBlock extended sh c out
   pub live : Part (sh .width) (sh .height) (2 * columns) (2 * rows) c
   pub kept : Part (sh .width) (sh .height) (sh .columns) (sh .rows) c

@@ -19,7 +19,7 @@ pub fn mac(a: i64, w: i16, v: i32) -> i64
 }
 
 // "(e+64)>>7".
-pub fn round7(e: i64) -> i64
+pub fn rounded(e: i64) -> i64
     requires { ⌜ natAbs e ≤ 1000000000000000000 ⌝ }
     ensures { λ r. ⌜ r ≡ nearest 7 e ⌝ }
 {
@@ -56,7 +56,7 @@ pub fn rail(before: i64, after: i32) -> u32
 }
 
 // "(r + 2^(s-1)) >> s".
-pub fn round_last(z: i64, s: u32) -> i64
+pub fn nearest(z: i64, s: u32) -> i64
     requires { ⌜ (natAbs z ≤ 1000000000000000000) × ((0 < s) × (s ≤ 32)) ⌝ }
     ensures { λ r. ⌜ r ≡ nearest s z ⌝ }
 {

@@ -1,8 +1,8 @@
 // Both stages, over the part of a block that is not zero.
 use crate::arith::clipped;
+use crate::arith::nearest;
 use crate::arith::rail;
-use crate::arith::round_last;
-use crate::arith::round7;
+use crate::arith::rounded;
 use crate::rules::last_shift;
 use crate::rules::reach_of;
 use crate::sums::dot;
@@ -17,7 +17,7 @@ ghost use Rattle.algebra.specs.Sum.{sumℕ};
 ghost use Rattle.algebra.specs.Lists.{tabulate, block};
 ghost use Rattle.meaning.specs.Plan.{rangeOf, longPlan};
 ghost use Rattle.meaning.specs.Inverse.{middle, rails, inverseBlock};
-ghost use Rattle.long_stages.specs.Work.{columnAt, railOf, Down, rowAt, Along, Given};
+ghost use Rattle.long_stages.specs.Work.{columnAt, railOf, Down, rowAt, Along, GivenLong};
 
 // The middle values of row y, for as many columns as `m` has room for; hands back how many the clip altered.
 fn middle_row(
@@ -36,7 +36,7 @@ fn middle_row(
     let mut rails = 0;
     let mut x = 0;
     while x < m.len() {
-        let before = round7(dot(t, 2 * y, 2 * h, c, x, w, pairs));
+        let before = rounded(dot(t, 2 * y, 2 * h, c, x, w, pairs));
         let after = clipped(before, reach);
         m[x] = after;
         rails += rail(before, after);
@@ -87,7 +87,7 @@ fn residual_row(
 {
     let mut x = 0;
     while x < w {
-        out[x] = round_last(dot(t, 2 * x, 2 * w, m, y * columns, 1, pairs), last) as i32;
+        out[x] = nearest(dot(t, 2 * x, 2 * w, m, y * columns, 1, pairs), last) as i32;
         x += 1;
     }
 }
@@ -125,7 +125,7 @@ pub fn stages(
     c: &[i32],
     out: &mut [i32],
 ) -> u32
-    requires { ⌜ Given extended shape rows columns (now c) (now out) ⌝ }
+    requires { ⌜ GivenLong extended shape rows columns (now c) (now out) ⌝ }
     ensures { λ r. ⌜ (r ≡ rails (longPlan extended shape) (now (c .entry))) × (now (out .exit) ≡ inverseBlock (longPlan extended shape) (now (c .entry))) ⌝ }
 {
     let w = shape.width as usize;

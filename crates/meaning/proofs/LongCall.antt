@@ -1,4 +1,4 @@
--- Document 02, Wish 14: what an accepted call of long numbers was handed and hands back (`long-accepted`, `long-done`), and
+-- Document 02, Wish 14: what an accepted call of long numbers was handed and hands back (`long-accepted`, `long-inside`, `long-done`), and
 -- demand 3 of it: |2^(7+s) · residual − exact| ≤ 64 · (A + 2^s) where the clip altered nothing (`long-demand3`,
 -- `long-demand3-call`). Assumes nothing.
 use mathlib.Core.Path.{_≡_, refl, sym, ap, _∙_, subst}
@@ -26,7 +26,7 @@ use Rattle.meaning.specs.Inverse.{rails, inverseBlock, firstOutside, out
 use Rattle.meaning.specs.Long.{beyond, firstBeyond, beyondTest, longShapeTests, longTests, longOutcome}
 use Rattle.meaning.specs.Exact.{exact, weightSizes}
 use Rattle.meaning.proofs.Small.{within-places}
-use Rattle.meaning.proofs.Accepted.{no-refusal, block-clear}
+use Rattle.meaning.proofs.AcceptedCalls.{no-refusal, block-clear}
 use Rattle.meaning.proofs.NearExact.{near-block}
 use Rattle.meaning.proofs.LongRules.{last-in}
 
@@ -42,13 +42,17 @@ module _ (r : Range) (z : ℤ) where
       order-cases z (r .low) (λ (b : Bool). b || ltZ (r .high) z ≡ false) (λ l. absurd (omega (arith, le-parts low, lt-parts l)))
       (λ _. order-cases (r .high) z (λ (b : Bool). b ≡ false) (λ l. absurd (omega (arith, le-parts high, lt-parts l))) (λ _. refl))
 
--- none is beyond -2^R .. 2^R - 1
+-- where the first that is beyond is past the end, none is
+in-range : (r : Range) (c : List ℤ) → ltb (firstBeyond r c) (length c) ≡ false → (k : ℕ) → k < length c → (r .low ≤ℤ at c k) × (at c k ≤ℤ r .high)
+in-range r c e k h =
+    let b : 0 + k < firstBeyond r c = omega (arith, ltb-false (firstBeyond r c) (length c) e) in
+    inside r (at c k) (first-before (λ k z. beyond r z) c 0 k h b)
+
+-- so none is above 2^R in size
 pub none-beyond : (r : ℕ) (c : List ℤ) → ltb (firstBeyond (rangeOf r) c) (length c) ≡ false → NoneAbove (2 ^ r) c
 none-beyond r c e =
     within-places (2 ^ r) c
-    (λ k h.
-    let b : 0 + k < firstBeyond (rangeOf r) c = omega (arith, ltb-false (firstBeyond (rangeOf r) c) (length c) e) in
-    let w = inside (rangeOf r) (at c k) (first-before (λ k z. beyond (rangeOf r) z) c 0 k h b) in
+    (λ k h. let w = in-range (rangeOf r) c e k h in
     parts-abs (at c k) (2 ^ r) (omega (arith, le-parts (w .1), pow-pos r)) (omega (arith, le-parts (w .0), pow-pos r)))
 
 module _ (extended : Bool) (sh : Shape) (c out : List ℤ) where
@@ -67,6 +71,10 @@ module _ (extended : Bool) (sh : Shape) (c out : List ℤ) where
       let both = clear-split eight (beyondTest p c ∷ []) (no-refusal (longTests extended sh c out) out (accepted (rails p c), inverseBlock p c) tt e) in
       let more = block-clear sh c out extended (outsideTest p c ∷ []) (both .0) in
       record { block = more .0; kept = more .1 .0; range = both .1 .0 }
+
+  -- "27 for a coefficient outside the range": of a call with number 0 each is inside
+  pub long-inside : longOutcome extended sh c out .0 .number ≡ 0 → (k : ℕ) → k < length c → (p .range .low ≤ℤ at c k) × (at c k ≤ℤ p .range .high)
+  long-inside e = in-range (p .range) c (long-accepted e .range)
 
   -- number 0, place 0, the rail count, and the block
   pub long-done : LongPassed → longOutcome extended sh c out ≡ (accepted (rails p c), inverseBlock p c)

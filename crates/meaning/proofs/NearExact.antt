@@ -25,7 +25,7 @@ use Rattle.meaning.specs.Taken.{Taken}
 use Rattle.meaning.specs.Answer.{Outcome}
 use Rattle.meaning.specs.Inverse.{columnSum, rounded, middleAt, residual, rails, inverseBlock, inverseOutcome}
 use Rattle.meaning.specs.Exact.{exact, weightSizes, middleRoundings, lastRounding}
-use Rattle.meaning.proofs.Accepted.{inverse-accepted, inverse-done}
+use Rattle.meaning.proofs.AcceptedCalls.{inverse-accepted, inverse-done}
 use Rattle.meaning.proofs.Cases.{depth-cases}
 use Rattle.meaning.proofs.Parts.{middles-near, last-near, two-parts}
 use Rattle.meaning.proofs.NoRails.{Unaltered, Inner, no-rails, inner-unaltered}

@@ -14,7 +14,7 @@ use Rattle.meaning.specs.declared.Shape.{Shape}
 use Rattle.meaning.specs.declared.Answer.{Answer}
 use Rattle.meaning.specs.Weights.{first, fold, S, C, cosines, turn, dct2, weight}
 use Rattle.meaning.specs.Line.{forwardSum, inverseSum, forwardLine}
-use Rattle.meaning.specs.Shape.{isSize, isKind, isDepth, isLongDepth, most, keeps, shapeOf, keeping}
+use Rattle.meaning.specs.Shape.{isSize, isKind, isDepth, isLongDepth, mostKept, keeps, shapeOf, keeping}
 use Rattle.meaning.specs.Plan.{shortRange, reach}
 use Rattle.meaning.specs.Answer.{Outcome, refused, accepted, forwardLineOutcome}
 use Rattle.meaning.specs.Inverse.{columnSum, rounded, middleAt, rails, rowSum, residual, inverseBlock, inverseOutcome}
@@ -48,8 +48,8 @@ pub data Item : Type 0 where
 abbrev held : ℕ → List ℤ
 held n = replicate n (pos 7)
 
-abbrev area : Shape → ℕ
-area sh = sh .width * sh .height
+abbrev elements : Shape → ℕ
+elements sh = sh .width * sh .height
 
 -- an answer with the first number of the output
 abbrev front : Outcome → Answer × ℤ
@@ -60,10 +60,10 @@ Says (lineGives kind x y) = forwardLineOutcome (length x) kind x (held (length x
 Says (weights kind n t) = block n n (λ j i. weight kind n i j) ≡ t
 Says (odds n t) = tabulate (n / 2) (λ i. weight 0 n (2 * i + 1) 0) ≡ t
 Says (rounding e m) = rounded e ≡ m
-Says (starts sh r z) = front (forwardOutcome sh r (held (area sh))) ≡ (accepted 0, z)
-Says (counts sh c n) = inverseOutcome sh c (held (area sh)) .0 ≡ accepted n
-Says (gives sh c n r) = inverseOutcome sh c (held (area sh)) ≡ (accepted n, r)
-Says (takes sh c) = inverseOutcome sh c (held (area sh)) .0 .number ≡ 0
+Says (starts sh r z) = front (forwardOutcome sh r (held (elements sh))) ≡ (accepted 0, z)
+Says (counts sh c n) = inverseOutcome sh c (held (elements sh)) .0 ≡ accepted n
+Says (gives sh c n r) = inverseOutcome sh c (held (elements sh)) ≡ (accepted n, r)
+Says (takes sh c) = inverseOutcome sh c (held (elements sh)) .0 .number ≡ 0
 Says (inverseRefused sh c out number place) = inverseOutcome sh c (held out) ≡ (refused number place, held out)
 Says (forwardRefused sh r out number place) = forwardOutcome sh r (held out) ≡ (refused number place, held out)
 Says (longRefused sh c out number place) = longOutcome true sh c (held out) ≡ (refused number place, held out)
@@ -156,7 +156,7 @@ pub data Hold : List Item → Type 0 where
   _and_ : {i : Item} {is : List Item} → Says i → Hold is → Hold (i ∷ is)
 
 pub items-hold : Hold items
-unfolding sum sumℕ tabulate block firstAt first fold S C cosines turn dct2 weight forwardSum inverseSum forwardLine isSize isKind isDepth isLongDepth most keeps shortRange reach columnSum middleAt rails rowSum residual inverseBlock rowValue columnValue coefficient forwardBlock
+unfolding sum sumℕ tabulate block firstAt first fold S C cosines turn dct2 weight forwardSum inverseSum forwardLine isSize isKind isDepth isLongDepth mostKept keeps shortRange reach columnSum middleAt rails rowSum residual inverseBlock rowValue columnValue coefficient forwardBlock
 items-hold =
     refl and refl and refl and refl and refl and refl and refl and refl and refl and refl and refl and refl and refl
     and refl and refl and refl and refl and refl and refl and refl and refl and refl and refl and refl and refl and refl

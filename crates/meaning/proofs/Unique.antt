@@ -7,7 +7,7 @@ use Rattle.algebra.specs.Refusals.{numberOf}
 use Rattle.algebra.proofs.Unique.{one}
 use Rattle.meaning.specs.declared.Shape.{Shape}
 use Rattle.meaning.specs.declared.Answer.{Answer}
-use Rattle.meaning.specs.Shape.{isSize, isKind, isDepth, isLongDepth, most, shapeOf, keeping}
+use Rattle.meaning.specs.Shape.{isSize, isKind, isDepth, isLongDepth, mostKept, shapeOf, keeping}
 use Rattle.meaning.specs.Answer.{shapeTestsBy, shapeTests, lengthTests, lineTests, refused, accepted}
 use Rattle.meaning.specs.Long.{longShapeTests}
 
@@ -45,7 +45,7 @@ pub long-refusal-one : (extended : Bool) (sh : Shape) {r s : ℕ} → r ≡ numb
 long-refusal-one extended sh = one
 
 -- `most_kept`
-pub most-one : (kind n : ℕ) {r s : ℕ} → r ≡ most kind n → s ≡ most kind n → r ≡ s
+pub most-one : (kind n : ℕ) {r s : ℕ} → r ≡ mostKept kind n → s ≡ mostKept kind n → r ≡ s
 most-one kind n = one
 
 -- `kept_columns`, `kept_rows`
@@ -68,7 +68,7 @@ block-refusal-one extended sh input output = one
 pub line-refusal-one : (n kind input output : ℕ) {r s : ℕ} → r ≡ numberOf (lineTests n kind input output) → s ≡ numberOf (lineTests n kind input output) → r ≡ s
 line-refusal-one n kind input output = one
 
--- `refusal`, `acceptance`
+-- `refused`, `accepted`
 pub refused-one : (number place : ℕ) {r s : Answer} → r ≡ refused number place → s ≡ refused number place → r ≡ s
 refused-one number place = one
 

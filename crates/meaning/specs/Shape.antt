@@ -26,12 +26,12 @@ isLongDepth extended d = cond extended (isDepthTo 16 d) (isDepth d)
 
 -- the most that can be kept in a direction: "Kept columns are the first min(w,16), kept rows the first min(h,16)"; Wish 1: "All
 -- 32 columns or rows are kept in a direction of kind 0"
-unfoldable pub most : ℕ → ℕ → ℕ
-most kind n = min n (cond (eqb kind 0) 32 16)
+unfoldable pub mostKept : ℕ → ℕ → ℕ
+mostKept kind n = min n (cond (eqb kind 0) 32 16)
 
 -- Wish 8: "at least 1 and at most what document 01 keeps, or at most what Wish 1 keeps for kind 0"
 abbrev pub isKept : ℕ → ℕ → ℕ → Bool
-isKept kind n k = leb 1 k && leb k (most kind n)
+isKept kind n k = leb 1 k && leb k (mostKept kind n)
 
 -- "The shape carries kept columns and kept rows"
 unfoldable pub keeps : Shape → Bool
@@ -46,8 +46,8 @@ shapeOf width height horizontal vertical depth =
       horizontal = horizontal;
       vertical = vertical;
       depth = depth;
-      columns = most horizontal width;
-      rows = most vertical height;
+      columns = mostKept horizontal width;
+      rows = mostKept vertical height;
     }
 
 -- a shape with other kept numbers

@@ -1,12 +1,12 @@
 // What every call means: the structs that calls share, the definitions that their contracts cite (specs/, in the order of
-// the scope: Weights, Line, Shape, Plan, Taken, Answer, Inverse, Long, Forward, Exact), and the theorems that follow from these alone
+// document 01: Weights, Line, Shape, Plan, Taken, Answer, Inverse, Long, Forward, Exact), and the theorems that follow from these alone
 // (proofs/). Read specs/ in that order, then of proofs/ Numbers, Sharing, H266, Sizes, PlanSizes, Stages, Parts, NoRails, NearExact,
 // of long numbers LongRules, LongSizes, LongCall and LongOff, and Unique; the others serve these or the crates above.
 ghost use mathlib.Core.Path.{_≡_};
 ghost use mathlib.Core.List.{_++_};
 ghost use Prim.Native.Nat.{_*_, min};
 ghost use Rattle.algebra.specs.Refusals.{numberOf};
-ghost use Rattle.meaning.specs.Shape.{isSize, isKind, isDepth, isLongDepth, most, isKept, keeps, shapeOf, keeping};
+ghost use Rattle.meaning.specs.Shape.{isSize, isKind, isDepth, isLongDepth, mostKept, isKept, keeps, shapeOf, keeping};
 ghost use Rattle.meaning.specs.Answer.{shapeTestsBy, shapeTests, lengthTests, lineTests, refused, accepted};
 ghost use Rattle.meaning.specs.Long.{longShapeTests};
 
@@ -172,7 +172,7 @@ fn least(n: u32, most: u32) -> u32
 /// The most columns, or rows, that can be kept in a direction: "the first min(w,16), .. the first min(h,16)", and "All 32 .. in a
 /// direction of kind 0".
 pub fn most_kept(kind: u32, n: u32) -> u32
-    ensures { λ r. ⌜ r ≡ most kind n ⌝ }
+    ensures { λ r. ⌜ r ≡ mostKept kind n ⌝ }
 {
     if kind == 0 {
         return least(n, 32);
@@ -224,8 +224,8 @@ pub fn block_refusal(shape: Shape, extended: bool, input: usize, output: usize) 
     if number != 0 {
         return number;
     }
-    let area = shape.width as usize * shape.height as usize;
-    length_refusal(area, input, output)
+    let elements = shape.width as usize * shape.height as usize;
+    length_refusal(elements, input, output)
 }
 
 /// 1, 3, 6 and 7 of a line, or 0.
@@ -242,7 +242,7 @@ pub fn line_refusal(n: u32, kind: u32, input: usize, output: usize) -> u32
 }
 
 /// The answer of a refused call.
-pub fn refusal(number: u32, place: u32) -> Answer
+pub fn refused(number: u32, place: u32) -> Answer
     ensures { λ r. ⌜ r ≡ refused number place ⌝ }
 {
     Answer {
@@ -253,7 +253,7 @@ pub fn refusal(number: u32, place: u32) -> Answer
 }
 
 /// The answer of an accepted call.
-pub fn acceptance(rails: u32) -> Answer
+pub fn accepted(rails: u32) -> Answer
     ensures { λ r. ⌜ r ≡ accepted rails ⌝ }
 {
     Answer {

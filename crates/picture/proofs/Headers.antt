@@ -7,12 +7,12 @@ use lib.ListN.{length}
 use Rattle.meaning.specs.Shape.{isSize}
 use Rattle.meaning.proofs.Cases.{size-cases}
 use Rattle.block_text.specs.Text.{digits, decimal}
-use Rattle.picture_header.specs.declared.Found.{Found}
-use Rattle.picture_header.specs.Header.{digit, plain, step, readFrom, headerOf}
+use Rattle.picture_header.specs.declared.FoundHeader.{FoundHeader}
+use Rattle.picture_header.specs.Header.{digit, plain, withByte, readFrom, headerOf}
 use Rattle.picture_header.proofs.Reading.{read-ended}
 use Rattle.picture.specs.Picture.{headerText}
 
-abbrev pub ours : ℕ → ℕ → Found
+abbrev pub ours : ℕ → ℕ → FoundHeader
 ours w h =
     record {
       header = record { part = 3; going = false; comment = false; width = w; height = h; maximum = 65535 };
@@ -27,7 +27,7 @@ back : (w h : ℕ) (rest : List ℕ) → readFrom (ours w h .header) (ours w h .
 back w h rest = read-ended (ours w h .header) (ours w h .start) rest refl
 
 pub header-back : (w : ℕ) → isSize w ≡ true → (h : ℕ) → isSize h ≡ true → Back w h
-unfolding digits decimal headerText digit plain step readFrom headerOf
+unfolding digits decimal headerText digit plain withByte readFrom headerOf
 header-back =
     size-cases (λ w. (h : ℕ) → isSize h ≡ true → Back w h)
     (size-cases (Back 4) (back 4 4) (back 4 8) (back 4 16) (back 4 32))

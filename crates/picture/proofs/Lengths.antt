@@ -15,8 +15,8 @@ use Rattle.picture_samples.specs.Samples.{samples}
 use Rattle.picture_samples.proofs.Samples.{samples-length}
 use Rattle.picture.specs.Picture.{headerText, pictureOf}
 
-pub area : (w h : ℕ) → isSize w ≡ true → isSize h ≡ true → (16 ≤ w * h) × (w * h ≤ 1024)
-area w h p q = (mul-le-mul (size-some w p) (size-some h q), mul-le-mul (size-in w p) (size-in h q))
+pub elements : (w h : ℕ) → isSize w ≡ true → isSize h ≡ true → (16 ≤ w * h) × (w * h ≤ 1024)
+elements w h p q = (mul-le-mul (size-some w p) (size-some h q), mul-le-mul (size-in w p) (size-in h q))
 
 pub header-length : (w h : ℕ) → length (headerText w h) ≡ length (decimal w) + length (decimal h) + 11
 unfolding digits decimal headerText

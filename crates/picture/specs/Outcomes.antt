@@ -49,12 +49,12 @@ readTests file out =
     ∷ []
 
 -- the width and the height of the header, but for 24: of a header that is none
-abbrev pub answered : List ℕ → ℕ → Picture
-answered file number =
+abbrev pub readAnswer : List ℕ → ℕ → Picture
+readAnswer file number =
     let head = headerOf file .header in
     cond (eqb number 24) (record { number = number; width = 0; height = 0 })
     (record { number = number; width = head .width; height = head .height })
 
 -- the number, the width and the height, and what the output holds then
 abbrev pub readOutcome : List ℕ → List ℤ → Picture × List ℤ
-readOutcome file out = firstOf (readTests file out) (λ number place. (answered file number, out)) (answered file 0, residuals (behind file))
+readOutcome file out = firstOf (readTests file out) (λ number place. (readAnswer file number, out)) (readAnswer file 0, residuals (behind file))

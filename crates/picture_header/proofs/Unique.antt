@@ -5,11 +5,11 @@ use mathlib.Core.List.{List}
 use Prim.Native.Nat.{ℕ}
 use Rattle.algebra.proofs.Unique.{one}
 use Rattle.picture_header.specs.declared.Header.{Header}
-use Rattle.picture_header.specs.declared.Found.{Found}
+use Rattle.picture_header.specs.declared.FoundHeader.{FoundHeader}
 use Rattle.picture_header.specs.Header.{headerOf, isPicture}
 
 -- `header_of`: the header, and the place at which the samples start
-pub header-one : (file : List ℕ) {x y : Found} → x ≡ headerOf file → y ≡ headerOf file → x ≡ y
+pub header-one : (file : List ℕ) {x y : FoundHeader} → x ≡ headerOf file → y ≡ headerOf file → x ≡ y
 header-one file = one
 
 pub is-picture-one : (s : Header) {x y : Bool} → x ≡ isPicture s → y ≡ isPicture s → x ≡ y

@@ -5,14 +5,14 @@ use mathlib.Core.Bool.{cond, not, _&&_}
 use mathlib.Core.List.{List, [], _∷_, map}
 use Prim.Native.Nat.{ℕ}
 use lib.Dec.{eqb}
-use Rattle.picture_header.specs.declared.Found.{Found}
-use Rattle.picture_header.specs.Header.{digit, plain, step, readFrom, headerOf}
+use Rattle.picture_header.specs.declared.FoundHeader.{FoundHeader}
+use Rattle.picture_header.specs.Header.{digit, plain, withByte, readFrom, headerOf}
 
 pub data Says : Type 0 where
   none : Says
   got : ℕ → ℕ → ℕ → ℕ → Says
 
-abbrev pub says : Found → Says
+abbrev pub says : FoundHeader → Says
 says f =
     let s = f .header in
     cond (eqb (s .part) 3 && not (s .going)) (got (s .width) (s .height) (s .maximum) (f .start)) none
@@ -78,5 +78,5 @@ variants =
     ∷ []
 
 pub variants-hold : map (λ (v : Case). says (headerOf (v .0))) variants ≡ map (λ (v : Case). v .1) variants
-unfolding digit plain step readFrom headerOf
+unfolding digit plain withByte readFrom headerOf
 variants-hold = refl

@@ -8,7 +8,7 @@ use lib.Dec.{eqb, ltb, leb}
 use lib.ListN.{drop, getD}
 use Rattle.meaning.specs.Shape.{isSize}
 use Rattle.picture_header.specs.declared.Header.{Header}
-use Rattle.picture_header.specs.declared.Found.{Found}
+use Rattle.picture_header.specs.declared.FoundHeader.{FoundHeader}
 
 -- white space is blank, tab, line feed and carriage return, and no other byte
 abbrev pub endsLine : ℕ → Bool
@@ -69,20 +69,20 @@ unfoldable pub plain : Header → ℕ → Header
 plain s b = cond (eqb b 35) (commented s) (cond (isSpace b) (white s) (cond (isDigit b) (digit s (b - 48)) none))
 
 -- a comment runs to the end of its line, and counts as that end: as white space
-unfoldable pub step : Header → ℕ → Header
-step s b = cond (s .comment) (cond (endsLine b) (white s) s) (plain s b)
+unfoldable pub withByte : Header → ℕ → Header
+withByte s b = cond (s .comment) (cond (endsLine b) (white s) s) (plain s b)
 
 -- from a place on, with what was read before it
-unfoldable pub readFrom : Header → ℕ → List ℕ → Found
+unfoldable pub readFrom : Header → ℕ → List ℕ → FoundHeader
 readFrom s at [] = record { header = s; start = at }
-readFrom s at (b ∷ bs) = cond (ended s) (record { header = s; start = at }) (readFrom (step s b) (suc at) bs)
+readFrom s at (b ∷ bs) = cond (ended s) (record { header = s; start = at }) (readFrom (withByte s b) (suc at) bs)
 
 -- "P5"
 abbrev pub isP5 : List ℕ → Bool
 isP5 file = eqb (getD file 0 0) 80 && eqb (getD file 1 0) 53
 
 -- the header of a file, and the place at which its samples start
-unfoldable pub headerOf : List ℕ → Found
+unfoldable pub headerOf : List ℕ → FoundHeader
 headerOf file = cond (isP5 file) (readFrom behindP5 2 (drop 2 file)) (record { header = none; start = 0 })
 
 -- "such a graymap", with sizes that 1 and 2 would not refuse: whole, and with the maximum value 65535

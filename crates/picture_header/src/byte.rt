@@ -3,7 +3,7 @@ use crate::Header;
 ghost use mathlib.Core.Path.{_≡_};
 ghost use mathlib.Core.Bool.{true, false};
 ghost use Prim.Native.Nat.{_-_};
-ghost use Rattle.picture_header.specs.Header.{endsLine, isSpace, isDigit, none, ended, white, commented, more, withDigit, partOf, digit, plain, step};
+ghost use Rattle.picture_header.specs.Header.{endsLine, isSpace, isDigit, none, ended, white, commented, more, withDigit, partOf, digit, plain, withByte};
 
 fn ends_line(b: u8) -> bool
     ensures { λ r. ⌜ r ≡ endsLine b ⌝ }
@@ -170,9 +170,9 @@ fn plain(header: Header, b: u8) -> Header
 }
 
 // A byte more of a header that has not ended.
-pub fn step(header: Header, b: u8) -> Header
+pub fn with_byte(header: Header, b: u8) -> Header
     requires { ⌜ ended header ≡ false ⌝ }
-    ensures { λ r. ⌜ r ≡ step header b ⌝ }
+    ensures { λ r. ⌜ r ≡ withByte header b ⌝ }
 {
     if header.comment {
         if ends_line(b) {

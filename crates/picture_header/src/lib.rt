@@ -17,7 +17,7 @@ pub struct Header {
 }
 
 /// A header, and the place behind what was read of it.
-pub struct Found {
+pub struct FoundHeader {
     pub header: Header,
     pub start: usize,
 }
@@ -48,12 +48,12 @@ fn is_p5(file: &[u8]) -> bool
 }
 
 /// Reads the header of a file. Any bytes.
-pub fn header_of(file: &[u8]) -> Found
+pub fn header_of(file: &[u8]) -> FoundHeader
     ensures { λ r. ⌜ r ≡ headerOf (now (file .entry)) ⌝ }
 {
     if !is_p5(file) {
         let header = byte::no_header();
-        return Found { header, start: 0 };
+        return FoundHeader { header, start: 0 };
     }
     let mut header = behind_p5();
     let mut start = 2;
@@ -61,10 +61,10 @@ pub fn header_of(file: &[u8]) -> Found
         if byte::ended(header) {
             break;
         }
-        header = byte::step(header, file[start]);
+        header = byte::with_byte(header, file[start]);
         start += 1;
     }
-    Found { header, start }
+    FoundHeader { header, start }
 }
 
 /// Whether a header is that of a picture: whole, with the maximum value 65535 and sizes that 1 and 2 would not refuse.

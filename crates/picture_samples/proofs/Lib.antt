@@ -1,2 +1,2 @@
-mod Levels
+mod SampleSizes
 pub mod Samples

@@ -14,7 +14,7 @@ use Rattle.meaning.proofs.Cases.{neither}
 use Rattle.block_text.specs.Wrote.{Wrote}
 use Rattle.block_text.proofs.Writing.{andThen, retext, within}
 use Rattle.picture_samples.specs.Samples.{anyBeyond, samples, residuals}
-use Rattle.picture_samples.proofs.Levels.{sample-back}
+use Rattle.picture_samples.proofs.SampleSizes.{sample-back}
 
 pub samples-back : (zs : List ℤ) → anyBeyond zs ≡ false → residuals (samples zs) ≡ zs
 unfolding samples anyBeyond

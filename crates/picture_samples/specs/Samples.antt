@@ -13,13 +13,13 @@ anyBeyond [] = false
 anyBeyond (z ∷ zs) = beyond shortRange z || anyBeyond zs
 
 -- "the residual plus 32768", for a residual in that range
-abbrev pub level : ℤ → ℕ
-level z = natAbs (z +ℤ pos 32768)
+abbrev pub sampleOf : ℤ → ℕ
+sampleOf z = natAbs (z +ℤ pos 32768)
 
 -- "high byte first"
 unfoldable pub samples : List ℤ → List ℕ
 samples [] = []
-samples (z ∷ zs) = level z / 256 ∷ level z % 256 ∷ samples zs
+samples (z ∷ zs) = sampleOf z / 256 ∷ sampleOf z % 256 ∷ samples zs
 
 -- reading: the sample less 32768
 unfoldable pub residualOf : ℕ → ℤ

@@ -8,7 +8,7 @@ ghost use lib.ListN.{length};
 ghost use Rattle.meaning.specs.Plan.{shortRange};
 ghost use Rattle.meaning.specs.Long.{beyond};
 ghost use Rattle.block_text.specs.Wrote.{Wrote};
-ghost use Rattle.picture_samples.specs.Samples.{anyBeyond, level, samples};
+ghost use Rattle.picture_samples.specs.Samples.{anyBeyond, sampleOf, samples};
 
 fn is_beyond(z: i32) -> bool
     ensures { λ r. ⌜ r ≡ beyond shortRange z ⌝ }
@@ -33,9 +33,9 @@ pub fn any_beyond(residuals: &[i32]) -> bool
 }
 
 // "the residual plus 32768".
-fn level(z: i32) -> u32
+fn sample_of(z: i32) -> u32
     requires { ⌜ beyond shortRange z ≡ false ⌝ }
-    ensures { λ r. ⌜ (r ≡ level z) × (r < 65536) ⌝ }
+    ensures { λ r. ⌜ (r ≡ sampleOf z) × (r < 65536) ⌝ }
 {
     (z + 32768) as u32
 }
@@ -45,7 +45,7 @@ fn put_sample(z: i32, file: &mut [u8], at: usize) -> usize
     requires { ⌜ (beyond shortRange z ≡ false) × (at + 2 ≤ length (now file)) ⌝ }
     ensures { λ r. ⌜ Wrote (samples (z ∷ [])) 2 at (now (file .entry)) (now (file .exit)) r ⌝ }
 {
-    let sample = level(z);
+    let sample = sample_of(z);
     let next = put((sample / 256) as u8, file, at);
     put((sample % 256) as u8, file, next)
 }

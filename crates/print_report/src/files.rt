@@ -51,9 +51,9 @@ fn add_file(totals: &mut [u64; 578], file: &[u8]) -> Stop {
     let mut cursor = Cursor::new();
     let mut left: usize = 65537;
     while left > 0 {
-        let step = cursor.step(file);
-        let number = step.number;
-        let tag = step.tag;
+        let advance = cursor.advance(file);
+        let number = advance.number;
+        let tag = advance.tag;
         let offset = cursor.at;
         let shape = cursor.shape;
         if number != 0 {
@@ -67,7 +67,7 @@ fn add_file(totals: &mut [u64; 578], file: &[u8]) -> Stop {
                 return Stop { number: 22, offset };
             }
         }
-        cursor = step.next;
+        cursor = advance.next;
         left -= 1;
     }
     Stop {

@@ -47,7 +47,7 @@ fn put_mean(sum: u64, count: u64, text: &mut [u8], at: usize) -> usize {
     put_natural(part % 10, text, p)
 }
 
-// How many residuals there are in blocks of an area.
+// How many residuals there are in blocks of one size.
 fn residuals(blocks: u64, width: u64, height: u64) -> u64
     requires { ⌜ (width ≤ 32) × (height ≤ 32) ⌝ }
     ensures { λ r. ⌜ r ≤ 67108864 ⌝ }

@@ -14,7 +14,7 @@ use Rattle.meaning.specs.declared.Shape.{Shape}
 use Rattle.meaning.specs.declared.Answer.{Answer}
 use Rattle.block_trip.specs.Trip.{tripAnswer, railCount, largest, squares}
 use Rattle.report.specs.Totals.{total, plus, raised, class, place, entered, counted, refusedPlace, givenPlace, addOutcome}
-use Rattle.report.specs.Given.{Given, taken}
+use Rattle.report.specs.Given.{GivenBlock, taken}
 use Rattle.report.proofs.Counting.{counted-refused, counted-taken, add-more}
 
 -- ---- the four of a block
@@ -65,32 +65,32 @@ module _ (i rails far squared : ℕ) (t : List ℕ) where
       }
 
 -- ---- a block that is added
-abbrev pub step : List ℕ → Given → List ℕ
-step t b = addOutcome t (b .shape) (b .residuals) .1
+abbrev pub withBlock : List ℕ → GivenBlock → List ℕ
+withBlock t b = addOutcome t (b .shape) (b .residuals) .1
 
 -- 578 totals, and room for a block
 pub record Room (t : List ℕ) : Type 0 where
   pub long : length t ≡ 578
   pub more : total t givenPlace < 65536
 
-pub taken-zero : (b : Given) → taken b ≡ true → tripAnswer (b .shape) (b .residuals) .number ≡ 0
+pub taken-zero : (b : GivenBlock) → taken b ≡ true → tripAnswer (b .shape) (b .residuals) .number ≡ 0
 taken-zero b e = eqb-true (tripAnswer (b .shape) (b .residuals) .number) 0 e
 
-not-zero : (b : Given) → taken b ≡ false → tripAnswer (b .shape) (b .residuals) .number ≡ 0 → ⊥
+not-zero : (b : GivenBlock) → taken b ≡ false → tripAnswer (b .shape) (b .residuals) .number ≡ 0 → ⊥
 not-zero b e = eqb-false (tripAnswer (b .shape) (b .residuals) .number) 0 e
 
-module _ (t : List ℕ) (b : Given) (m : Room t) where
+module _ (t : List ℕ) (b : GivenBlock) (m : Room t) where
   abbrev sh : Shape
   sh = b .shape
 
   abbrev r : List ℤ
   r = b .residuals
 
-  stepped : step t b ≡ plus givenPlace 1 (counted sh r t)
-  stepped = ap (λ (o : Answer × List ℕ). o .1) (add-more t sh r (m .more))
+  with-block-is : withBlock t b ≡ plus givenPlace 1 (counted sh r t)
+  with-block-is = ap (λ (o : Answer × List ℕ). o .1) (add-more t sh r (m .more))
 
-  step-other : (i : ℕ) → (i ≡ givenPlace → ⊥) → total (step t b) i ≡ total (counted sh r t) i
-  step-other i d = ap (λ (l : List ℕ). total l i) stepped ∙ getD-set-other (counted sh r t) givenPlace i ((total (counted sh r t) givenPlace + 1) % 2 ^ 64) 0 d
+  with-block-other : (i : ℕ) → (i ≡ givenPlace → ⊥) → total (withBlock t b) i ≡ total (counted sh r t) i
+  with-block-other i d = ap (λ (l : List ℕ). total l i) with-block-is ∙ getD-set-other (counted sh r t) givenPlace i ((total (counted sh r t) givenPlace + 1) % 2 ^ 64) 0 d
 
   -- not refused
   module _ (y : taken b ≡ true) where
@@ -98,12 +98,12 @@ module _ (t : List ℕ) (b : Given) (m : Room t) where
     entering = counted-taken sh r t (taken-zero b y)
 
     -- in another class, and among the refused and the given, nothing changes
-    pub taken-other : (i : ℕ) → (i ≡ givenPlace → ⊥) → ((k : ℕ) → k < 4 → i ≡ place sh + k → ⊥) → total (step t b) i ≡ total t i
-    taken-other i g d = step-other i g ∙ ap (λ (l : List ℕ). total l i) entering ∙ entered-other (place sh) (railCount sh r) (largest sh r) (squares sh r) t i d
+    pub taken-other : (i : ℕ) → (i ≡ givenPlace → ⊥) → ((k : ℕ) → k < 4 → i ≡ place sh + k → ⊥) → total (withBlock t b) i ≡ total t i
+    taken-other i g d = with-block-other i g ∙ ap (λ (l : List ℕ). total l i) entering ∙ entered-other (place sh) (railCount sh r) (largest sh r) (squares sh r) t i d
 
     pub taken-here : (j : ℕ) (g : ℕ → ℕ) → place sh + j < 576 → total (entered (place sh) (railCount sh r) (largest sh r) (squares sh r) t) (place sh + j) ≡ g (total t (place sh + j))
-        → total (step t b) (place sh + j) ≡ g (total t (place sh + j))
-    taken-here j g h e = step-other (place sh + j) (λ q. omega (arith, q, h)) ∙ ap (λ (l : List ℕ). total l (place sh + j)) entering ∙ e
+        → total (withBlock t b) (place sh + j) ≡ g (total t (place sh + j))
+    taken-here j g h e = with-block-other (place sh + j) (λ q. omega (arith, q, h)) ∙ ap (λ (l : List ℕ). total l (place sh + j)) entering ∙ e
 
     taken-long : length (counted sh r t) ≡ length t
     taken-long = ap length entering ∙ entered-long (place sh) (railCount sh r) (largest sh r) (squares sh r) t
@@ -113,12 +113,12 @@ module _ (t : List ℕ) (b : Given) (m : Room t) where
     apart-only : counted sh r t ≡ plus refusedPlace 1 t
     apart-only = counted-refused sh r t (not-zero b n)
 
-    pub refused-other : (i : ℕ) → (i ≡ givenPlace → ⊥) → (i ≡ refusedPlace → ⊥) → total (step t b) i ≡ total t i
-    refused-other i g d = step-other i g ∙ ap (λ (l : List ℕ). total l i) apart-only ∙ getD-set-other t refusedPlace i ((total t refusedPlace + 1) % 2 ^ 64) 0 d
+    pub refused-other : (i : ℕ) → (i ≡ givenPlace → ⊥) → (i ≡ refusedPlace → ⊥) → total (withBlock t b) i ≡ total t i
+    refused-other i g d = with-block-other i g ∙ ap (λ (l : List ℕ). total l i) apart-only ∙ getD-set-other t refusedPlace i ((total t refusedPlace + 1) % 2 ^ 64) 0 d
 
-    pub refused-here : total (step t b) refusedPlace ≡ (total t refusedPlace + 1) % 2 ^ 64
+    pub refused-here : total (withBlock t b) refusedPlace ≡ (total t refusedPlace + 1) % 2 ^ 64
     refused-here =
-        step-other refusedPlace (λ q. omega (arith, q)) ∙ ap (λ (l : List ℕ). total l refusedPlace) apart-only
+        with-block-other refusedPlace (λ q. omega (arith, q)) ∙ ap (λ (l : List ℕ). total l refusedPlace) apart-only
         ∙ getD-set-same t refusedPlace ((total t refusedPlace + 1) % 2 ^ 64) 0 (omega (arith, m .long))
 
     refused-long : length (counted sh r t) ≡ length t
@@ -128,12 +128,12 @@ pub either : (P : Type 0) (b : Bool) → (b ≡ true → P) → (b ≡ false →
 either P true f g = f refl
 either P false f g = g refl
 
-module _ (t : List ℕ) (b : Given) (m : Room t) where
+module _ (t : List ℕ) (b : GivenBlock) (m : Room t) where
   counted-long : length (counted (b .shape) (b .residuals) t) ≡ length t
   counted-long = either (length (counted (b .shape) (b .residuals) t) ≡ length t) (taken b) (taken-long t b m) (refused-long t b m)
 
-  pub step-long : length (step t b) ≡ 578
-  step-long = ap length (stepped t b m) ∙ length-set (counted (b .shape) (b .residuals) t) givenPlace _ ∙ counted-long ∙ m .long
+  pub with-block-long : length (withBlock t b) ≡ 578
+  with-block-long = ap length (with-block-is t b m) ∙ length-set (counted (b .shape) (b .residuals) t) givenPlace _ ∙ counted-long ∙ m .long
 
   -- the given, which no other change touches
   counted-given : taken b ≡ true → class (b .shape) < 144 → total (counted (b .shape) (b .residuals) t) givenPlace ≡ total t givenPlace
@@ -144,9 +144,9 @@ module _ (t : List ℕ) (b : Given) (m : Room t) where
   refused-given : taken b ≡ false → total (counted (b .shape) (b .residuals) t) givenPlace ≡ total t givenPlace
   refused-given n = ap (λ (l : List ℕ). total l givenPlace) (apart-only t b m n) ∙ getD-set-other t refusedPlace givenPlace _ 0 (λ q. omega (arith, q))
 
-  pub step-given : (taken b ≡ true → class (b .shape) < 144) → total (step t b) givenPlace ≡ total t givenPlace + 1
-  step-given c =
+  pub with-block-given : (taken b ≡ true → class (b .shape) < 144) → total (withBlock t b) givenPlace ≡ total t givenPlace + 1
+  with-block-given c =
       let k = counted (b .shape) (b .residuals) t in
       let same : total k givenPlace ≡ total t givenPlace = either (total k givenPlace ≡ total t givenPlace) (taken b) (λ y. counted-given y (c y)) refused-given in
-      let put : total (step t b) givenPlace ≡ (total k givenPlace + 1) % 2 ^ 64 = ap (λ (l : List ℕ). total l givenPlace) (stepped t b m) ∙ getD-set-same k givenPlace _ 0 (omega (arith, counted-long, m .long)) in
+      let put : total (withBlock t b) givenPlace ≡ (total k givenPlace + 1) % 2 ^ 64 = ap (λ (l : List ℕ). total l givenPlace) (with-block-is t b m) ∙ getD-set-same k givenPlace _ 0 (omega (arith, counted-long, m .long)) in
       put ∙ ap (λ (x : ℕ). (x + 1) % 2 ^ 64) same ∙ mod-eq-of-lt (omega (arith, m .more))

@@ -16,11 +16,11 @@ use Rattle.meaning.specs.Plan.{planOf}
 use Rattle.meaning.specs.Inverse.{columnSum, rounded, middleAt, railed, count, rails}
 use Rattle.meaning.specs.Forward.{forwardBlock}
 use Rattle.meaning.proofs.Cases.{depth-cases}
-use Rattle.meaning.proofs.Accepted.{area-in}
+use Rattle.meaning.proofs.AcceptedCalls.{elements-in}
 use Rattle.meaning.proofs.NoRails.{count-in}
 use Rattle.meaning.proofs.Stages.{taken-sized}
-use Rattle.block_trip.specs.Trip.{area, railCount, returned, apart, largest, squares}
-use Rattle.report.specs.Given.{Given, taken}
+use Rattle.block_trip.specs.Trip.{elements, railCount, returned, apart, largest, squares}
+use Rattle.report.specs.Given.{GivenBlock, taken}
 use Rattle.block_trip.proofs.Numbers.{greatest-in, squares-in, apart-in}
 use Rattle.block_trip.proofs.Back.{Took, took, returned-in}
 use Rattle.report.proofs.Cells.{taken-zero}
@@ -35,8 +35,8 @@ module _ (sh : Shape) (r : List ℤ) (t : Took sh r) where
       let f : ℕ → ℕ → ℕ = λ x y. count (railed (rounded (columnSum p c x y)) (middleAt p c x y)) in
       let column : (x : ℕ) → sumℕ (sh .height) (f x) ≤ sh .height = λ x. omega (arith, sumℕ-mono (sh .height) (f x) (λ y. 1) (λ y _. count-in (railed (rounded (columnSum p c x y)) (middleAt p c x y))), sumℕ-const (sh .height) 1) in
       let all = sumℕ-mono (p .columns) (λ x. sumℕ (sh .height) (f x)) (λ x. sh .height) (λ x _. column x) in
-      let kept : p .columns * sh .height ≤ area sh = mul-le-mul (taken-sized sh (t .taken) .columns) (omega arith) in
-      omega (arith, all, sumℕ-const (p .columns) (sh .height), kept, area-in sh (t .taken))
+      let kept : p .columns * sh .height ≤ elements sh = mul-le-mul (taken-sized sh (t .taken) .columns) (omega arith) in
+      omega (arith, all, sumℕ-const (p .columns) (sh .height), kept, elements-in sh (t .taken))
 
   apart-small : (k : ℕ) → apart r (returned sh r) k ≤ 266239
   apart-small k =
@@ -46,12 +46,12 @@ module _ (sh : Shape) (r : List ℤ) (t : Took sh r) where
 
   pub largest-in : largest sh r ≤ 266239
   unfolding largest
-  largest-in = greatest-in (area sh) (apart r (returned sh r)) 266239 (λ k _. apart-small k)
+  largest-in = greatest-in (elements sh) (apart r (returned sh r)) 266239 (λ k _. apart-small k)
 
   -- 1,024 squares
   pub squares-fit : squares sh r ≤ 72584402043904
   unfolding squares
-  squares-fit = omega (arith, squares-in (area sh) (apart r (returned sh r)) 266239 (λ k _. apart-small k), area-in sh (t .taken))
+  squares-fit = omega (arith, squares-in (elements sh) (apart r (returned sh r)) 266239 (λ k _. apart-small k), elements-in sh (t .taken))
 
-pub took-given : (b : Given) → taken b ≡ true → Took (b .shape) (b .residuals)
+pub took-given : (b : GivenBlock) → taken b ≡ true → Took (b .shape) (b .residuals)
 took-given b y = took (b .shape) (b .residuals) (taken-zero b y)

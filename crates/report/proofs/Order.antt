@@ -10,17 +10,17 @@ use lib.ListN.{length}
 use lib.Seq.{ext-getD}
 use Rattle.block_trip.specs.Trip.{railCount, largest, squares}
 use Rattle.report.specs.Totals.{empty, total, refusedPlace, givenPlace}
-use Rattle.report.specs.Given.{Given, afterAll, totalsOf, taken, Reordered}
-use Rattle.report.proofs.Cells.{step}
+use Rattle.report.specs.Given.{GivenBlock, afterAll, totalsOf, taken, Reordered}
+use Rattle.report.proofs.Cells.{withBlock}
 use Rattle.report.proofs.Sums.{Rooms, rooms-next, sum-order, max-order, length-order}
 use Rattle.report.proofs.Report.{empty-rooms, inClass, blocks-of, rails-of, largest-of, squares-of, refused-total, given-total}
 
-long : (bs : List Given) (t : List ℕ) → Rooms t (length bs) → length (afterAll t bs) ≡ 578
+long : (bs : List GivenBlock) (t : List ℕ) → Rooms t (length bs) → length (afterAll t bs) ≡ 578
 unfolding afterAll
 long [] t m = m .long
-long (b ∷ bs) t m = long bs (step t b) (rooms-next b m)
+long (b ∷ bs) t m = long bs (withBlock t b) (rooms-next b m)
 
-module _ {bs cs : List Given} (r : Reordered bs cs) (few : length bs ≤ 65536) where
+module _ {bs cs : List GivenBlock} (r : Reordered bs cs) (few : length bs ≤ 65536) where
   few2 : length cs ≤ 65536
   few2 = omega (arith, few, length-order r)
 

@@ -15,10 +15,10 @@ use Rattle.meaning.specs.declared.Shape.{Shape}
 use Rattle.meaning.proofs.Cases.{and-cases, and-so}
 use Rattle.block_trip.specs.Trip.{railCount, largest, squares}
 use Rattle.report.specs.Totals.{empty, total, class, place, refusedPlace, givenPlace}
-use Rattle.report.specs.Given.{Given, afterAll, totalsOf, taken, alike, among, sumOver, maxOver}
+use Rattle.report.specs.Given.{GivenBlock, afterAll, totalsOf, taken, alike, among, sumOver, maxOver}
 use Rattle.report.proofs.Fits.{rails-in, squares-fit, took-given}
 use Rattle.report.proofs.Places.{Class, class-of, class-in, class-apart, class-same, alike-same, same-alike}
-use Rattle.report.proofs.Cells.{Room, Here, here, step, step-given, taken-other, taken-here, refused-other, refused-here, either}
+use Rattle.report.proofs.Cells.{Room, Here, here, withBlock, with-block-given, taken-other, taken-here, refused-other, refused-here, either}
 use Rattle.report.proofs.Sums.{taken-class, Rooms, room, rooms-next, adds, raises, sum-small}
 
 -- ---- the empty totals
@@ -31,68 +31,68 @@ unfolding empty
 empty-rooms n h = record { long = length-replicate {A = ℕ} 578 0; more = omega (arith, empty-at givenPlace (omega arith), h) }
 
 -- ---- a class by its number
-abbrev pub inClass : ℕ → Given → Bool
+abbrev pub inClass : ℕ → GivenBlock → Bool
 inClass v b = taken b && eqb (class (b .shape)) v
 
 module _ (v : ℕ) (h : v < 144) where
   -- the number of a block's class
-  is-class : (b : Given) → inClass v b ≡ true → class (b .shape) ≡ v
+  is-class : (b : GivenBlock) → inClass v b ≡ true → class (b .shape) ≡ v
   is-class b e = eqb-true (class (b .shape)) v (and-cases (taken b) (eqb (class (b .shape)) v) e .1)
 
-  is-taken : (b : Given) → inClass v b ≡ true → taken b ≡ true
+  is-taken : (b : GivenBlock) → inClass v b ≡ true → taken b ≡ true
   is-taken b e = and-cases (taken b) (eqb (class (b .shape)) v) e .0
 
-  other : (j : ℕ) → j < 4 → (t : List ℕ) (b : Given) → Room t → inClass v b ≡ false → total (step t b) (v * 4 + j) ≡ total t (v * 4 + j)
+  other : (j : ℕ) → j < 4 → (t : List ℕ) (b : GivenBlock) → Room t → inClass v b ≡ false → total (withBlock t b) (v * 4 + j) ≡ total t (v * 4 + j)
   other j l t b m e =
-      either (total (step t b) (v * 4 + j) ≡ total t (v * 4 + j)) (taken b)
+      either (total (withBlock t b) (v * 4 + j) ≡ total t (v * 4 + j)) (taken b)
       (λ y.
       let d = and-so (taken b) (eqb (class (b .shape)) v) e y in
       taken-other t b m y (v * 4 + j) (λ q. omega (arith, q, h, l))
       (λ k i q. eqb-false (class (b .shape)) v d (omega (arith, q, i, l))))
       (λ n. refused-other t b m n (v * 4 + j) (λ q. omega (arith, q, h, l)) (λ q. omega (arith, q, h, l)))
 
-  mine : (t : List ℕ) (b : Given) → Room t → inClass v b ≡ true → Here (place (b .shape)) (railCount (b .shape) (b .residuals)) (largest (b .shape) (b .residuals)) (squares (b .shape) (b .residuals)) t
+  mine : (t : List ℕ) (b : GivenBlock) → Room t → inClass v b ≡ true → Here (place (b .shape)) (railCount (b .shape) (b .residuals)) (largest (b .shape) (b .residuals)) (squares (b .shape) (b .residuals)) t
   mine t b m e =
       here (place (b .shape)) (railCount (b .shape) (b .residuals)) (largest (b .shape) (b .residuals)) (squares (b .shape) (b .residuals)) t
       (omega (arith, m .long, is-class b e, h))
 
   -- one of the four, brought to the class's place
-  own : (j : ℕ) (g : ℕ → ℕ) → j < 4 → (t : List ℕ) (b : Given) → Room t → (e : inClass v b ≡ true)
-      → (total (step t b) (place (b .shape) + j) ≡ g (total t (place (b .shape) + j))) → total (step t b) (v * 4 + j) ≡ g (total t (v * 4 + j))
-  own j g l t b m e s = subst (λ (u : ℕ). total (step t b) (u * 4 + j) ≡ g (total t (u * 4 + j))) (is-class b e) s
+  own : (j : ℕ) (g : ℕ → ℕ) → j < 4 → (t : List ℕ) (b : GivenBlock) → Room t → (e : inClass v b ≡ true)
+      → (total (withBlock t b) (place (b .shape) + j) ≡ g (total t (place (b .shape) + j))) → total (withBlock t b) (v * 4 + j) ≡ g (total t (v * 4 + j))
+  own j g l t b m e s = subst (λ (u : ℕ). total (withBlock t b) (u * 4 + j) ≡ g (total t (u * 4 + j))) (is-class b e) s
 
-  below : (b : Given) → inClass v b ≡ true → (j : ℕ) → j < 4 → place (b .shape) + j < 576
+  below : (b : GivenBlock) → inClass v b ≡ true → (j : ℕ) → j < 4 → place (b .shape) + j < 576
   below b e j l = omega (arith, is-class b e, h, l)
 
-  blocks-in : (t : List ℕ) (b : Given) → Room t → inClass v b ≡ true → total (step t b) (v * 4 + 0) ≡ (total t (v * 4 + 0) + 1) % 2 ^ 64
+  blocks-in : (t : List ℕ) (b : GivenBlock) → Room t → inClass v b ≡ true → total (withBlock t b) (v * 4 + 0) ≡ (total t (v * 4 + 0) + 1) % 2 ^ 64
   blocks-in t b m e =
       let g : ℕ → ℕ = λ x. (x + 1) % 2 ^ 64 in
       own 0 g (omega arith) t b m e (taken-here t b m (is-taken b e) 0 g (below b e 0 (omega arith)) (mine t b m e .first))
 
-  rails-sum : (t : List ℕ) (b : Given) → Room t → inClass v b ≡ true → total (step t b) (v * 4 + 1) ≡ (total t (v * 4 + 1) + railCount (b .shape) (b .residuals)) % 2 ^ 64
+  rails-sum : (t : List ℕ) (b : GivenBlock) → Room t → inClass v b ≡ true → total (withBlock t b) (v * 4 + 1) ≡ (total t (v * 4 + 1) + railCount (b .shape) (b .residuals)) % 2 ^ 64
   rails-sum t b m e =
       let g : ℕ → ℕ = λ x. (x + railCount (b .shape) (b .residuals)) % 2 ^ 64 in
       own 1 g (omega arith) t b m e (taken-here t b m (is-taken b e) 1 g (below b e 1 (omega arith)) (mine t b m e .second))
 
-  largest-max : (t : List ℕ) (b : Given) → Room t → inClass v b ≡ true → total (step t b) (v * 4 + 2) ≡ max (total t (v * 4 + 2)) (largest (b .shape) (b .residuals))
+  largest-max : (t : List ℕ) (b : GivenBlock) → Room t → inClass v b ≡ true → total (withBlock t b) (v * 4 + 2) ≡ max (total t (v * 4 + 2)) (largest (b .shape) (b .residuals))
   largest-max t b m e =
       let g : ℕ → ℕ = λ x. max x (largest (b .shape) (b .residuals)) in
       own 2 g (omega arith) t b m e (taken-here t b m (is-taken b e) 2 g (below b e 2 (omega arith)) (mine t b m e .third))
 
-  squares-sum : (t : List ℕ) (b : Given) → Room t → inClass v b ≡ true → total (step t b) (v * 4 + 3) ≡ (total t (v * 4 + 3) + squares (b .shape) (b .residuals)) % 2 ^ 64
+  squares-sum : (t : List ℕ) (b : GivenBlock) → Room t → inClass v b ≡ true → total (withBlock t b) (v * 4 + 3) ≡ (total t (v * 4 + 3) + squares (b .shape) (b .residuals)) % 2 ^ 64
   squares-sum t b m e =
       let g : ℕ → ℕ = λ x. (x + squares (b .shape) (b .residuals)) % 2 ^ 64 in
       own 3 g (omega arith) t b m e (taken-here t b m (is-taken b e) 3 g (below b e 3 (omega arith)) (mine t b m e .fourth))
 
   -- ---- over a list
-  module _ (bs : List Given) (few : length bs ≤ 65536) where
+  module _ (bs : List GivenBlock) (few : length bs ≤ 65536) where
     -- sums of numbers up to B fit
-    fitting : (f : Given → ℕ) (B : ℕ) → ((b : Given) → inClass v b ≡ true → f b ≤ B) → B ≤ 72584402043904 → sumOver (inClass v) f bs < 2 ^ 64
+    fitting : (f : GivenBlock → ℕ) (B : ℕ) → ((b : GivenBlock) → inClass v b ≡ true → f b ≤ B) → B ≤ 72584402043904 → sumOver (inClass v) f bs < 2 ^ 64
     fitting f B s l =
         let p : length bs * B ≤ 65536 * 72584402043904 = mul-le-mul few l in
         omega (arith, sum-small (inClass v) f B s bs, p)
 
-    summed : (j : ℕ) → j < 4 → (f : Given → ℕ) → ((t : List ℕ) (b : Given) → Room t → inClass v b ≡ true → total (step t b) (v * 4 + j) ≡ (total t (v * 4 + j) + f b) % 2 ^ 64)
+    summed : (j : ℕ) → j < 4 → (f : GivenBlock → ℕ) → ((t : List ℕ) (b : GivenBlock) → Room t → inClass v b ≡ true → total (withBlock t b) (v * 4 + j) ≡ (total t (v * 4 + j) + f b) % 2 ^ 64)
         → sumOver (inClass v) f bs < 2 ^ 64 → total (totalsOf bs) (v * 4 + j) ≡ sumOver (inClass v) f bs
     summed j l f inside fits =
         let z = empty-at (v * 4 + j) (omega (arith, h, l)) in
@@ -113,25 +113,25 @@ module _ (v : ℕ) (h : v < 144) where
 
     pub largest-of : total (totalsOf bs) (v * 4 + 2) ≡ maxOver (inClass v) (λ b. largest (b .shape) (b .residuals)) bs
     largest-of =
-        let f : Given → ℕ = λ b. largest (b .shape) (b .residuals) in
+        let f : GivenBlock → ℕ = λ b. largest (b .shape) (b .residuals) in
         let z = empty-at (v * 4 + 2) (omega (arith, h)) in
         raises (v * 4 + 2) (inClass v) f (other 2 (omega arith)) largest-max bs empty (empty-rooms (length bs) few) ∙ omega (arith, z)
 
 -- ---- the refused and the given
-refused-stays : (t : List ℕ) (b : Given) → Room t → not (taken b) ≡ false → total (step t b) refusedPlace ≡ total t refusedPlace
+refused-stays : (t : List ℕ) (b : GivenBlock) → Room t → not (taken b) ≡ false → total (withBlock t b) refusedPlace ≡ total t refusedPlace
 refused-stays t b m e =
     let y = not-false (taken b) e in
     taken-other t b m y refusedPlace (λ q. omega (arith, q)) (λ k l q. omega (arith, q, l, taken-class b y))
 
-refused-more : (t : List ℕ) (b : Given) → Room t → not (taken b) ≡ true → total (step t b) refusedPlace ≡ (total t refusedPlace + 1) % 2 ^ 64
+refused-more : (t : List ℕ) (b : GivenBlock) → Room t → not (taken b) ≡ true → total (withBlock t b) refusedPlace ≡ (total t refusedPlace + 1) % 2 ^ 64
 refused-more t b m e = refused-here t b m (not-true (taken b) e)
 
-given-more : (bs : List Given) (t : List ℕ) → Rooms t (length bs) → total (afterAll t bs) givenPlace ≡ total t givenPlace + length bs
+given-more : (bs : List GivenBlock) (t : List ℕ) → Rooms t (length bs) → total (afterAll t bs) givenPlace ≡ total t givenPlace + length bs
 unfolding afterAll
 given-more [] t m = omega arith
-given-more (b ∷ bs) t m = given-more bs (step t b) (rooms-next b m) ∙ omega (arith, step-given t b (room m) (taken-class b))
+given-more (b ∷ bs) t m = given-more bs (withBlock t b) (rooms-next b m) ∙ omega (arith, with-block-given t b (room m) (taken-class b))
 
-module _ (bs : List Given) (few : length bs ≤ 65536) where
+module _ (bs : List GivenBlock) (few : length bs ≤ 65536) where
   pub refused-total : total (totalsOf bs) refusedPlace ≡ sumOver (λ b. not (taken b)) (λ b. 1) bs
   refused-total =
       let z = empty-at refusedPlace (omega arith) in
@@ -143,7 +143,7 @@ module _ (bs : List Given) (few : length bs ≤ 65536) where
 
 -- ---- a class by its sizes and kinds
 module _ (sh : Shape) (c : Class sh) where
-  same-test : (b : Given) → inClass (class sh) b ≡ among sh b
+  same-test : (b : GivenBlock) → inClass (class sh) b ≡ among sh b
   same-test b =
       either (inClass (class sh) b ≡ among sh b) (taken b)
       (λ y. rw y (agree (class-of (b .shape) (took-given b y .taken)) (ℕ-discrete (class (b .shape)) (class sh))))
@@ -155,13 +155,13 @@ module _ (sh : Shape) (c : Class sh) where
           ne-eqb (class (b .shape)) (class sh) e
           ∙ either (false ≡ alike sh (b .shape)) (alike sh (b .shape)) (λ y. absurd (e (class-same sh (b .shape) (alike-same sh (b .shape) y)))) (λ n. sym n)
 
-  pub record Reported (bs : List Given) : Type 0 where
+  pub record Reported (bs : List GivenBlock) : Type 0 where
     pub blocks : total (totalsOf bs) (place sh) ≡ sumOver (among sh) (λ b. 1) bs
     pub rails : total (totalsOf bs) (place sh + 1) ≡ sumOver (among sh) (λ b. railCount (b .shape) (b .residuals)) bs
     pub largest : total (totalsOf bs) (place sh + 2) ≡ maxOver (among sh) (λ b. largest (b .shape) (b .residuals)) bs
     pub squares : total (totalsOf bs) (place sh + 3) ≡ sumOver (among sh) (λ b. squares (b .shape) (b .residuals)) bs
 
-  pub report : (bs : List Given) → length bs ≤ 65536 → Reported bs
+  pub report : (bs : List GivenBlock) → length bs ≤ 65536 → Reported bs
   report bs few =
       let h = class-in sh c in
       let first : place sh + 0 ≡ place sh = omega arith in

@@ -3,7 +3,7 @@ use block_trip::larger;
 use block_trip::trip;
 use meaning::Answer;
 use meaning::Shape;
-use meaning::refusal;
+use meaning::refused;
 ghost use mathlib.Core.Path.{_≡_};
 ghost use mathlib.Core.Bool.{true};
 ghost use mathlib.Core.List.{List};
@@ -99,7 +99,7 @@ pub fn add(totals: &mut [u64; 578], shape: Shape, residuals: &[i16]) -> Answer
     ensures { λ r. ⌜ _≡_ {A = Answer × List ℕ} (r, now (totals .exit)) (addOutcome (now (totals .entry)) shape (now (residuals .entry))) ⌝ }
 {
     if totals[577] >= 65536 {
-        return refusal(22, 0);
+        return refused(22, 0);
     }
     let answer = tally(totals, shape, residuals);
     count(totals, 577, 1);

@@ -10,7 +10,7 @@ use lib.Seq.{length-take-le, getD-append-add, getD-take, getD-drop}
 use Rattle.meaning.specs.declared.Shape.{Shape}
 use Rattle.block_file.specs.declared.cursor.Cursor.{Cursor}
 use Rattle.block_file.specs.declared.field.Field.{Field}
-use Rattle.block_file.specs.Cursor.{start, stepOf}
+use Rattle.block_file.specs.Cursor.{fileStart, advanceOf}
 use Rattle.salvage.specs.Pieces.{reads, onward, pieces, joined, keptOf, written, dropped, readsAll, undamaged}
 use Rattle.salvage.proofs.Moves.{onward-read, onward-lost}
 use Rattle.salvage.proofs.Cover.{by-pieces}
@@ -31,7 +31,7 @@ abbrev Reads : Shape → List ℕ → Type 0
 Reads shape t = (D : List ℕ) → length (D ++ t) ≤ 65536 → (k : ℕ) → readsAll k (D ++ t) (cur (length D) shape) ≡ true
 
 module _ (file : List ℕ) (a : length file ≤ 65536) where
-  kept-again : (c : Cursor) (o : Cursor) (rest : List ℕ) → c .at < length file → c .at < o .at → o .at ≤ length file → reads file c ≡ true → stepOf file c .next ≡ o
+  kept-again : (c : Cursor) (o : Cursor) (rest : List ℕ) → c .at < length file → c .at < o .at → o .at ≤ length file → reads file c ≡ true → advanceOf file c .next ≡ o
       → Reads (o .shape) rest → Reads (c .shape) (take (o .at - c .at) (drop (c .at) file) ++ rest)
   unfolding readsAll
   kept-again c o rest l m n r e h D d zero = refl
@@ -48,11 +48,11 @@ module _ (file : List ℕ) (a : length file ≤ 65536) where
       let x : readsAll k ((D ++ part) ++ rest) (cur (length (D ++ part)) (o .shape)) ≡ true = h (D ++ part) (subst (λ (y : List ℕ). length y ≤ 65536) (sym j) d) k in
       (λ i. t .0 i && readsAll k g (t .1 i)) ∙ sym (λ i. readsAll k (j i) (cur (q i) (o .shape))) ∙ x
     where
-      there : (o : Cursor) → stepOf file c .next ≡ o → (g : List ℕ) → length g ≤ 65536 → length D + (o .at - c .at) ≤ length g → Same file (c .at) g (length D) (o .at - c .at)
-          → (reads g (cur (length D) (c .shape)) ≡ true) × (stepOf g (cur (length D) (c .shape)) .next ≡ cur (length D + (o .at - c .at)) (o .shape))
+      there : (o : Cursor) → advanceOf file c .next ≡ o → (g : List ℕ) → length g ≤ 65536 → length D + (o .at - c .at) ≤ length g → Same file (c .at) g (length D) (o .at - c .at)
+          → (reads g (cur (length D) (c .shape)) ≡ true) × (advanceOf g (cur (length D) (c .shape)) .next ≡ cur (length D + (o .at - c .at)) (o .shape))
       there o e g =
           subst (λ (o : Cursor). length g ≤ 65536 → length D + (o .at - c .at) ≤ length g → Same file (c .at) g (length D) (o .at - c .at)
-          → (reads g (cur (length D) (c .shape)) ≡ true) × (stepOf g (cur (length D) (c .shape)) .next ≡ cur (length D + (o .at - c .at)) (o .shape)))
+          → (reads g (cur (length D) (c .shape)) ≡ true) × (advanceOf g (cur (length D) (c .shape)) .next ≡ cur (length D + (o .at - c .at)) (o .shape)))
           e (reads-there file c g (length D) a l r)
 
   pick : (Q : List ℕ → Type 0) (b : Bool) (x rest : List ℕ) → (b ≡ true → Q (x ++ rest)) → (b ≡ false → Q rest) → Q (cond b x [] ++ rest)
@@ -69,7 +69,7 @@ module _ (file : List ℕ) (a : length file ≤ 65536) where
 
   -- "a new file of the fields read"
   pub new-undamaged : undamaged (written file) ≡ true
-  new-undamaged = all-read start (omega arith) [] (omega (arith, written-short file)) (length (written file))
+  new-undamaged = all-read fileStart (omega arith) [] (omega (arith, written-short file)) (length (written file))
 
   pub saved-again : (written (written file) ≡ written file) × (dropped (written file) ≡ [])
   saved-again = undamaged-file (written file) new-undamaged

@@ -8,7 +8,7 @@ use lib.Dec.{ltb}
 use mathlib.Core.Bool.{Bool, true, false}
 use lib.ListN.{length}
 use Rattle.block_file.specs.declared.cursor.Cursor.{Cursor}
-use Rattle.block_file.specs.Cursor.{start}
+use Rattle.block_file.specs.Cursor.{fileStart}
 use Rattle.salvage.specs.declared.search.Piece.{Piece}
 use Rattle.salvage.specs.Pieces.{onward, pieceAt, pieces, Covers}
 use Rattle.salvage.proofs.Moves.{moves}
@@ -40,5 +40,5 @@ covers-from file =
     (λ c ps l m n h. let e : onward file c .at ≡ c .at + (onward file c .at - c .at) = omega arith in
     (refl, omega arith, subst (λ (k : ℕ). Covers k ps (length file)) e h))
 
-pub covers : (file : List ℕ) → Covers 0 (pieces file start) (length file)
-covers file = covers-from file start (omega arith)
+pub covers : (file : List ℕ) → Covers 0 (pieces file fileStart) (length file)
+covers file = covers-from file fileStart (omega arith)

@@ -1,11 +1,11 @@
 -- The search is linear over the whole file: a dropped stretch of b bytes costs at most b tests of an offset, a kept one costs one
--- step, and all of them together no more than the file has bytes. Assumes nothing.
+-- advance, and all of them together no more than the file has bytes. Assumes nothing.
 use mathlib.Core.Bool.{Bool, true, false, cond}
 use mathlib.Core.List.{List, [], _∷_}
 use Prim.Native.Nat.{ℕ, zero, suc, _+_, _≤_}
 use native.Mathlib.Omega.{arith}
 use lib.ListN.{length}
-use Rattle.block_file.specs.Cursor.{start}
+use Rattle.block_file.specs.Cursor.{fileStart}
 use Rattle.salvage.specs.declared.search.Piece.{Piece}
 use Rattle.salvage.specs.Pieces.{goesOn, goesOnIn, pieces, Covers}
 use Rattle.salvage.proofs.Cover.{covers}
@@ -38,5 +38,5 @@ effort-within (p ∷ ps) at end h = pick (effort ps) (p .kept) (effort-within ps
     pick e true g = omega (arith, h .1)
     pick e false g = omega arith
 
-pub linear : (file : List ℕ) → effort (pieces file start) ≤ length file
-linear file = omega (arith, effort-within (pieces file start) 0 (length file) (covers file))
+pub linear : (file : List ℕ) → effort (pieces file fileStart) ≤ length file
+linear file = omega (arith, effort-within (pieces file fileStart) 0 (length file) (covers file))

@@ -11,8 +11,8 @@ use Rattle.meaning.specs.declared.Shape.{Shape}
 use Rattle.meaning.specs.Shape.{shapeOf, keeping}
 use Rattle.block_file.specs.declared.cursor.Cursor.{Cursor}
 use Rattle.block_file.specs.declared.field.Field.{Field}
-use Rattle.block_file.specs.Field.{byteAt, lengthAt, bodyAt, shapeAt, shapeBehind, shapeNumber, isShape, isKeeping, headerNumber, fieldNumber, fieldAt, whole, nothing}
-use Rattle.block_file.specs.Cursor.{stepOf, foundAt}
+use Rattle.block_file.specs.Field.{byteAt, lengthAt, bodyAt, shapeAt, shapeBehind, shapeNumber, isShape, isKeeping, headerNumber, fieldNumber, fieldAt, wholeField, nothing}
+use Rattle.block_file.specs.Cursor.{advanceOf, foundAt}
 use Rattle.block_file.proofs.Whole.{Whole, whole-field, in-order, ofHeader, ofShape}
 use Rattle.salvage.specs.Pieces.{reads}
 
@@ -82,7 +82,7 @@ module _ (f : List ℕ) (at : ℕ) (g : List ℕ) (k : ℕ) (sh : Shape) (z : fi
 
 -- ---- a cursor within a file that is not too long
 module _ (file : List ℕ) (c : Cursor) (a : length file ≤ 65536) (b : c .at < length file) where
-  found-whole : fieldNumber file (c .at) (c .shape) ≡ 0 → foundAt file c ≡ whole file (c .at) (c .shape)
+  found-whole : fieldNumber file (c .at) (c .shape) ≡ 0 → foundAt file c ≡ wholeField file (c .at) (c .shape)
   unfolding foundAt fieldAt
   found-whole z = rw (le-ltb 65536 (length file) a, lt-ltb (c .at) (length file) b, z)
 
@@ -90,28 +90,28 @@ module _ (file : List ℕ) (c : Cursor) (a : length file ≤ 65536) (b : c .at <
   unfolding foundAt fieldAt
   found-zero r =
       let n = fieldNumber file (c .at) (c .shape) in
-      let q : foundAt file c ≡ cond (eqb n 0) (whole file (c .at) (c .shape)) (nothing n (c .at) (c .shape)) = rw (le-ltb 65536 (length file) a, lt-ltb (c .at) (length file) b) in
+      let q : foundAt file c ≡ cond (eqb n 0) (wholeField file (c .at) (c .shape)) (nothing n (c .at) (c .shape)) = rw (le-ltb 65536 (length file) a, lt-ltb (c .at) (length file) b) in
       go n (eqb n 0) refl (sym (ap (λ (f : Field). eqb (f .number) 0) q) ∙ r)
     where
-      go : (n : ℕ) (t : Bool) → eqb n 0 ≡ t → eqb (cond t (whole file (c .at) (c .shape)) (nothing n (c .at) (c .shape)) .number) 0 ≡ true → n ≡ 0
+      go : (n : ℕ) (t : Bool) → eqb n 0 ≡ t → eqb (cond t (wholeField file (c .at) (c .shape)) (nothing n (c .at) (c .shape)) .number) 0 ≡ true → n ≡ 0
       go n true e h = eqb-true n 0 e
       go n false e h = eqb-true n 0 h
 
 -- the reader reads at place k of g what it reads at a cursor of file
 pub reads-there : (file : List ℕ) (c : Cursor) (g : List ℕ) (k : ℕ) → length file ≤ 65536 → c .at < length file → reads file c ≡ true → length g ≤ 65536
-    → k + (stepOf file c .next .at - c .at) ≤ length g → Same file (c .at) g k (stepOf file c .next .at - c .at)
+    → k + (advanceOf file c .next .at - c .at) ≤ length g → Same file (c .at) g k (advanceOf file c .next .at - c .at)
     → (reads g (record { at = k; shape = c .shape }) ≡ true)
-    × (stepOf g (record { at = k; shape = c .shape }) .next ≡ record { at = k + (stepOf file c .next .at - c .at); shape = stepOf file c .next .shape })
+    × (advanceOf g (record { at = k; shape = c .shape }) .next ≡ record { at = k + (advanceOf file c .next .at - c .at); shape = advanceOf file c .next .shape })
 reads-there file c g k a b r d h s =
     let z = found-zero file c a b r in
     let w = found-whole file c a b z in
     let l = lengthAt file (c .at) in
-    let n : stepOf file c .next .at - c .at ≡ 3 + l = ap (λ (f : Field). f .next .at - c .at) w ∙ omega arith in
+    let n : advanceOf file c .next .at - c .at ≡ 3 + l = ap (λ (f : Field). f .next .at - c .at) w ∙ omega arith in
     let s′ : Same file (c .at) g k (3 + l) = λ i q. s i (omega arith) in
     let h′ : k + (3 + l) ≤ length g = omega arith in
     let w′ = found-whole g (record { at = k; shape = c .shape }) d (omega arith) (number-same file (c .at) g k (c .shape) z s′ h′) in
-    let e : k + 3 + lengthAt g k ≡ k + (stepOf file c .next .at - c .at) = omega (arith, length-same file (c .at) g k (c .shape) z s′ h′) in
-    let t : shapeBehind g k (c .shape) ≡ stepOf file c .next .shape = behind-same file (c .at) g k (c .shape) z s′ h′ ∙ sym (ap (λ (f : Field). f .next .shape) w) in
+    let e : k + 3 + lengthAt g k ≡ k + (advanceOf file c .next .at - c .at) = omega (arith, length-same file (c .at) g k (c .shape) z s′ h′) in
+    let t : shapeBehind g k (c .shape) ≡ advanceOf file c .next .shape = behind-same file (c .at) g k (c .shape) z s′ h′ ∙ sym (ap (λ (f : Field). f .next .shape) w) in
     (ap (λ (f : Field). eqb (f .number) 0) w′, ap (λ (f : Field). f .next) w′ ∙ (λ i. record { at = e i; shape = t i }))
 
 -- at the end the reader stays

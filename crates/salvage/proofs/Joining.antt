@@ -8,7 +8,7 @@ use native.Mathlib.Omega.{arith}
 use lib.ListN.{length, take, drop, getD, take-append-drop, length-append}
 use lib.Seq.{take-suc, take-all}
 use Rattle.block_file.specs.declared.cursor.Cursor.{Cursor}
-use Rattle.block_file.specs.Cursor.{start}
+use Rattle.block_file.specs.Cursor.{fileStart}
 use Rattle.block_text.specs.Wrote.{Wrote}
 use Rattle.block_text.proofs.Writing.{andThen, retext, later}
 use Rattle.salvage.specs.declared.search.Piece.{Piece}
@@ -49,11 +49,11 @@ module _ (part : List ℕ) (i : ℕ) where
 pub within : (file : List ℕ) (c : Cursor) (p : Piece) → c .at < length file → p ≡ pieceAt file c → p .offset + p .bytes ≤ length file
 within file c p h e = let m = moves file c h in subst (λ (q : Piece). q .offset + q .bytes ≤ length file) (sym e) (omega (arith, m .0, m .1))
 
--- `more` is still to be written behind place p of an area
-pub record Writing (all more old area : List ℕ) (p : ℕ) : Type 0 where
-  pub done : take p area ++ more ≡ all
-  pub beyond : drop p area ≡ drop p old
-  pub long : length area ≡ length old
+-- `more` is still to be written behind place p of a buffer
+pub record Writing (all more old buffer : List ℕ) (p : ℕ) : Type 0 where
+  pub done : take p buffer ++ more ≡ all
+  pub beyond : drop p buffer ≡ drop p old
+  pub long : length buffer ≡ length old
   pub count : p + length more ≡ length all
 
 module _ (of : Piece → List ℕ) (file : List ℕ) where
@@ -69,7 +69,7 @@ module _ (of : Piece → List ℕ) (file : List ℕ) where
   unfolding joined
   rest-end c h = ap (joined of) (no-piece file c h)
 
-  pub begun : (c : Cursor) (old : List ℕ) → c ≡ start → Writing (rest start) (rest c) old old 0
+  pub begun : (c : Cursor) (old : List ℕ) → c ≡ fileStart → Writing (rest fileStart) (rest c) old old 0
   begun c old e = record { done = ap rest e; beyond = refl; long = refl; count = omega (arith, ap (λ (k : Cursor). length (rest k)) e) }
 
   -- a piece more
@@ -80,17 +80,17 @@ module _ (of : Piece → List ℕ) (file : List ℕ) where
     pub count-more : length (rest c) ≡ length (of p) + length (rest n)
     count-more = ap length rest-so ∙ length-append (of p) (rest n)
 
-    pub written-more : {old area area′ : List ℕ} {at m r : ℕ} → Writing (rest start) (rest c) old area at → Wrote (of p) m at area area′ r → length area′ ≡ length area → Writing (rest start) (rest n) old area′ r
-    written-more {old} {area} {area′} {at} {m} {r} a w l =
+    pub written-more : {old buffer buffer′ : List ℕ} {at m r : ℕ} → Writing (rest fileStart) (rest c) old buffer at → Wrote (of p) m at buffer buffer′ r → length buffer′ ≡ length buffer → Writing (rest fileStart) (rest n) old buffer′ r
+    written-more {old} {buffer} {buffer′} {at} {m} {r} a w l =
         record {
-          done = ap (λ (x : List ℕ). x ++ rest n) (w .front) ∙ append-assoc (take at area) (of p) (rest n) ∙ ap (λ (x : List ℕ). take at area ++ x) (sym rest-so) ∙ a .done;
-          beyond = w .beyond ∙ later at (length (of p)) r old area (w .next) (a .beyond);
+          done = ap (λ (x : List ℕ). x ++ rest n) (w .front) ∙ append-assoc (take at buffer) (of p) (rest n) ∙ ap (λ (x : List ℕ). take at buffer ++ x) (sym rest-so) ∙ a .done;
+          beyond = w .beyond ∙ later at (length (of p)) r old buffer (w .next) (a .beyond);
           long = l ∙ a .long;
           count = omega (arith, w .next, a .count, count-more);
         }
 
-  pub ended : (c : Cursor) {old area : List ℕ} {p : ℕ} → length file ≤ c .at → Writing (rest start) (rest c) old area p → (p ≡ length (rest start)) × (area ≡ over (rest start) old)
-  ended c {old} {area} {p} h a =
-      let t : take p area ≡ rest start = sym (append-nil (take p area)) ∙ ap (λ (x : List ℕ). take p area ++ x) (sym (rest-end c h)) ∙ a .done in
-      let n : p ≡ length (rest start) = omega (arith, a .count, ap length (rest-end c h)) in
-      (n, sym (take-append-drop p area) ∙ (λ i. t i ++ a .beyond i) ∙ ap (λ (k : ℕ). rest start ++ drop k old) n)
+  pub ended : (c : Cursor) {old buffer : List ℕ} {p : ℕ} → length file ≤ c .at → Writing (rest fileStart) (rest c) old buffer p → (p ≡ length (rest fileStart)) × (buffer ≡ over (rest fileStart) old)
+  ended c {old} {buffer} {p} h a =
+      let t : take p buffer ≡ rest fileStart = sym (append-nil (take p buffer)) ∙ ap (λ (x : List ℕ). take p buffer ++ x) (sym (rest-end c h)) ∙ a .done in
+      let n : p ≡ length (rest fileStart) = omega (arith, a .count, ap length (rest-end c h)) in
+      (n, sym (take-append-drop p buffer) ∙ (λ i. t i ++ a .beyond i) ∙ ap (λ (k : ℕ). rest fileStart ++ drop k old) n)

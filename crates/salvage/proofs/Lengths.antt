@@ -7,7 +7,7 @@ use native.Mathlib.Nat.{mul-add}
 use native.Mathlib.Omega.{arith}
 use lib.ListN.{length, take, drop, length-append, length-take}
 use Rattle.block_file.specs.declared.cursor.Cursor.{Cursor}
-use Rattle.block_file.specs.Cursor.{start}
+use Rattle.block_file.specs.Cursor.{fileStart}
 use Rattle.salvage.specs.declared.search.Piece.{Piece}
 use Rattle.salvage.specs.Pieces.{onward, reads, pieceAt, pieces, joined, keptOf, written, droppedOf, dropped}
 use Rattle.salvage.proofs.Cover.{by-pieces}
@@ -26,7 +26,7 @@ joined-short of k file few =
 pub written-short : (file : List ℕ) → length (written file) ≤ length file
 unfolding keptOf
 written-short file =
-    let h = joined-short (keptOf file) 1 file (λ c m. few (reads file c) (onward file c .at - c .at) (drop (c .at) file)) start (omega arith) in
+    let h = joined-short (keptOf file) 1 file (λ c m. few (reads file c) (onward file c .at - c .at) (drop (c .at) file)) fileStart (omega arith) in
     omega (arith, h)
   where
     few : (kept : Bool) (b : ℕ) (l : List ℕ) → length (cond kept (take b l) []) ≤ 1 * b
@@ -36,7 +36,7 @@ written-short file =
 pub dropped-short : (file : List ℕ) → length (dropped file) ≤ 2 * length file
 unfolding droppedOf
 dropped-short file =
-    let h = joined-short droppedOf 2 file (λ c m. few (reads file c) (c .at) (onward file c .at - c .at) (omega arith)) start (omega arith) in
+    let h = joined-short droppedOf 2 file (λ c m. few (reads file c) (c .at) (onward file c .at - c .at) (omega arith)) fileStart (omega arith) in
     omega (arith, h)
   where
     few : (kept : Bool) (a b : ℕ) → 0 < b → length (cond kept [] (a ∷ b ∷ [])) ≤ 2 * b

@@ -3,7 +3,7 @@ use mathlib.Core.Path.{_≡_, refl}
 use mathlib.Core.List.{List, [], _∷_, _++_, map}
 use Prim.Native.Nat.{ℕ}
 use lib.ListN.{take, drop, replicate}
-use Rattle.meaning.specs.Shape.{isSize, isKind, isDepth, most, keeps}
+use Rattle.meaning.specs.Shape.{isSize, isKind, isDepth, mostKept, keeps}
 use Rattle.block_file.specs.Field.{shapeNumber, headerNumber, fieldNumber, fieldAt}
 use Rattle.block_file.specs.Cursor.{foundAt}
 use Rattle.salvage.specs.Pieces.{dataFollows, goesOn, goesOnIn, onward, piecesFrom, pieces, joined, keptOf, written, droppedOf, dropped}
@@ -44,5 +44,5 @@ abbrev got : Case → List ℕ × List ℕ
 got v = (written (v .0), dropped (v .0))
 
 pub cases-hold : map got cases ≡ map (λ (v : Case). v .1) cases
-unfolding isSize isKind isDepth most keeps shapeNumber headerNumber fieldNumber fieldAt foundAt dataFollows goesOn goesOnIn onward piecesFrom pieces joined keptOf droppedOf
+unfolding isSize isKind isDepth mostKept keeps shapeNumber headerNumber fieldNumber fieldAt foundAt dataFollows goesOn goesOnIn onward piecesFrom pieces joined keptOf droppedOf
 cases-hold = refl

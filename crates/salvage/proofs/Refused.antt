@@ -7,14 +7,14 @@ use lib.ListN.{length}
 use Rattle.salvage.specs.declared.saving.Saved.{Saved}
 use Rattle.salvage.specs.Pieces.{written, dropped}
 use Rattle.algebra.specs.Lists.{over}
-use Rattle.salvage.specs.Outcomes.{savedOutcome}
+use Rattle.salvage.specs.Outcomes.{salvageOutcome}
 
 abbrev no : ℕ → Saved
 no number = record { number = number; bytes = 0; stretches = 0 }
 
 module _ (file out list : List ℕ) where
   abbrev Is : Saved → List ℕ → List ℕ → Type 0
-  Is s o l = _≡_ {A = Saved × List ℕ × List ℕ} (s, o, l) (savedOutcome file out list)
+  Is s o l = _≡_ {A = Saved × List ℕ × List ℕ} (s, o, l) (salvageOutcome file out list)
 
   pub is-14 : {s : Saved} → s ≡ no 14 → 65536 < length file → Is s out list
   is-14 e a = rw (e, lt-ltb 65536 (length file) a)

@@ -7,19 +7,19 @@ use native.Mathlib.Omega.{arith}
 use lib.Dec.{eqb}
 use lib.ListN.{length}
 use Rattle.block_file.specs.declared.cursor.Cursor.{Cursor}
-use Rattle.block_file.specs.declared.cursor.Step.{Step}
+use Rattle.block_file.specs.declared.cursor.Advance.{Advance}
 use Rattle.block_file.specs.Field.{isData, isKeeping}
-use Rattle.block_file.specs.Cursor.{start, stepOf}
+use Rattle.block_file.specs.Cursor.{fileStart, advanceOf}
 use Rattle.salvage.specs.Pieces.{dataFollows, goesOn, goesOnIn}
 
 -- ---- what the code computes at an offset
-pub follows-so : (file : List ℕ) (c : Cursor) (a : Step) {r : Bool} → a ≡ stepOf file c → r ≡ (isData (a .tag) || (isKeeping (a .tag) && isData (stepOf file (a .next) .tag))) → r ≡ dataFollows file c
+pub follows-so : (file : List ℕ) (c : Cursor) (a : Advance) {r : Bool} → a ≡ advanceOf file c → r ≡ (isData (a .tag) || (isKeeping (a .tag) && isData (advanceOf file (a .next) .tag))) → r ≡ dataFollows file c
 unfolding dataFollows
-follows-so file c a p e = e ∙ ap (λ (x : Step). isData (x .tag) || (isKeeping (x .tag) && isData (stepOf file (x .next) .tag))) p
+follows-so file c a p e = e ∙ ap (λ (x : Advance). isData (x .tag) || (isKeeping (x .tag) && isData (advanceOf file (x .next) .tag))) p
 
-pub goes-on-so : (file : List ℕ) (at : ℕ) (n : Cursor) (a : Step) {r : Bool} → n ≡ start → a ≡ stepOf file (record { at = at; shape = n .shape }) → r ≡ (eqb (a .tag) 1 && dataFollows file (a .next)) → r ≡ goesOn file at
+pub goes-on-so : (file : List ℕ) (at : ℕ) (n : Cursor) (a : Advance) {r : Bool} → n ≡ fileStart → a ≡ advanceOf file (record { at = at; shape = n .shape }) → r ≡ (eqb (a .tag) 1 && dataFollows file (a .next)) → r ≡ goesOn file at
 unfolding goesOn
-goes-on-so file at n a p q e = e ∙ ap (λ (x : Step). eqb (x .tag) 1 && dataFollows file (x .next)) (q ∙ ap (λ (n : Cursor). stepOf file (record { at = at; shape = n .shape })) p)
+goes-on-so file at n a p q e = e ∙ ap (λ (x : Advance). eqb (x .tag) 1 && dataFollows file (x .next)) (q ∙ ap (λ (n : Cursor). advanceOf file (record { at = at; shape = n .shape })) p)
 
 -- ---- one offset, and then those behind it
 module _ (file : List ℕ) (i : ℕ) where

@@ -15,18 +15,18 @@ use Rattle.salvage.specs.Pieces.{written, dropped}
 abbrev pub places : ℕ
 places = 1024
 
-abbrev pub saveTests : List ℕ → List ℕ → List ℕ → List Refusal
-saveTests file out list =
+abbrev pub salvageTests : List ℕ → List ℕ → List ℕ → List Refusal
+salvageTests file out list =
     test (tooLong file) 14
     ∷ test (ltb (length out) (length file)) 7
     ∷ test (ltb (length list) (2 * places)) 7
     ∷ test (ltb (2 * places) (length (dropped file))) 26
     ∷ []
 
--- what is handed back, and what the two areas hold then
-abbrev pub savedOutcome : List ℕ → List ℕ → List ℕ → Saved × List ℕ × List ℕ
-savedOutcome file out list =
-    firstOf (saveTests file out list) (λ number place. (record { number = number; bytes = 0; stretches = 0 }, out, list)) (
+-- what is handed back, and what the two buffers hold then
+abbrev pub salvageOutcome : List ℕ → List ℕ → List ℕ → Saved × List ℕ × List ℕ
+salvageOutcome file out list =
+    firstOf (salvageTests file out list) (λ number place. (record { number = number; bytes = 0; stretches = 0 }, out, list)) (
       record { number = 0; bytes = length (written file); stretches = length (dropped file) / 2 },
       over (written file) out,
       over (dropped file) list,

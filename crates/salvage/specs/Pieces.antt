@@ -8,20 +8,20 @@ use lib.Dec.{eqb, ltb}
 use lib.ListN.{length, take, drop}
 use Rattle.block_file.specs.declared.cursor.Cursor.{Cursor}
 use Rattle.block_file.specs.Field.{isShape, isData, isKeeping}
-use Rattle.block_file.specs.Cursor.{start, stepOf}
+use Rattle.block_file.specs.Cursor.{fileStart, advanceOf}
 use Rattle.salvage.specs.declared.search.Piece.{Piece}
 
 -- the reader reads a data field, or a tag 04, which belongs to the shape before it, and then a data field. "8 and 9 are not looked
 -- for": the reader does not meet them
 unfoldable pub dataFollows : List ℕ → Cursor → Bool
 dataFollows file cursor =
-    let field = stepOf file cursor in
-    isData (field .tag) || (isKeeping (field .tag) && isData (stepOf file (field .next) .tag))
+    let field = advanceOf file cursor in
+    isData (field .tag) || (isKeeping (field .tag) && isData (advanceOf file (field .next) .tag))
 
 -- put at a place with no shape, it reads a tag 01 before them
 unfoldable pub goesOn : List ℕ → ℕ → Bool
 goesOn file at =
-    let shape = stepOf file (record { at = at; shape = start .shape }) in
+    let shape = advanceOf file (record { at = at; shape = fileStart .shape }) in
     isShape (shape .tag) && dataFollows file (shape .next)
 
 -- the first of the k offsets from `at` on at which reading goes on, or the one behind them
@@ -38,12 +38,12 @@ nextAfter file at = goesOnIn (length file - (at + 1)) file (at + 1)
 -- whether the reader reads the field at a cursor, and the cursor from which it goes on: the shape that is held behind a dropped
 -- stretch gives way to the one that is read there
 abbrev pub reads : List ℕ → Cursor → Bool
-reads file cursor = eqb (stepOf file cursor .number) 0
+reads file cursor = eqb (advanceOf file cursor .number) 0
 
 unfoldable pub onward : List ℕ → Cursor → Cursor
 onward file cursor =
     let lost = nextAfter file (cursor .at) in
-    cond (reads file cursor) (stepOf file cursor .next) (record { at = lost; shape = cursor .shape })
+    cond (reads file cursor) (advanceOf file cursor .next) (record { at = lost; shape = cursor .shape })
 
 abbrev pub pieceAt : List ℕ → Cursor → Piece
 pieceAt file cursor = record { offset = cursor .at; bytes = onward file cursor .at - cursor .at; kept = reads file cursor }
@@ -72,14 +72,14 @@ unfoldable pub keptOf : List ℕ → Piece → List ℕ
 keptOf file p = cond (p .kept) (pieceBytes file p) []
 
 abbrev pub written : List ℕ → List ℕ
-written file = joined (keptOf file) (pieces file start)
+written file = joined (keptOf file) (pieces file fileStart)
 
 -- "list each dropped stretch by offset and length"
 unfoldable pub droppedOf : Piece → List ℕ
 droppedOf p = cond (p .kept) [] (p .offset ∷ p .bytes ∷ [])
 
 abbrev pub dropped : List ℕ → List ℕ
-dropped file = joined droppedOf (pieces file start)
+dropped file = joined droppedOf (pieces file fileStart)
 
 -- "Kept and dropped stretches together cover the file once, in order": each piece has bytes and starts where the last one
 -- ended, from one place to another
@@ -87,10 +87,10 @@ abbrev pub Covers : ℕ → List Piece → ℕ → Type 0
 Covers at [] end = at ≡ end
 Covers at (p ∷ ps) end = (p .offset ≡ at) × (0 < p .bytes) × Covers (at + p .bytes) ps end
 
--- "an undamaged file": the reader meets no refusal in k steps. At the end of the file it stays, with number 0
+-- "an undamaged file": the reader meets no refusal in k advances. At the end of the file it stays, with number 0
 unfoldable pub readsAll : ℕ → List ℕ → Cursor → Bool
 readsAll zero file cursor = true
-readsAll (suc k) file cursor = reads file cursor && readsAll k file (stepOf file cursor .next)
+readsAll (suc k) file cursor = reads file cursor && readsAll k file (advanceOf file cursor .next)
 
 abbrev pub undamaged : List ℕ → Bool
-undamaged file = readsAll (length file) file start
+undamaged file = readsAll (length file) file fileStart

@@ -10,7 +10,7 @@ ghost use lib.ListN.{length};
 ghost use Rattle.algebra.specs.Lists.{over};
 ghost use Rattle.block_text.specs.Wrote.{Wrote};
 ghost use Rattle.salvage.specs.Pieces.{keptOf, written, droppedOf, dropped};
-ghost use Rattle.salvage.specs.Outcomes.{savedOutcome};
+ghost use Rattle.salvage.specs.Outcomes.{salvageOutcome};
 
 /// The number of the refusal or 0, how many bytes the new file has, and how many stretches were dropped.
 #[repr(C)]
@@ -70,7 +70,7 @@ fn keep(file: &[u8], piece: Piece, out: &mut [u8], at: usize) -> usize
     copy(&file[start..end], out, at)
 }
 
-// Puts the new file at the start of an area that has room for the old one, and returns its length.
+// Puts the new file at the start of a buffer that has room for the old one, and returns its length.
 fn put_kept(file: &[u8], out: &mut [u8]) -> usize
     requires { ⌜ length (now file) ≤ length (now out) ⌝ }
     ensures { λ r. ⌜ (r ≡ length (written (now (file .entry)))) × (now (out .exit) ≡ over (written (now (file .entry))) (now (out .entry))) ⌝ }
@@ -98,7 +98,7 @@ fn list_stretch(piece: Piece, list: &mut [u32], at: usize) -> usize
     next + 1
 }
 
-// Puts the list at the start of an area that has room for it, and returns its length.
+// Puts the list at the start of a buffer that has room for it, and returns its length.
 fn put_dropped(file: &[u8], list: &mut [u32]) -> usize
     requires { ⌜ (length (now file) ≤ 65536) × (length (dropped (now file)) ≤ length (now list)) ⌝ }
     ensures { λ r. ⌜ (r ≡ length (dropped (now (file .entry)))) × (now (list .exit) ≡ over (dropped (now (file .entry))) (now (list .entry))) ⌝ }
@@ -124,9 +124,9 @@ fn refused(number: u32) -> Saved
 }
 
 /// Writes what can be saved of a block file to the start of `out`, and each dropped stretch, its offset and its length, to the
-/// start of `list`. Any bytes, and areas of any length.
+/// start of `list`. Any bytes, and buffers of any length.
 pub fn salvage(file: &[u8], out: &mut [u8], list: &mut [u32]) -> Saved
-    ensures { λ r. ⌜ _≡_ {A = Saved × List ℕ × List ℕ} (r, now (out .exit), now (list .exit)) (savedOutcome (now (file .entry)) (now (out .entry)) (now (list .entry))) ⌝ }
+    ensures { λ r. ⌜ _≡_ {A = Saved × List ℕ × List ℕ} (r, now (out .exit), now (list .exit)) (salvageOutcome (now (file .entry)) (now (out .entry)) (now (list .entry))) ⌝ }
 {
     if file.len() > 65536 {
         return refused(14);

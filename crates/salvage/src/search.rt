@@ -1,11 +1,11 @@
 // The pieces of a file, one by one, and the search behind a place where reading stops.
+use block_file::cursor::Advance;
 use block_file::cursor::Cursor;
-use block_file::cursor::Step;
 ghost use mathlib.Core.Path.{_≡_};
 ghost use Prim.Native.Nat.{_≤_, _<_};
 ghost use lib.ListN.{length};
 ghost use Rattle.block_file.specs.Field.{isData};
-ghost use Rattle.block_file.specs.Cursor.{stepOf};
+ghost use Rattle.block_file.specs.Cursor.{advanceOf};
 ghost use Rattle.salvage.specs.Pieces.{dataFollows, goesOn, nextAfter, onward, pieceAt};
 
 // A field that was read, or a stretch that is dropped.
@@ -33,7 +33,7 @@ fn is_data(tag: u32) -> bool
 fn data_follows(file: &[u8], cursor: Cursor) -> bool
     ensures { λ r. ⌜ r ≡ dataFollows (now (file .entry)) cursor ⌝ }
 {
-    let field = cursor.step(file);
+    let field = cursor.advance(file);
     if is_data(field.tag) {
         return true;
     }
@@ -41,7 +41,7 @@ fn data_follows(file: &[u8], cursor: Cursor) -> bool
         return false;
     }
     let next = field.next;
-    let last = next.step(file);
+    let last = next.advance(file);
     is_data(last.tag)
 }
 
@@ -51,7 +51,7 @@ fn goes_on(file: &[u8], at: usize) -> bool
     let start = Cursor::new();
     let shape = start.shape;
     let here = Cursor { at, shape };
-    let first = here.step(file);
+    let first = here.advance(file);
     if first.tag != 1 {
         return false;
     }
@@ -72,12 +72,12 @@ fn next_after(file: &[u8], at: usize) -> usize
     i
 }
 
-fn onward(file: &[u8], cursor: Cursor, step: Step) -> Cursor
-    requires { ⌜ (cursor .at < length (now file)) × (step ≡ stepOf (now file) cursor) ⌝ }
+fn onward(file: &[u8], cursor: Cursor, advance: Advance) -> Cursor
+    requires { ⌜ (cursor .at < length (now file)) × (advance ≡ advanceOf (now file) cursor) ⌝ }
     ensures { λ r. ⌜ (r ≡ onward (now (file .entry)) cursor) × ((cursor .at < r .at) × (r .at ≤ length (now (file .entry)))) ⌝ }
 {
-    if step.number == 0 {
-        return step.next;
+    if advance.number == 0 {
+        return advance.next;
     }
     let shape = cursor.shape;
     Cursor {
@@ -90,13 +90,13 @@ pub fn piece_at(file: &[u8], cursor: Cursor) -> Found
     requires { ⌜ cursor .at < length (now file) ⌝ }
     ensures { λ r. ⌜ (r .piece ≡ pieceAt (now (file .entry)) cursor) × ((r .next ≡ onward (now (file .entry)) cursor) × ((cursor .at < r .next .at) × (r .next .at ≤ length (now (file .entry))))) ⌝ }
 {
-    let step = cursor.step(file);
-    let next = onward(file, cursor, step);
+    let advance = cursor.advance(file);
+    let next = onward(file, cursor, advance);
     let offset = cursor.at;
     let piece = Piece {
         offset,
         bytes: next.at - offset,
-        kept: step.number == 0,
+        kept: advance.number == 0,
     };
     Found { piece, next }
 }

@@ -14,7 +14,7 @@ use lib.Seq.{ext-getD}
 use Rattle.algebra.specs.Lists.{at, tabulate, flat}
 use Rattle.algebra.specs.Refusals.{Refusal}
 use Rattle.algebra.proofs.Lists.{flat-at}
-use Rattle.meaning.specs.Shape.{isSize, isKind, isDepth, most, keeps}
+use Rattle.meaning.specs.Shape.{isSize, isKind, isDepth, mostKept, keeps}
 use Rattle.meaning.specs.Plan.{planOf}
 use Rattle.meaning.specs.Answer.{outcome, test, accepted}
 use Rattle.meaning.specs.Inverse.{firstOutside, rails, inverseBlock}
@@ -45,7 +45,7 @@ module _ (b : List (List ℤ)) (h v d : ℕ) (long : length (flat b) ≡ 16) whe
 
   none-found : ltb (firstOutside (planOf (smallShape h v d)) (flat b)) 16 ≡ false
   none-found =
-      let all : (k : ℕ) → 4 ≤ most k 4 = λ k. omega (arith, most-all k 4 (omega arith)) in
+      let all : (k : ℕ) → 4 ≤ mostKept k 4 = λ k. omega (arith, most-all k 4 (omega arith)) in
       let e = none-outside (planOf (smallShape h v d)) (flat b) long (whole (flat b)) (all h) (all v) in
       le-ltb (firstOutside (planOf (smallShape h v d)) (flat b)) 16 (omega (arith, e))
 

@@ -11,11 +11,11 @@ use borrow.Author.Tests.{eqb-true, ne-eqb}
 use Rattle.algebra.specs.Lists.{at}
 use Rattle.algebra.specs.Refusals.{numberOf}
 use Rattle.meaning.specs.Line.{forwardLine}
-use Rattle.steps.specs.Steps.{Step, add, sub, neg, mul, products}
+use Rattle.steps.specs.Steps.{Step, add, sub, neg, mul, multiplying}
 use Rattle.steps.specs.Numbers.{cellOf, decode, encode, listOf}
 use Rattle.steps.specs.Outcome.{Sixteen, stepsOutcome}
 use Rattle.steps.proofs.Computed.{Right}
-use Rattle.step_lists.specs.Listed.{isListed, listFor, handedList, listOutcome, multiplications, stepLineTests, stepLine}
+use Rattle.step_lists.specs.Listed.{isListed, listFor, handedList, listOutcome, countOf, stepLineTests, stepLine}
 
 -- ---- from numbers back to the list
 decode-encode : (ss : List Step) → decode (encode ss) ≡ ss
@@ -35,7 +35,7 @@ module _ (n : ℕ) (s o : List ℤ) (e : s ≡ encode (listFor n .steps)) (f : o
   list-back =
       λ i. record { inputs = listFor n .inputs; cells = listFor n .cells; steps = (ap decode e ∙ decode-encode (listFor n .steps)) i; outs = (ap (map cellOf) f ∙ cells-of (listFor n .outs)) i }
 
-  pub by-list : Right n (listFor n) → products (listFor n .steps) ≡ multiplications n → (x y : List ℤ) → length x ≡ n → length y ≡ n → Sixteen x → stepsOutcome (listOf (listFor n .inputs) (listFor n .cells) s o) x y ≡ stepLine n x
+  pub by-list : Right n (listFor n) → multiplying (listFor n .steps) ≡ countOf n → (x y : List ℤ) → length x ≡ n → length y ≡ n → Sixteen x → stepsOutcome (listOf (listFor n .inputs) (listFor n .cells) s o) x y ≡ stepLine n x
   by-list r c x y l m h = ap (λ p. stepsOutcome p x y) list-back ∙ r .runs x y l m h ∙ (λ i. (record { number = 0; count = c i }, forwardLine 1 n (at x)))
 
   pub handed-list : isListed n ≡ true → (steps outs : List ℤ) → handedList (listFor n .inputs) (listFor n .cells) s o steps outs ≡ listOutcome n steps outs

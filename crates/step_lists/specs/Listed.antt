@@ -49,12 +49,12 @@ abbrev pub stepLineTests : ℕ → ℕ → ℕ → List Refusal
 stepLineTests n input output = test (not (isListed n)) 1 ∷ lengthTests n input output
 
 -- "The multiplying steps in the lists number at most 8, 127 and 620"
-abbrev pub multiplications : ℕ → ℕ
-multiplications n = cond (eqb n 4) 8 (cond (eqb n 16) 127 620)
+abbrev pub countOf : ℕ → ℕ
+countOf n = cond (eqb n 4) 8 (cond (eqb n 16) 127 620)
 
 -- the full product, and as many multiplying steps as the list has
 abbrev pub stepLine : ℕ → List ℤ → Result
-stepLine n x = (record { number = 0; count = multiplications n }, forwardLine 1 n (at x))
+stepLine n x = (record { number = 0; count = countOf n }, forwardLine 1 n (at x))
 
 unfoldable pub stepLineOutcome : ℕ → List ℤ → List ℤ → Result
 stepLineOutcome n x y = firstOf (stepLineTests n (length x) (length y)) (λ number place. untouched y number) (stepLine n x)

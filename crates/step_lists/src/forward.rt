@@ -7,7 +7,7 @@ use crate::stored::steps_4;
 use crate::stored::steps_16;
 use crate::stored::steps_32;
 use step_run::run::run;
-use steps::Taken;
+use steps::StepCount;
 ghost use mathlib.Core.Path.{_≡_};
 ghost use Prim.Native.Nat.{_≤_};
 ghost use lib.IntN.{natAbs};
@@ -50,7 +50,7 @@ fn refusal(n: u32, input: usize, output: usize) -> u32
 }
 
 // A line that is not refused.
-fn accepted(n: u32, x: &[i16], y: &mut [i32]) -> Taken
+fn accepted(n: u32, x: &[i16], y: &mut [i32]) -> StepCount
     requires { ⌜ numberOf (stepLineTests n (length (now x)) (length (now y))) ≡ 0 ⌝ }
     ensures { λ r. ⌜ _≡_ {A = Result} (r, now (y .exit)) (stepLine n (now (x .entry))) ⌝ }
 {
@@ -71,12 +71,12 @@ fn accepted(n: u32, x: &[i16], y: &mut [i32]) -> Taken
 }
 
 /// The forward DST-VII line of n points by its list of steps, n being 4, 16 or 32.
-pub fn forward(n: u32, x: &[i16], y: &mut [i32]) -> Taken
+pub fn forward(n: u32, x: &[i16], y: &mut [i32]) -> StepCount
     ensures { λ r. ⌜ _≡_ {A = Result} (r, now (y .exit)) (stepLineOutcome n (now (x .entry)) (now (y .entry))) ⌝ }
 {
     let number = refusal(n, x.len(), y.len());
     if number != 0 {
-        return Taken { number, count: 0 };
+        return StepCount { number, count: 0 };
     }
     accepted(n, x, y)
 }

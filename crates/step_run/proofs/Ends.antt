@@ -10,7 +10,7 @@ use lib.IntN.{ℤ, pos}
 use lib.ListN.{length, drop, replicate}
 use borrow.Author.Tests.{ltb-false, eqb-true}
 use Rattle.algebra.specs.Refusals.{numberOf}
-use Rattle.steps.specs.Steps.{State, Run, refused, ran, andThen, run, start, finished, whole}
+use Rattle.steps.specs.Steps.{State, Run, refused, ran, andThen, run, firstState, finished, wholeRun}
 use Rattle.steps.specs.Numbers.{cellOf, decode, listOf}
 use Rattle.steps.specs.Outcome.{Result, untouched, listTests, given, wholeNumbers}
 use Rattle.step_run.specs.Parts.{state, tell, outsRefusal, readings}
@@ -52,7 +52,7 @@ drop-same (suc k) zero a = ap (λ m. replicate m a) (sym (zero-sub (suc k)))
 drop-same (suc k) (suc n) a = drop-same k n a ∙ ap (λ m. replicate m a) (sym (suc-sub-suc n k))
 
 pub started : (x v : List ℤ) (w : List Bool) → v ≡ x ++ drop (length x) (replicate 2048 (pos 0)) → w ≡ replicate (length x) true ++ drop (length x) (replicate 2048 false)
-    → state v w 0 ≡ start wholeNumbers x
+    → state v w 0 ≡ firstState wholeNumbers x
 started x v w e f =
     λ i. record {
       values = (e ∙ (λ j. x ++ drop-same (length x) 2048 (pos 0) j)) i;
@@ -72,7 +72,7 @@ untold (suc k) a h = absurd (omega arith)
 module _ (n : ℕ) (outs y v : List ℤ) (w : List Bool) (c : ℕ) where
   -- the output cells: the first that is refused, or what they hold
   abbrev last : Run (List ℤ) → Result
-  last r = given y (andThen r (λ l. ran (record { outs = l; took = c })))
+  last r = given y (andThen r (λ l. ran (record { outs = l; count = c })))
 
   pub not-read : (q : ℕ) → q ≡ outsRefusal n w outs → (q ≡ 0 → ⊥) → untouched y q ≡ given y (finished wholeNumbers n (map cellOf outs) (state v w c))
   not-read q u h = ap last (told q (readings v outs) h ∙ ap (λ m. tell m (readings v outs)) u ∙ read-outs n v w c outs)
@@ -81,12 +81,12 @@ module _ (n : ℕ) (outs y v : List ℤ) (w : List Bool) (c : ℕ) where
   all-read q u z = ap last (untold q (readings v outs) z ∙ ap (λ m. tell m (readings v outs)) u ∙ read-outs n v w c outs)
 
   -- the steps: the first that is refused, or the output cells
-  module _ (s x : List ℤ) (q : ℕ) (e : tell q (state v w c) ≡ run wholeNumbers n (decode s) (start wholeNumbers x)) where
+  module _ (s x : List ℤ) (q : ℕ) (e : tell q (state v w c) ≡ run wholeNumbers n (decode s) (firstState wholeNumbers x)) where
     abbrev rest : Run (State ℤ) → Result
     rest r = given y (andThen r (λ st. finished wholeNumbers n (map cellOf outs) st))
 
-    pub stopped : (q ≡ 0 → ⊥) → untouched y q ≡ given y (whole wholeNumbers (listOf (length x) n s outs) x)
+    pub stopped : (q ≡ 0 → ⊥) → untouched y q ≡ given y (wholeRun wholeNumbers (listOf (length x) n s outs) x)
     stopped h = ap rest (told q (state v w c) h ∙ e)
 
-    pub went-on : q ≡ 0 → {o : Result} → o ≡ given y (finished wholeNumbers n (map cellOf outs) (state v w c)) → o ≡ given y (whole wholeNumbers (listOf (length x) n s outs) x)
+    pub went-on : q ≡ 0 → {o : Result} → o ≡ given y (finished wholeNumbers n (map cellOf outs) (state v w c)) → o ≡ given y (wholeRun wholeNumbers (listOf (length x) n s outs) x)
     went-on z f = f ∙ ap rest (untold q (state v w c) z ∙ e)

@@ -19,7 +19,7 @@ use Rattle.algebra.specs.Equal.{eqZ}
 use Rattle.algebra.specs.Lists.{at, tabulate}
 use Rattle.algebra.proofs.Lists.{tabulated}
 use Rattle.algebra.proofs.Table.{eqZ-no}
-use Rattle.steps.specs.Steps.{Step, add, sub, neg, mul, State, Run, refused, ran, andThen, muls, step, run, outputs}
+use Rattle.steps.specs.Steps.{Step, add, sub, neg, mul, State, Run, refused, ran, andThen, multiplies, step, run, outputs}
 use Rattle.steps.specs.Outcome.{fits32, wholeNumbers}
 use Rattle.steps.specs.Numbers.{cellOf, stepFrom, decode}
 use Rattle.step_run.specs.Parts.{stepAt, readsTwo, combined, state, tell, outsRefusal, readings}
@@ -63,7 +63,7 @@ stepped n v w t a b z c =
 
 pub step-parts : (o : ℤ) (t a : ℕ) (d : ℤ) (n : ℕ) (v : List ℤ) (w : List Bool) (c : ℕ)
     → step wholeNumbers n (state v w c) (stepFrom o t a d)
-    ≡ stepped n v w t a (cond (readsTwo o) (cellOf d) a) (combined o (at v a) (cond (readsTwo o) (at v (cond (readsTwo o) (cellOf d) a)) d)) (c + muls (stepFrom o t a d))
+    ≡ stepped n v w t a (cond (readsTwo o) (cellOf d) a) (combined o (at v a) (cond (readsTwo o) (at v (cond (readsTwo o) (cellOf d) a)) d)) (c + multiplies (stepFrom o t a d))
 step-parts o t a d n v w c = go (eqZ o (pos 0)) (eqZ o (pos 1)) (eqZ o (pos 2))
   where
     go : (x y z : Bool)
@@ -71,7 +71,7 @@ step-parts o t a d n v w c = go (eqZ o (pos 0)) (eqZ o (pos 1)) (eqZ o (pos 2))
         ≡ stepped n v w t a (cond (x || y) (cellOf d) a)
         (cond x (at v a +ℤ cond (x || y) (at v (cond (x || y) (cellOf d) a)) d)
         (cond y (at v a -ℤ cond (x || y) (at v (cond (x || y) (cellOf d) a)) d) (cond z (negℤ (at v a)) (cond (x || y) (at v (cond (x || y) (cellOf d) a)) d *ℤ at v a))))
-        (c + muls (cond x (add t a (cellOf d)) (cond y (sub t a (cellOf d)) (cond z (neg t a) (mul t a d)))))
+        (c + multiplies (cond x (add t a (cellOf d)) (cond y (sub t a (cellOf d)) (cond z (neg t a) (mul t a d)))))
     go true y z = refl
     go false true z = refl
     go false false true = rw (and-self (ltb a n), and-self (getD w a false))
@@ -126,15 +126,15 @@ module _ (n : ℕ) (s : List ℤ) (i : ℕ) (st : State ℤ) where
   ends h = sym (ap (λ (es : List Step). run wholeNumbers n es st) (decode-end (drop i s) (omega (arith, length-drop i s))))
 
   -- the same, with the count as the code has it
-  pub goes-counted : (r : ℕ) (v : List ℤ) (w : List Bool) (c m : ℕ) → i + 4 ≤ length s → r ≡ 0 → m ≡ muls (stepAt s i)
-      → tell r (state v w (c + muls (stepAt s i))) ≡ step wholeNumbers n st (stepAt s i) → run wholeNumbers n (decode (drop (i + 4) s)) (state v w (c + m)) ≡ run wholeNumbers n (decode (drop i s)) st
+  pub goes-counted : (r : ℕ) (v : List ℤ) (w : List Bool) (c m : ℕ) → i + 4 ≤ length s → r ≡ 0 → m ≡ multiplies (stepAt s i)
+      → tell r (state v w (c + multiplies (stepAt s i))) ≡ step wholeNumbers n st (stepAt s i) → run wholeNumbers n (decode (drop (i + 4) s)) (state v w (c + m)) ≡ run wholeNumbers n (decode (drop i s)) st
   goes-counted r v w c m h z q e =
-      ap (λ (k : ℕ). run wholeNumbers n (decode (drop (i + 4) s)) (state v w (c + k))) q ∙ goes-on r (state v w (c + muls (stepAt s i))) h z e
+      ap (λ (k : ℕ). run wholeNumbers n (decode (drop (i + 4) s)) (state v w (c + k))) q ∙ goes-on r (state v w (c + multiplies (stepAt s i))) h z e
 
 -- a step that is written in two ways
-pub step-moved : (n : ℕ) (v v′ : List ℤ) (w w′ : List Bool) (r : ℕ) (e f : Step) → e ≡ f → ((k : ℕ) → tell r (state v′ w′ (k + muls e)) ≡ step wholeNumbers n (state v w k) e)
-    → (k : ℕ) → tell r (state v′ w′ (k + muls f)) ≡ step wholeNumbers n (state v w k) f
-step-moved n v v′ w w′ r e f p h k = subst (λ (g : Step). tell r (state v′ w′ (k + muls g)) ≡ step wholeNumbers n (state v w k) g) p (h k)
+pub step-moved : (n : ℕ) (v v′ : List ℤ) (w w′ : List Bool) (r : ℕ) (e f : Step) → e ≡ f → ((k : ℕ) → tell r (state v′ w′ (k + multiplies e)) ≡ step wholeNumbers n (state v w k) e)
+    → (k : ℕ) → tell r (state v′ w′ (k + multiplies f)) ≡ step wholeNumbers n (state v w k) f
+step-moved n v v′ w w′ r e f p h k = subst (λ (g : Step). tell r (state v′ w′ (k + multiplies g)) ≡ step wholeNumbers n (state v w k) g) p (h k)
 
 -- ---- the output cells
 pub unread-next : (n : ℕ) (w : List Bool) (os : List ℤ) (i : ℕ) → i < length os

@@ -2,7 +2,7 @@
 use crate::arith::cell;
 use crate::step::multiplies;
 use crate::step::next;
-use steps::Taken;
+use steps::StepCount;
 ghost use mathlib.Core.Path.{_≡_};
 ghost use mathlib.Core.Bool.{true};
 ghost use mathlib.Core.List.{map, _++_};
@@ -10,7 +10,7 @@ ghost use Prim.Native.Nat.{_<_, _≤_};
 ghost use lib.ListN.{length, drop, replicate};
 ghost use Rattle.algebra.specs.Lists.{at};
 ghost use Rattle.algebra.specs.Refusals.{numberOf};
-ghost use Rattle.steps.specs.Steps.{run, finished, whole};
+ghost use Rattle.steps.specs.Steps.{run, finished, wholeRun};
 ghost use Rattle.steps.specs.Numbers.{cellOf, decode, listOf};
 ghost use Rattle.steps.specs.Outcome.{Result, wholeNumbers, listTests, given, stepsOutcome};
 ghost use Rattle.step_run.specs.Parts.{state, tell, outsRefusal, readings};
@@ -58,7 +58,7 @@ fn load(x: &[i16], values: &mut [i32], written: &mut [bool])
 }
 
 // Every step, to the first that is refused.
-fn follow(steps: &[i32], n: usize, values: &mut [i32], written: &mut [bool]) -> Taken
+fn follow(steps: &[i32], n: usize, values: &mut [i32], written: &mut [bool]) -> StepCount
     requires { ⌜ (length (now steps) < 8196) × ((n ≤ length (now values)) × (n ≤ length (now written))) ⌝ }
     ensures { λ r. ⌜ tell (r .number) (state (now (values .exit)) (now (written .exit)) (r .count)) ≡ run wholeNumbers n (decode (now (steps .entry))) (state (now (values .entry)) (now (written .entry)) 0) ⌝ }
 {
@@ -67,12 +67,12 @@ fn follow(steps: &[i32], n: usize, values: &mut [i32], written: &mut [bool]) -> 
     while 4 <= steps.len() - i {
         let number = next(steps, i, n, values, written);
         if number != 0 {
-            return Taken { number, count: 0 };
+            return StepCount { number, count: 0 };
         }
         count += multiplies(steps, i);
         i += 4;
     }
-    Taken { number: 0, count }
+    StepCount { number: 0, count }
 }
 
 // The first output cell that is refused: its number, or 0.
@@ -125,22 +125,22 @@ fn finish(
     written: &[bool],
     count: u32,
     y: &mut [i32],
-) -> Taken
+) -> StepCount
     requires { ⌜ (n ≤ length (now written)) × (length (now y) ≡ length (now outs)) ⌝ }
     ensures { λ r. ⌜ _≡_ {A = Result} (r, now (y .exit)) (given (now (y .entry)) (finished wholeNumbers n (map cellOf (now (outs .entry))) (state (now (values .entry)) (now (written .entry)) count))) ⌝ }
 {
     let number = unread(outs, n, written);
     if number != 0 {
-        return Taken { number, count: 0 };
+        return StepCount { number, count: 0 };
     }
     hand_over(outs, values, y);
-    Taken { number: 0, count }
+    StepCount { number: 0, count }
 }
 
 // A list that is not refused before its first step.
-fn accepted(n: usize, steps: &[i32], outs: &[i32], x: &[i16], y: &mut [i32]) -> Taken
+fn accepted(n: usize, steps: &[i32], outs: &[i32], x: &[i16], y: &mut [i32]) -> StepCount
     requires { ⌜ ((length (now steps) < 8196) × (n ≤ 2048)) × ((length (now x) ≤ n) × (length (now y) ≡ length (now outs))) ⌝ }
-    ensures { λ r. ⌜ _≡_ {A = Result} (r, now (y .exit)) (given (now (y .entry)) (whole wholeNumbers (listOf (length (now (x .entry))) n (now (steps .entry)) (now (outs .entry))) (now (x .entry)))) ⌝ }
+    ensures { λ r. ⌜ _≡_ {A = Result} (r, now (y .exit)) (given (now (y .entry)) (wholeRun wholeNumbers (listOf (length (now (x .entry))) n (now (steps .entry)) (now (outs .entry))) (now (x .entry)))) ⌝ }
 {
     let mut values: [i32; 2048] = [0; 2048];
     let mut written: [bool; 2048] = [false; 2048];
@@ -149,13 +149,20 @@ fn accepted(n: usize, steps: &[i32], outs: &[i32], x: &[i16], y: &mut [i32]) -> 
     let number = taken.number;
     let count = taken.count;
     if number != 0 {
-        return Taken { number, count: 0 };
+        return StepCount { number, count: 0 };
     }
     finish(outs, n, &values, &written, count, y)
 }
 
 /// Runs a list of steps: four numbers to a step in `steps`, the output cells in `outs`.
-pub fn run(inputs: u32, cells: u32, steps: &[i32], outs: &[i32], x: &[i16], y: &mut [i32]) -> Taken
+pub fn run(
+    inputs: u32,
+    cells: u32,
+    steps: &[i32],
+    outs: &[i32],
+    x: &[i16],
+    y: &mut [i32],
+) -> StepCount
     ensures { λ r. ⌜ _≡_ {A = Result} (r, now (y .exit)) (stepsOutcome (listOf inputs cells (now (steps .entry)) (now (outs .entry))) (now (x .entry)) (now (y .entry))) ⌝ }
 {
     let number = refusal(
@@ -167,7 +174,7 @@ pub fn run(inputs: u32, cells: u32, steps: &[i32], outs: &[i32], x: &[i16], y: &
         y.len(),
     );
     if number != 0 {
-        return Taken { number, count: 0 };
+        return StepCount { number, count: 0 };
     }
     accepted(cells as usize, steps, outs, x, y)
 }

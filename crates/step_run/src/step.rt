@@ -10,7 +10,7 @@ ghost use Prim.Native.Nat.{ℕ, _+_, _<_, _≤_};
 ghost use lib.Dec.{ltb};
 ghost use lib.ListN.{length, set, getD};
 ghost use Rattle.algebra.specs.Lists.{at};
-ghost use Rattle.steps.specs.Steps.{ran, refused, muls, step};
+ghost use Rattle.steps.specs.Steps.{ran, refused, multiplies, step};
 ghost use Rattle.steps.specs.Numbers.{cellOf, stepFrom};
 ghost use Rattle.steps.specs.Outcome.{fits32, wholeNumbers};
 ghost use Rattle.step_run.specs.Parts.{stepAt, state, tell};
@@ -82,7 +82,7 @@ fn one(
     written: &mut [bool],
 ) -> u32
     requires { ⌜ (n ≤ length (now values)) × (n ≤ length (now written)) ⌝ }
-    ensures { λ r. ⌜ ((c : ℕ) → tell r (state (now (values .exit)) (now (written .exit)) (c + muls (stepFrom o t a d))) ≡ step wholeNumbers n (state (now (values .entry)) (now (written .entry)) c) (stepFrom o t a d)) ⌝ }
+    ensures { λ r. ⌜ ((c : ℕ) → tell r (state (now (values .exit)) (now (written .exit)) (c + multiplies (stepFrom o t a d))) ≡ step wholeNumbers n (state (now (values .entry)) (now (written .entry)) c) (stepFrom o t a d)) ⌝ }
 {
     let two = reads_two(o);
     let b = second(two, d, a);
@@ -100,7 +100,7 @@ fn one(
 // The step that starts at place i.
 pub fn next(steps: &[i32], i: usize, n: usize, values: &mut [i32], written: &mut [bool]) -> u32
     requires { ⌜ (i + 4 ≤ length (now steps)) × ((n ≤ length (now values)) × (n ≤ length (now written))) ⌝ }
-    ensures { λ r. ⌜ ((c : ℕ) → tell r (state (now (values .exit)) (now (written .exit)) (c + muls (stepAt (now (steps .entry)) i))) ≡ step wholeNumbers n (state (now (values .entry)) (now (written .entry)) c) (stepAt (now (steps .entry)) i)) ⌝ }
+    ensures { λ r. ⌜ ((c : ℕ) → tell r (state (now (values .exit)) (now (written .exit)) (c + multiplies (stepAt (now (steps .entry)) i))) ≡ step wholeNumbers n (state (now (values .entry)) (now (written .entry)) c) (stepAt (now (steps .entry)) i)) ⌝ }
 {
     let t = cell(steps[i + 1]);
     let a = cell(steps[i + 2]);
@@ -110,7 +110,7 @@ pub fn next(steps: &[i32], i: usize, n: usize, values: &mut [i32], written: &mut
 // 1 where the step that starts at place i multiplies.
 pub fn multiplies(steps: &[i32], i: usize) -> u32
     requires { ⌜ i + 4 ≤ length (now steps) ⌝ }
-    ensures { λ r. ⌜ (r ≡ muls (stepAt (now (steps .entry)) i)) × (r ≤ 1) ⌝ }
+    ensures { λ r. ⌜ (r ≡ multiplies (stepAt (now (steps .entry)) i)) × (r ≤ 1) ⌝ }
 {
     let o = steps[i];
     if o == 0 {

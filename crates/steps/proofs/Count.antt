@@ -6,7 +6,7 @@ use mathlib.Core.List.{List, [], _∷_}
 use Prim.Native.Nat.{ℕ, _+_}
 use native.Mathlib.Nat.{add-zero, add-assoc, zero-add}
 use lib.Dec.{T}
-use Rattle.steps.specs.Steps.{Step, StepList, Carrier, State, Done, Run, refused, ran, andThen, inside, known, muls, products, result, wrote, step, run, outputs, start, finished, whole}
+use Rattle.steps.specs.Steps.{Step, StepList, Carrier, State, Done, Run, refused, ran, andThen, inside, known, multiplies, multiplying, result, wrote, step, run, outputs, firstState, finished, wholeRun}
 
 -- what holds of a run that is not refused
 abbrev pub Holds : {A : Type 0} → (A → Type 0) → Run A → Type 0
@@ -36,20 +36,20 @@ module _ {A : Type 0} (K : Carrier A) (n : ℕ) where
   run-holds P next [] s p = p
   run-holds P next (e ∷ es) s p = after-holds (P es) (P []) (step K n s e) (λ t. run K n es t) (λ t q. run-holds P next es t q) (step-holds (P es) s e (λ f. next e es s f p))
 
-  run-count : (es : List Step) (s : State A) (m : ℕ) → s .count + products es ≡ m → Holds (λ t. t .count + products [] ≡ m) (run K n es s)
-  unfolding products
-  run-count es s m e = run-holds (λ es t. t .count + products es ≡ m) more es s e
+  run-count : (es : List Step) (s : State A) (m : ℕ) → s .count + multiplying es ≡ m → Holds (λ t. t .count + multiplying [] ≡ m) (run K n es s)
+  unfolding multiplying
+  run-count es s m e = run-holds (λ es t. t .count + multiplying es ≡ m) more es s e
     where
-      more : (e : Step) (es : List Step) (s : State A) → T (K .fits (result K n (s .values) e)) → s .count + products (e ∷ es) ≡ m → s .count + muls e + products es ≡ m
-      more e es s f p = add-assoc (s .count) (muls e) (products es) ∙ p
+      more : (e : Step) (es : List Step) (s : State A) → T (K .fits (result K n (s .values) e)) → s .count + multiplying (e ∷ es) ≡ m → s .count + multiplies e + multiplying es ≡ m
+      more e es s f p = add-assoc (s .count) (multiplies e) (multiplying es) ∙ p
 
-pub whole-count : {A : Type 0} (K : Carrier A) (p : StepList) (xs : List A) → Holds (λ d. d .took ≡ products (p .steps)) (whole K p xs)
-unfolding products
+pub whole-count : {A : Type 0} (K : Carrier A) (p : StepList) (xs : List A) → Holds (λ d. d .count ≡ multiplying (p .steps)) (wholeRun K p xs)
+unfolding multiplying
 whole-count {A} K p xs =
-    after-holds (λ t. t .count + 0 ≡ products (p .steps)) (λ d. d .took ≡ products (p .steps)) (run K (p .cells) (p .steps) (start K xs)) (λ st. finished K (p .cells) (p .outs) st)
+    after-holds (λ t. t .count + 0 ≡ multiplying (p .steps)) (λ d. d .count ≡ multiplying (p .steps)) (run K (p .cells) (p .steps) (firstState K xs)) (λ st. finished K (p .cells) (p .outs) st)
     (λ t q. any t (outputs K (p .cells) (p .outs) t) (sym (add-zero (t .count)) ∙ q))
-    (run-count K (p .cells) (p .steps) (start K xs) (products (p .steps)) (zero-add (products (p .steps))))
+    (run-count K (p .cells) (p .steps) (firstState K xs) (multiplying (p .steps)) (zero-add (multiplying (p .steps))))
   where
-    any : (t : State A) (r : Run (List A)) → t .count ≡ products (p .steps) → Holds (λ (d : Done A). d .took ≡ products (p .steps)) (andThen r (λ l. ran (record { outs = l; took = t .count })))
+    any : (t : State A) (r : Run (List A)) → t .count ≡ multiplying (p .steps) → Holds (λ (d : Done A). d .count ≡ multiplying (p .steps)) (andThen r (λ l. ran (record { outs = l; count = t .count })))
     any t (refused k) e = tt
     any t (ran r) e = e

@@ -6,7 +6,7 @@ use Prim.Native.Nat.{ℕ, zero, suc, _+_, _-_}
 use lib.Dec.{T, ltb}
 use lib.IntN.{ℤ}
 use lib.ListN.{length, getD, set, replicate}
-use Rattle.steps.specs.Steps.{Step, add, sub, neg, mul, StepList, Carrier, State, Done, Run, refused, ran, andThen, target, inside, known, result, wrote, step, run, outputs, start, finished, whole, limit}
+use Rattle.steps.specs.Steps.{Step, add, sub, neg, mul, StepList, Carrier, State, Done, Run, refused, ran, andThen, target, inside, known, result, wrote, step, run, outputs, firstState, finished, wholeRun, limit}
 
 module _ {A B : Type 0} (K : Carrier A) (L : Carrier B) (R : A → B → Type 0) where
   -- the operations keep the relation, and what fits over K fits over L
@@ -112,7 +112,7 @@ module _ {A B : Type 0} (K : Carrier A) (L : Carrier B) (R : A → B → Type 0)
         both true false x y q = tt
         both true true x y q = q
 
-    start-like : {u : List A} {v : List B} → Alike u v → Like (start K u) (start L v)
+    start-like : {u : List A} {v : List B} → Alike u v → Like (firstState K u) (firstState L v)
     start-like {u} {v} p =
         record {
           alike = rw (alike-length p) (alike-more p (limit - length v));
@@ -120,11 +120,11 @@ module _ {A B : Type 0} (K : Carrier A) (L : Carrier B) (R : A → B → Type 0)
         }
 
     -- the theorem: a list that is not refused over K is not refused over L, and its outputs are related
-    pub whole-like : (p : StepList) {u : List A} {v : List B} → Alike u v → Follows Same (whole K p u) (whole L p v)
+    pub whole-like : (p : StepList) {u : List A} {v : List B} → Alike u v → Follows Same (wholeRun K p u) (wholeRun L p v)
     whole-like p {u} {v} q =
-        after Like Same (run K (p .cells) (p .steps) (start K u)) (run L (p .cells) (p .steps) (start L v))
+        after Like Same (run K (p .cells) (p .steps) (firstState K u)) (run L (p .cells) (p .steps) (firstState L v))
         (λ st. finished K (p .cells) (p .outs) st) (λ st. finished L (p .cells) (p .outs) st)
         (λ s t l.
         after Alike Same (outputs K (p .cells) (p .outs) s) (outputs L (p .cells) (p .outs) t)
-        (λ r. ran (record { outs = r; took = s .count })) (λ r. ran (record { outs = r; took = t .count })) (λ c d a. a) (outputs-like (p .cells) (p .outs) s t l))
-        (run-like (p .cells) (p .steps) (start K u) (start L v) (start-like q))
+        (λ r. ran (record { outs = r; count = s .count })) (λ r. ran (record { outs = r; count = t .count })) (λ c d a. a) (outputs-like (p .cells) (p .outs) s t l))
+        (run-like (p .cells) (p .steps) (firstState K u) (firstState L v) (start-like q))

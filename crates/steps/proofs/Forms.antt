@@ -9,7 +9,7 @@ use Rattle.algebra.specs.Equal.{eqZ}
 use Rattle.algebra.specs.Lists.{at}
 use Rattle.algebra.specs.Refusals.{numberOf}
 use Rattle.algebra.proofs.Table.{allTo}
-use Rattle.steps.specs.Steps.{StepList, Carrier, Done, Run, refused, ran, whole}
+use Rattle.steps.specs.Steps.{StepList, Carrier, Done, Run, refused, ran, wholeRun}
 use Rattle.steps.specs.Outcome.{listTests}
 
 abbrev pub Form : Type 0
@@ -67,4 +67,4 @@ isProduct W n (ran d) = eqb (length (d .outs)) n && rowsAre W n 0 (d .outs)
 -- no refusal before the first step, with n inputs and n outputs; then the product
 unfoldable pub gives : (ℕ → ℕ → ℤ) → ℕ → StepList → Bool
 gives W n p =
-    eqb (numberOf (listTests (length (p .steps)) (p .cells) (p .inputs) (length (p .outs)) n n)) 0 && isProduct W n (whole forms p (units 0 n))
+    eqb (numberOf (listTests (length (p .steps)) (p .cells) (p .inputs) (length (p .outs)) n n)) 0 && isProduct W n (wholeRun forms p (units 0 n))

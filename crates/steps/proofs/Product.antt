@@ -19,7 +19,7 @@ use Rattle.algebra.proofs.Order.{mag-abs}
 use Rattle.algebra.proofs.Sum.{sum-cong}
 use Rattle.algebra.proofs.Lists.{tabulated, zeros-at}
 use Rattle.algebra.proofs.Table.{and-left, and-right, eqZ→eq, allTo, allTo-at}
-use Rattle.steps.specs.Steps.{Step, StepList, Done, Run, refused, ran, products, run, start, finished, whole, limit}
+use Rattle.steps.specs.Steps.{Step, StepList, Done, Run, refused, ran, multiplying, run, firstState, finished, wholeRun, limit}
 use Rattle.steps.specs.Outcome.{Result, wholeNumbers, untouched, listTests, given, stepsOutcome, fits32, Sixteen}
 use Rattle.steps.proofs.Forms.{Form, forms, bound, sizes, units, worth, rowsAre, isProduct, gives}
 use Rattle.steps.proofs.Worth.{worth-plus, worth-less, worth-times, worth-size, worth-sum, worth-unit}
@@ -54,7 +54,7 @@ module _ (xs : List ℤ) (small : Sixteen xs) where
   units-are i (y ∷ ys) e = cons (worth-unit i xs ∙ ap (at xs) (sym (add-zero i)) ∙ e 0) (units-are (suc i) ys (λ k. ap (at xs) (suc-add i k ∙ sym (add-suc i k)) ∙ e (suc k)))
 
   -- THE GENERAL THEOREM: a list that followed by forms is not refused is not refused on these inputs, and each output is what its form is worth
-  pub worth-run : (p : StepList) → Follows forms wholeNumbers Worth (Same forms wholeNumbers Worth) (whole forms p (units 0 (length xs))) (whole wholeNumbers p xs)
+  pub worth-run : (p : StepList) → Follows forms wholeNumbers Worth (Same forms wholeNumbers Worth) (wholeRun forms p (units 0 (length xs))) (wholeRun wholeNumbers p xs)
   worth-run p = whole-like forms wholeNumbers Worth keeps p (units-are 0 xs (λ k. ap (at xs) (zero-add k)))
 
 -- ---- rows that the test compared
@@ -69,7 +69,7 @@ rows-at W n i (u ∷ us) t (suc k) h j l =
     ∙ ap (λ (m : ℕ). W m j) (suc-add i k ∙ sym (add-suc i k))
 
 -- the cells that a run starts from fit
-started : (xs : List ℤ) → Sixteen xs → (k : ℕ) → T (fits32 (at (start wholeNumbers xs .values) k))
+started : (xs : List ℤ) → Sixteen xs → (k : ℕ) → T (fits32 (at (firstState wholeNumbers xs .values) k))
 started xs h = behind (limit - length xs) xs h
   where
     zeros : (m k : ℕ) → T (fits32 (at (replicate m (pos 0)) k))
@@ -99,7 +99,7 @@ module _ (W : ℕ → ℕ → ℤ) (n : ℕ) (p : StepList) (xs out : List ℤ) 
 
   -- the run by forms goes through, so the run by numbers does, and ends on the rows
   finish : (r : Run (Done Form)) (s : Run (Done ℤ)) → T (isProduct W n r) → Follows forms wholeNumbers (λ u z. worth u xs ≡ z) (Same forms wholeNumbers (λ u z. worth u xs ≡ z)) r s
-      → Holds (λ d. d .took ≡ products (p .steps)) s → Ran (λ d. given out (ran d) ≡ (record { number = 0; count = products (p .steps) }, product W n xs)) s
+      → Holds (λ d. d .count ≡ multiplying (p .steps)) s → Ran (λ d. given out (ran d) ≡ (record { number = 0; count = multiplying (p .steps) }, product W n xs)) s
   finish (refused k) s t f c = absurd t
   finish (ran d) (refused k) t f c = absurd f
   finish (ran d) (ran e) t f c = λ i. (record { number = 0; count = c i }, outs-are (d .outs) (e .outs) t f i)
@@ -108,32 +108,32 @@ module _ (W : ℕ → ℕ → ℤ) (n : ℕ) (p : StepList) (xs out : List ℤ) 
     abbrev tests : ℕ → ℕ → List Refusal
     tests input output = listTests (length (p .steps)) (p .cells) (p .inputs) (length (p .outs)) input output
 
-    runs : Ran (λ d. given out (ran d) ≡ (record { number = 0; count = products (p .steps) }, product W n xs)) (whole wholeNumbers p xs)
+    runs : Ran (λ d. given out (ran d) ≡ (record { number = 0; count = multiplying (p .steps) }, product W n xs)) (wholeRun wholeNumbers p xs)
     unfolding gives
     runs =
-        finish (whole forms p (units 0 n)) (whole wholeNumbers p xs) (and-right (eqb (numberOf (tests n n)) 0) (isProduct W n (whole forms p (units 0 n))) passes)
-        (subst (λ (m : ℕ). Follows forms wholeNumbers (λ u z. worth u xs ≡ z) (Same forms wholeNumbers (λ u z. worth u xs ≡ z)) (whole forms p (units 0 m)) (whole wholeNumbers p xs)) long (worth-run xs small p))
+        finish (wholeRun forms p (units 0 n)) (wholeRun wholeNumbers p xs) (and-right (eqb (numberOf (tests n n)) 0) (isProduct W n (wholeRun forms p (units 0 n))) passes)
+        (subst (λ (m : ℕ). Follows forms wholeNumbers (λ u z. worth u xs ≡ z) (Same forms wholeNumbers (λ u z. worth u xs ≡ z)) (wholeRun forms p (units 0 m)) (wholeRun wholeNumbers p xs)) long (worth-run xs small p))
         (whole-count wholeNumbers p xs)
 
     not-refused : numberOf (tests (length xs) (length out)) ≡ 0
     unfolding gives
-    not-refused = rw (long, room) (eqb→eq (numberOf (tests n n)) 0 (and-left (eqb (numberOf (tests n n)) 0) (isProduct W n (whole forms p (units 0 n))) passes))
+    not-refused = rw (long, room) (eqb→eq (numberOf (tests n n)) 0 (and-left (eqb (numberOf (tests n n)) 0) (isProduct W n (wholeRun forms p (units 0 n))) passes))
 
     -- "a run equals the full product on every 16-bit input", and its count is the number in the list
-    pub gives-product : stepsOutcome p xs out ≡ (record { number = 0; count = products (p .steps) }, product W n xs)
+    pub gives-product : stepsOutcome p xs out ≡ (record { number = 0; count = multiplying (p .steps) }, product W n xs)
     unfolding stepsOutcome
     gives-product =
-        passed-first [] (λ number place. untouched out number) (given out (whole wholeNumbers p xs)) (tests (length xs) (length out)) tt not-refused
-        ∙ ended (whole wholeNumbers p xs) runs
+        passed-first [] (λ number place. untouched out number) (given out (wholeRun wholeNumbers p xs)) (tests (length xs) (length out)) tt not-refused
+        ∙ ended (wholeRun wholeNumbers p xs) runs
       where
         ended : (r : Run (Done ℤ)) {o : Result} → Ran (λ d. given out (ran d) ≡ o) r → given out r ≡ o
         ended (refused k) h = absurd h
         ended (ran d) h = h
 
     -- "with every cell inside 32 bits": after each of the steps, es being those that were taken
-    pub gives-inside : (es fs : List Step) → p .steps ≡ es ++ fs → Ran (Fit wholeNumbers (p .cells)) (run wholeNumbers (p .cells) es (start wholeNumbers xs))
+    pub gives-inside : (es fs : List Step) → p .steps ≡ es ++ fs → Ran (Fit wholeNumbers (p .cells)) (run wholeNumbers (p .cells) es (firstState wholeNumbers xs))
     gives-inside es fs e =
-        each-moment wholeNumbers (p .cells) es fs (start wholeNumbers xs) (record { fit = started xs small })
-        (subst (λ (ss : List Step). Ran (λ t. Unit {0}) (run wholeNumbers (p .cells) ss (start wholeNumbers xs))) e
-        (ran-first (λ t. Unit {0}) (λ d. given out (ran d) ≡ (record { number = 0; count = products (p .steps) }, product W n xs))
-        (run wholeNumbers (p .cells) (p .steps) (start wholeNumbers xs)) (λ st. finished wholeNumbers (p .cells) (p .outs) st) (any (run wholeNumbers (p .cells) (p .steps) (start wholeNumbers xs))) runs))
+        each-moment wholeNumbers (p .cells) es fs (firstState wholeNumbers xs) (record { fit = started xs small })
+        (subst (λ (ss : List Step). Ran (λ t. Unit {0}) (run wholeNumbers (p .cells) ss (firstState wholeNumbers xs))) e
+        (ran-first (λ t. Unit {0}) (λ d. given out (ran d) ≡ (record { number = 0; count = multiplying (p .steps) }, product W n xs))
+        (run wholeNumbers (p .cells) (p .steps) (firstState wholeNumbers xs)) (λ st. finished wholeNumbers (p .cells) (p .outs) st) (any (run wholeNumbers (p .cells) (p .steps) (firstState wholeNumbers xs))) runs))

@@ -9,8 +9,8 @@ use lib.Signed.{mag}
 use Rattle.algebra.specs.Lists.{at}
 use Rattle.algebra.specs.Refusals.{Refusal, firstOf}
 use Rattle.meaning.specs.Answer.{test, inputTest, outputTest}
-use Rattle.steps.specs.declared.Taken.{Taken}
-use Rattle.steps.specs.Steps.{StepList, Carrier, Done, Run, refused, ran, whole, limit}
+use Rattle.steps.specs.declared.StepCount.{StepCount}
+use Rattle.steps.specs.Steps.{StepList, Carrier, Done, Run, refused, ran, wholeRun, limit}
 
 -- "29 for a result outside 32 bits": `mag z` is n both for n and for -(n + 1)
 abbrev pub fits32 : ℤ → Bool
@@ -25,7 +25,7 @@ Sixteen xs = (k : ℕ) → k < length xs → natAbs (at xs k) ≤ 32768
 
 -- what a run hands back, and what its output holds then
 abbrev pub Result : Type 0
-Result = Taken × List ℤ
+Result = StepCount × List ℤ
 
 -- "output untouched and count 0"
 abbrev pub untouched : List ℤ → ℕ → Result
@@ -43,10 +43,10 @@ listTests steps cells inputs outs input output =
 
 abbrev pub given : List ℤ → Run (Done ℤ) → Result
 given out (refused number) = untouched out number
-given out (ran d) = (record { number = 0; count = d .took }, d .outs)
+given out (ran d) = (record { number = 0; count = d .count }, d .outs)
 
 unfoldable pub stepsOutcome : StepList → List ℤ → List ℤ → Result
 stepsOutcome p xs out =
     firstOf (listTests (length (p .steps)) (p .cells) (p .inputs) (length (p .outs)) (length xs) (length out))
     (λ number place. untouched out number)
-    (given out (whole wholeNumbers p xs))
+    (given out (wholeRun wholeNumbers p xs))

@@ -65,16 +65,16 @@ known w (neg t a) = getD w a false
 known w (mul t a c) = getD w a false
 
 -- 1 where the step multiplies
-abbrev pub muls : Step → ℕ
-muls (add t a b) = 0
-muls (sub t a b) = 0
-muls (neg t a) = 0
-muls (mul t a c) = 1
+abbrev pub multiplies : Step → ℕ
+multiplies (add t a b) = 0
+multiplies (sub t a b) = 0
+multiplies (neg t a) = 0
+multiplies (mul t a c) = 1
 
 -- "the number in the list"
-unfoldable pub products : List Step → ℕ
-products [] = 0
-products (s ∷ ss) = muls s + products ss
+unfoldable pub multiplying : List Step → ℕ
+multiplying [] = 0
+multiplying (s ∷ ss) = multiplies s + multiplying ss
 
 module _ {A : Type 0} (K : Carrier A) (n : ℕ) where
   abbrev pub result : List A → Step → A
@@ -84,7 +84,7 @@ module _ {A : Type 0} (K : Carrier A) (n : ℕ) where
   result v (mul t a c) = K .times c (getD v a (K .none))
 
   abbrev pub wrote : State A → Step → A → State A
-  wrote st s z = record { values = set (st .values) (target s) z; written = set (st .written) (target s) true; count = st .count + muls s }
+  wrote st s z = record { values = set (st .values) (target s) z; written = set (st .written) (target s) true; count = st .count + multiplies s }
 
   -- "in this order: 28 for a cell outside the list's number; 17 for reading a cell not yet written; 29 for a result outside 32 bits"
   abbrev pub step : State A → Step → Run (State A)
@@ -110,18 +110,18 @@ abbrev pub limit : ℕ
 limit = 2048
 
 -- "The inputs stand in the first cells"; the others hold nothing yet
-abbrev pub start : {A : Type 0} → Carrier A → List A → State A
-start K xs =
+abbrev pub firstState : {A : Type 0} → Carrier A → List A → State A
+firstState K xs =
     record { values = xs ++ replicate (limit - length xs) (K .none); written = replicate (length xs) true ++ replicate (limit - length xs) false; count = 0 }
 
 -- the outputs, and how many multiplying steps were taken
 pub record Done (A : Type 0) : Type 0 where
   pub outs : List A
-  pub took : ℕ
+  pub count : ℕ
 
 abbrev pub finished : {A : Type 0} → Carrier A → ℕ → List ℕ → State A → Run (Done A)
-finished K n outs st = andThen (outputs K n outs st) (λ r. ran (record { outs = r; took = st .count }))
+finished K n outs st = andThen (outputs K n outs st) (λ r. ran (record { outs = r; count = st .count }))
 
 -- every step from the inputs on, then the output cells
-abbrev pub whole : {A : Type 0} → Carrier A → StepList → List A → Run (Done A)
-whole K p xs = andThen (run K (p .cells) (p .steps) (start K xs)) (λ st. finished K (p .cells) (p .outs) st)
+abbrev pub wholeRun : {A : Type 0} → Carrier A → StepList → List A → Run (Done A)
+wholeRun K p xs = andThen (run K (p .cells) (p .steps) (firstState K xs)) (λ st. finished K (p .cells) (p .outs) st)

@@ -5,7 +5,7 @@
 
 /// What a run hands back beside its output: the number of the refusal or 0, and how many multiplying steps it took.
 #[repr(C)]
-pub struct Taken {
+pub struct StepCount {
     pub number: u32,
     pub count: u32,
 }

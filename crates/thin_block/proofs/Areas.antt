@@ -88,9 +88,9 @@ module _ (sh : Shape) (c a b : List ℤ) where
       residual-stands k h = ap (λ (o : Areas). at (o .second) k) after-two ∙ List·getD-append (inverseBlock (planOf sh) c) (drop n b) (pos 0) k (omega (arith, inverse-length sh c))
 
   -- what is handed back of it
-  pub handed-length : {A : Type 0} (p q : A) → o .answer .number ≡ 0 → length (handed sh c a b p q .part) ≡ n
+  pub handed-length : {A : Type 0} (p q : A) → o .answer .number ≡ 0 → length (handed sh c a b p q .stretch) ≡ n
   handed-length p q number = go (oneStage sh) refl
     where
-      go : (one : Bool) → oneStage sh ≡ one → length (handed sh c a b p q .part) ≡ n
+      go : (one : Bool) → oneStage sh ≡ one → length (handed sh c a b p q .stretch) ≡ n
       go true e = rw (after-one number e) (ap length (take-at (thinBlock sh c) (drop n a) n (thin-length sh c)) ∙ thin-length sh c)
       go false e = rw (after-two number e) (ap length (take-at (inverseBlock (planOf sh) c) (drop n b) n (inverse-length sh c)) ∙ inverse-length sh c)

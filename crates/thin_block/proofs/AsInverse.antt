@@ -19,7 +19,7 @@ use Rattle.meaning.specs.Taken.{TakenBlock}
 use Rattle.meaning.specs.Answer as answers
 use Rattle.meaning.specs.Inverse.{rails, firstOutside, inverseOutcome}
 use Rattle.meaning.specs.Exact.{exact, weightSizes}
-use Rattle.meaning.proofs.Accepted.{inverse-done}
+use Rattle.meaning.proofs.AcceptedCalls.{inverse-done}
 use Rattle.meaning.proofs.NearExact.{demand3}
 use Rattle.thin_block.specs.Thin.{oneStage, Areas, thinOutcome}
 use Rattle.thin_block.proofs.Sides.{two-sides}

@@ -21,7 +21,7 @@ use Rattle.thin_block.proofs.Passed.{either-way}
 -- ---- by the area
 module _ {A : Type 0} (n : ℕ) (o : Areas) (p q : A) where
   abbrev back : List ℤ → A → Handed A
-  back part start = record { number = o .answer .number; place = o .answer .place; rails = o .answer .rails; part = part; start = start }
+  back stretch start = record { number = o .answer .number; place = o .answer .place; rails = o .answer .rails; stretch = stretch; start = start }
 
   pub nothing-back : o .answer .area ≡ 0 → back [] p ≡ handedOf n o p q
   nothing-back z = rw (eq-eqb (o .answer .area) 0 z, ap (λ (k : ℕ). eqb k 2) z)

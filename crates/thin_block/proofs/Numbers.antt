@@ -9,7 +9,7 @@ use Rattle.algebra.specs.Sum.{sum}
 use Rattle.algebra.specs.Lists.{tabulate}
 use Rattle.meaning.specs.Weights.{first, fold, S, cosines, turn, dct2, weight}
 use Rattle.meaning.specs.Line.{inverseSum}
-use Rattle.meaning.specs.Shape.{isSize, isKind, isDepth, most, keeps, shapeOf}
+use Rattle.meaning.specs.Shape.{isSize, isKind, isDepth, mostKept, keeps, shapeOf}
 use Rattle.meaning.specs.Answer as answers
 use Rattle.meaning.specs.Forward.{forwardOutcome}
 use Rattle.thin_block.specs.Thin.{isLine, isSide, thinSum, thinResidual, thinBlock, areasStay, thinOutcome}
@@ -33,15 +33,15 @@ four = pos 64 ∷ pos 0 ∷ pos 0 ∷ pos 0 ∷ []
 
 -- "19 for a work area shorter than w*h", either of them, after 6
 pub nineteen-first : thinOutcome (shapeOf 1 4 1 1 10) four [] four ≡ areasStay [] four 19 0
-unfolding isSide isSize isLine isKind isDepth most keeps
+unfolding isSide isSize isLine isKind isDepth mostKept keeps
 nineteen-first = refl
 
 pub nineteen-second : thinOutcome (shapeOf 4 1 1 1 10) four four [] ≡ areasStay four [] 19 0
-unfolding isSide isSize isLine isKind isDepth most keeps
+unfolding isSide isSize isLine isKind isDepth mostKept keeps
 nineteen-second = refl
 
 pub six-before : thinOutcome (shapeOf 1 8 1 1 10) four [] [] ≡ areasStay [] [] 6 0
-unfolding isSide isSize isLine isKind isDepth most keeps
+unfolding isSide isSize isLine isKind isDepth mostKept keeps
 six-before = refl
 
 -- ---- "The forward refuses these shapes as before"
@@ -56,9 +56,9 @@ module _ (n h v d : ℕ) (r out : List ℤ) where
 
 -- ---- a coefficient of 64 at 10 bits: 64 * 64 = 4096 over 2^11 in each place of DCT-II; 64 times 29, 55, 74 and 84 of DST-VII
 pub upright-flat : thinBlock (shapeOf 1 4 2 0 10) four ≡ pos 2 ∷ pos 2 ∷ pos 2 ∷ pos 2 ∷ []
-unfolding thinBlock thinResidual thinSum inverseSum sum tabulate most weight dct2 turn cosines
+unfolding thinBlock thinResidual thinSum inverseSum sum tabulate mostKept weight dct2 turn cosines
 upright-flat = refl
 
 pub lying-rising : thinBlock (shapeOf 4 1 1 0 10) four ≡ pos 1 ∷ pos 2 ∷ pos 2 ∷ pos 3 ∷ []
-unfolding thinBlock thinResidual thinSum inverseSum sum tabulate most weight S fold first
+unfolding thinBlock thinResidual thinSum inverseSum sum tabulate mostKept weight S fold first
 lying-rising = refl

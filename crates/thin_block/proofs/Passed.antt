@@ -17,7 +17,7 @@ use Rattle.meaning.specs.Shape.{isDepth}
 use Rattle.meaning.specs.Plan.{planOf}
 use Rattle.meaning.specs.Inverse.{firstOutside, outsideTest}
 use Rattle.meaning.proofs.Cases.{neither}
-use Rattle.meaning.proofs.Accepted.{shape-clear}
+use Rattle.meaning.proofs.AcceptedCalls.{shape-clear}
 use Rattle.meaning.proofs.KeptPart.{columns-kept, rows-kept}
 use Rattle.layout.specs.Part.{Part}
 use Rattle.layout.proofs.Inside.{kept-part}
@@ -26,26 +26,26 @@ use Rattle.thin_block.specs.Given.{TakenSides}
 use Rattle.thin_block.proofs.Sides.{side-in}
 
 module _ (sh : Shape) (c a b : List ℤ) where
-  abbrev area : ℕ
-  area = sh .width * sh .height
+  abbrev elements : ℕ
+  elements = sh .width * sh .height
 
   abbrev eight : List Refusal
-  eight = thinShapeTests sh ++ areaTests area (length c) (length a) (length b)
+  eight = thinShapeTests sh ++ areaTests elements (length c) (length a) (length b)
 
   pub record Passed : Type 0 where
     pub sides : TakenSides sh
-    pub long : length c ≡ area
-    pub first : area ≤ length a
-    pub second : area ≤ length b
+    pub long : length c ≡ elements
+    pub first : elements ≤ length a
+    pub second : elements ≤ length b
 
-  passed-by : Clear (thinShapeTests sh) → Clear (areaTests area (length c) (length a) (length b)) → Passed
+  passed-by : Clear (thinShapeTests sh) → Clear (areaTests elements (length c) (length a) (length b)) → Passed
   passed-by s (n, (r, _)) =
-      let no = neither (ltb (length a) area) (ltb (length b) area) r in
+      let no = neither (ltb (length a) elements) (ltb (length b) elements) r in
       record {
         sides = shape-clear (isSide (sh .width) (sh .height)) (isSide (sh .height) (sh .width)) (isDepth (sh .depth)) sh s;
-        long = eqb-true (length c) area (not-false (eqb (length c) area) n);
-        first = ltb-false (length a) area (no .0);
-        second = ltb-false (length b) area (no .1);
+        long = eqb-true (length c) elements (not-false (eqb (length c) elements) n);
+        first = ltb-false (length a) elements (no .0);
+        second = ltb-false (length b) elements (no .1);
       }
 
   -- and no coefficient stands outside
@@ -55,8 +55,8 @@ module _ (sh : Shape) (c a b : List ℤ) where
 
   all-clear : Clear (thinTests sh c a b) → TakenThin
   all-clear e =
-      let first = clear-split (thinShapeTests sh) (areaTests area (length c) (length a) (length b) ++ (outsideTest (planOf sh) c ∷ [])) e in
-      let then = clear-split (areaTests area (length c) (length a) (length b)) (outsideTest (planOf sh) c ∷ []) (first .1) in
+      let first = clear-split (thinShapeTests sh) (areaTests elements (length c) (length a) (length b) ++ (outsideTest (planOf sh) c ∷ [])) e in
+      let then = clear-split (areaTests elements (length c) (length a) (length b)) (outsideTest (planOf sh) c ∷ []) (first .1) in
       record { past = passed-by (first .0) (then .0); inside = ltb-false (firstOutside (planOf sh) c) (length c) (then .1 .0) }
 
   abbrev done : Areas
@@ -72,7 +72,7 @@ module _ (sh : Shape) (c a b : List ℤ) where
 
   pub passed : numberOf eight ≡ 0 → Passed
   passed e =
-      let both = clear-split (thinShapeTests sh) (areaTests area (length c) (length a) (length b)) (no-number eight tt e) in
+      let both = clear-split (thinShapeTests sh) (areaTests elements (length c) (length a) (length b)) (no-number eight tt e) in
       passed-by (both .0) (both .1)
 
   module _ (p : Passed) where

@@ -16,7 +16,7 @@ use Rattle.meaning.specs.Plan.{shortRange, rangeOf, reach, planOf}
 use Rattle.meaning.specs.Inverse.{middle, middleAt, rails, inverseBlock}
 use Rattle.tables.specs.Stage.{Weights}
 use Rattle.layout.proofs.Zipping.{size-even}
-use Rattle.long_stages.specs.Work.{columnAt, railOf, Down, rowAt, Along, Given}
+use Rattle.long_stages.specs.Work.{columnAt, railOf, Down, rowAt, Along, GivenLong}
 use Rattle.long_stages.proofs.Whole.{columns-given, rails-read, middles-read, rows-given, block-read}
 use Rattle.thin_block.specs.Given.{Double}
 
@@ -35,7 +35,7 @@ module _ {sh : Shape} {c first second l : List ℤ} {r : ℕ} (g : Double sh c f
   rows = size-even h (g .block .taken .height) .1
 
   -- all of it is live
-  given : Given false sh (h / 2) (w / 2) c second
+  given : GivenLong false sh (h / 2) (w / 2) c second
   unfolding isLongDepth
   given =
       record {

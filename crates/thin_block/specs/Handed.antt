@@ -13,7 +13,7 @@ pub record Handed (A : Type 0) : Type 0 where
   pub number : ℕ
   pub place : ℕ
   pub rails : ℕ
-  pub part : List ℤ
+  pub stretch : List ℤ
   pub start : A
 
 -- "the first after one stage, the second after two"
@@ -27,7 +27,7 @@ handedOf n o p q =
       number = o .answer .number;
       place = o .answer .place;
       rails = o .answer .rails;
-      part = take (cond (eqb (o .answer .area) 0) 0 n) (holder (o .answer .area) (o .first) (o .second));
+      stretch = take (cond (eqb (o .answer .area) 0) 0 n) (holder (o .answer .area) (o .first) (o .second));
       start = holder (o .answer .area) p q;
     }
 

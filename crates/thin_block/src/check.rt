@@ -59,6 +59,6 @@ pub fn thin_refusal(shape: Shape, input: usize, first: usize, second: usize) -> 
     if number != 0 {
         return number;
     }
-    let area = shape.width as usize * shape.height as usize;
-    area_refusal(area, input, first, second)
+    let elements = shape.width as usize * shape.height as usize;
+    area_refusal(elements, input, first, second)
 }

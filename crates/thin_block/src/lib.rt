@@ -10,7 +10,7 @@ use crate::check::thin_refusal;
 use crate::one::one_stage;
 use crate::one::single;
 use crate::two::two_stages;
-use inverse_hunt::hunt::hunt;
+use inverse_hunt::hunt::first_outside;
 use meaning::Shape;
 ghost use mathlib.Core.Path.{_≡_};
 ghost use Rattle.thin_block.specs.Thin.{Areas, thinOutcome};
@@ -42,7 +42,7 @@ pub fn work(shape: Shape, coefficients: &[i16], first: &mut [i32], second: &mut 
     }
     let w = shape.width as usize;
     let h = shape.height as usize;
-    let place = hunt(shape, w, h, coefficients);
+    let place = first_outside(shape, w, h, coefficients);
     if place < coefficients.len() {
         return Thin {
             number: 8,
@@ -80,7 +80,7 @@ pub fn inverse<'a>(
     place: &mut u32,
     rails: &mut u32,
 ) -> &'a mut [i32]
-    ensures { λ r. ⌜ record { number = now (number .exit); place = now (place .exit); rails = now (rails .exit); part = now r; start = r .ptr } ≡ handed shape (now (coefficients .entry)) (now (first .entry)) (now (second .entry)) (first .entry .ptr) (second .entry .ptr) ⌝ }
+    ensures { λ r. ⌜ record { number = now (number .exit); place = now (place .exit); rails = now (rails .exit); stretch = now r; start = r .ptr } ≡ handed shape (now (coefficients .entry)) (now (first .entry)) (now (second .entry)) (first .entry .ptr) (second .entry .ptr) ⌝ }
 {
     let answer = work(shape, coefficients, &mut first[..], &mut second[..]);
     *number = answer.number;

@@ -1,5 +1,5 @@
 // One stage: "with no middle rounding and no middle clip".
-use long_stages::arith::round_last;
+use long_stages::arith::nearest;
 use meaning::Shape;
 ghost use mathlib.Core.Path.{_≡_};
 ghost use Prim.Native.Nat.{_≤_, _<_};
@@ -26,7 +26,7 @@ fn round_each(s: u32, out: &mut [i32])
 {
     let mut k = 0;
     while k < out.len() {
-        out[k] = round_last(out[k] as i64, s) as i32;
+        out[k] = nearest(out[k] as i64, s) as i32;
         k += 1;
     }
 }
@@ -36,7 +36,7 @@ fn residuals(n: u32, kind: u32, d: u32, c: &[i16], out: &mut [i32])
     requires { ⌜ Lined n kind d (now c) (now out) ⌝ }
     ensures { λ _. ⌜ now (out .exit) ≡ tabulate n (λ k. nearest (thinShift d) (inverseSum kind n n (at (now (c .entry))) k)) ⌝ }
 {
-    line::inverse_product(n, kind, c, out);
+    engine::full(n as usize, kind, false, c, out);
     round_each(21 - d, out);
 }
 

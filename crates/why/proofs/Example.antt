@@ -9,7 +9,7 @@ use Rattle.algebra.specs.First.{firstAt}
 use Rattle.meaning.specs.declared.Shape.{Shape}
 use Rattle.meaning.specs.Weights.{first, fold, S, weight}
 use Rattle.meaning.specs.Line.{inverseSum}
-use Rattle.meaning.specs.Shape.{isSize, isKind, isDepth, most, keeps, shapeOf}
+use Rattle.meaning.specs.Shape.{isSize, isKind, isDepth, mostKept, keeps, shapeOf}
 use Rattle.meaning.specs.Plan.{shortRange}
 use Rattle.meaning.specs.Inverse.{columnSum, middleAt, rowSum, residual}
 use Rattle.meaning.specs.Exact.{carried, exact, middleRoundings, clippings, lastRounding}
@@ -23,9 +23,9 @@ coefficients = pos 64 ∷ replicate 15 (pos 0)
 
 pub at-5 : whyOutcome shape coefficients 5
     ≡ record { number = 0; place = 0; exact = pos 193600; «middle_roundings» = pos 3520; clippings = pos 0; «last_rounding» = pos 65024 }
-unfolding sum firstAt first fold S weight inverseSum isSize isKind isDepth most keeps shortRange columnSum middleAt rowSum residual carried exact middleRoundings clippings lastRounding
+unfolding sum firstAt first fold S weight inverseSum isSize isKind isDepth mostKept keeps shortRange columnSum middleAt rowSum residual carried exact middleRoundings clippings lastRounding
 at-5 = refl
 
 pub at-16 : whyOutcome shape coefficients 16 ≡ noParts 15 0
-unfolding firstAt isSize isKind isDepth most keeps
+unfolding firstAt isSize isKind isDepth mostKept keeps
 at-16 = refl

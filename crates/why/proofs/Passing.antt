@@ -12,21 +12,21 @@ use Rattle.meaning.specs.declared.Shape.{Shape}
 use Rattle.meaning.specs.Shape.{isSize, isLongDepth}
 use Rattle.meaning.specs.Answer.{inputTest, lengthTests}
 use Rattle.meaning.specs.Long.{longShapeTests}
-use Rattle.meaning.proofs.Accepted.{without-7}
+use Rattle.meaning.proofs.AcceptedCalls.{without-7}
 
 module _ (extended : Bool) (sh : Shape) (c : List ℤ) where
-  abbrev area : ℕ
-  area = sh .width * sh .height
+  abbrev elements : ℕ
+  elements = sh .width * sh .height
 
   abbrev pub seven : List Refusal
-  seven = longShapeTests extended sh ++ lengthTests area (length c) (length c)
+  seven = longShapeTests extended sh ++ lengthTests elements (length c) (length c)
 
   module _ {A : Type 0} (refused : ℕ → ℕ → A) (done : A) (ts : List Refusal) where
-    pub six : firstOf (longShapeTests extended sh ++ (inputTest area (length c) ∷ ts)) refused done ≡ firstOf (seven ++ ts) refused done
-    six = sym (without-7 refused done (isSize (sh .width)) (isSize (sh .height)) (isLongDepth extended (sh .depth)) sh area (length c) (length c) (λ _ e. e) ts)
+    pub six : firstOf (longShapeTests extended sh ++ (inputTest elements (length c) ∷ ts)) refused done ≡ firstOf (seven ++ ts) refused done
+    six = sym (without-7 refused done (isSize (sh .width)) (isSize (sh .height)) (isLongDepth extended (sh .depth)) sh elements (length c) (length c) (λ _ e. e) ts)
 
-    pub refuses : (numberOf seven ≡ 0 → ⊥) → firstOf (longShapeTests extended sh ++ (inputTest area (length c) ∷ ts)) refused done ≡ refused (numberOf seven) 0
+    pub refuses : (numberOf seven ≡ 0 → ⊥) → firstOf (longShapeTests extended sh ++ (inputTest elements (length c) ∷ ts)) refused done ≡ refused (numberOf seven) 0
     refuses n = six ∙ refused-first ts refused done seven tt n
 
-    pub passes : numberOf seven ≡ 0 → firstOf (longShapeTests extended sh ++ (inputTest area (length c) ∷ ts)) refused done ≡ firstOf ts refused done
+    pub passes : numberOf seven ≡ 0 → firstOf (longShapeTests extended sh ++ (inputTest elements (length c) ∷ ts)) refused done ≡ firstOf ts refused done
     passes e = six ∙ passed-first ts refused done seven tt e

@@ -26,7 +26,7 @@ use Rattle.product.specs.Product.{spot, Laid}
 use Rattle.tables.specs.Stage.{Weights}
 use Rattle.layout.proofs.Alive as alive
 use Rattle.long_stages.specs.Sums.{Dot}
-use Rattle.long_stages.specs.Work.{columnAt, Given}
+use Rattle.long_stages.specs.Work.{columnAt, GivenLong}
 use Rattle.long_stages.proofs.Ceil.{size-even}
 use Rattle.long_stages.proofs.Whole.{keeps-zero, laid, columns-given, column-read}
 use Rattle.why.specs.Work.{Clean}
@@ -60,7 +60,7 @@ module _ (extended : Bool) (sh : Shape) (c : List ℤ) (g : Clean extended sh c)
   narrow = columns-kept sh (g .passed .taken) .within
 
   -- all rows and all columns are worked
-  all : Given extended sh (h / 2) (w / 2) c c
+  all : GivenLong extended sh (h / 2) (w / 2) c c
   all =
       record {
         block = g .passed;

@@ -25,12 +25,12 @@ abbrev handed : Outcome → ℕ × ℕ
 handed o = (o .0 .number, o .0 .place)
 
 module _ (sh : Shape) (c : List ℤ) (place : ℕ) (below : place < sh .width * sh .height) where
-  abbrev area : ℕ
-  area = sh .width * sh .height
+  abbrev elements : ℕ
+  elements = sh .width * sh .height
 
   -- 15 does not apply
-  inside : (p : Plan) → p .width * p .height ≡ area → placeTest p place .applies ≡ false
-  inside p e = rw (e, lt-ltb place area below) refl
+  inside : (p : Plan) → p .width * p .height ≡ elements → placeTest p place .applies ≡ false
+  inside p e = rw (e, lt-ltb place elements below) refl
 
   pub why-refuses : told (whyOutcome sh c place) ≡ handed (inverseOutcome sh c c)
   unfolding isLongDepth
@@ -38,7 +38,7 @@ module _ (sh : Shape) (c : List ℤ) (place : ℕ) (below : place < sh .width * 
       let p = planOf sh in
       let parts = partsOf p c place in
       ap told
-      (left-out noParts parts (shapeTests sh ++ (inputTest area (length c) ∷ outsideTest p c ∷ [])) (placeTest p place) [] (λ _. inside p refl)
+      (left-out noParts parts (shapeTests sh ++ (inputTest elements (length c) ∷ outsideTest p c ∷ [])) (placeTest p place) [] (λ _. inside p refl)
       ∙ six false sh c noParts parts (outsideTest p c ∷ []))
       ∙ side-by-side noParts parts (λ number place. (refused number place, c)) (accepted (rails p c), inverseBlock p c) (λ r o. told r ≡ handed o) (λ number place. refl) [] [] (inverseTests sh c c) (λ _. refl)
 
@@ -48,6 +48,6 @@ module _ (sh : Shape) (c : List ℤ) (place : ℕ) (below : place < sh .width * 
       let last = beyondTest p c ∷ [] in
       let parts = partsOf p c place in
       ap told
-      (left-out noParts parts (longShapeTests extended sh ++ (inputTest area (length c) ∷ outsideTest p c ∷ last)) (placeTest p place) [] (λ _. inside p refl)
+      (left-out noParts parts (longShapeTests extended sh ++ (inputTest elements (length c) ∷ outsideTest p c ∷ last)) (placeTest p place) [] (λ _. inside p refl)
       ∙ six extended sh c noParts parts (outsideTest p c ∷ last))
       ∙ side-by-side noParts parts (λ number place. (refused number place, c)) (accepted (rails p c), inverseBlock p c) (λ r o. told r ≡ handed o) (λ number place. refl) [] [] (longTests extended sh c c) (λ _. refl)

@@ -1,7 +1,7 @@
 // Arithmetic in 64 bits: what a column sum e gives to each part.
 use long_stages::arith::clipped;
-use long_stages::arith::round_last;
-use long_stages::arith::round7;
+use long_stages::arith::nearest;
+use long_stages::arith::rounded;
 ghost use mathlib.Core.Path.{_≡_};
 ghost use Prim.Native.Nat.{_+_, _^_, _≤_, _<_};
 ghost use lib.IntN.{pos, natAbs, _+ℤ_, _-ℤ_, _*ℤ_};
@@ -22,7 +22,7 @@ pub fn rounding(e: i64) -> i64
     requires { ⌜ natAbs e ≤ 2147483648 ⌝ }
     ensures { λ r. ⌜ (r ≡ pos 128 *ℤ rounded e -ℤ e) × (natAbs r ≤ 549755813888) ⌝ }
 {
-    128 * round7(e) - e
+    128 * rounded(e) - e
 }
 
 // The middle value.
@@ -30,7 +30,7 @@ pub fn between(e: i64, reach: u32) -> i64
     requires { ⌜ (natAbs e ≤ 2147483648) × (reach ≤ 20) ⌝ }
     ensures { λ r. ⌜ (r ≡ middle (rangeOf reach) e) × (natAbs r ≤ 2147483648) ⌝ }
 {
-    clipped(round7(e), reach) as i64
+    clipped(rounded(e), reach) as i64
 }
 
 // What its clip added.
@@ -38,7 +38,7 @@ pub fn clipping(e: i64, reach: u32) -> i64
     requires { ⌜ (natAbs e ≤ 2147483648) × (reach ≤ 20) ⌝ }
     ensures { λ r. ⌜ (r ≡ pos 128 *ℤ (middle (rangeOf reach) e -ℤ rounded e)) × (natAbs r ≤ 549755813888) ⌝ }
 {
-    128 * (between(e, reach) - round7(e))
+    128 * (between(e, reach) - rounded(e))
 }
 
 // What the last rounding added to a row sum.
@@ -46,5 +46,5 @@ pub fn last_rounding(r: i64, s: u32) -> i64
     requires { ⌜ (natAbs r ≤ 2147483648) × ((0 < s) × (s ≤ 12)) ⌝ }
     ensures { λ z. ⌜ z ≡ pos 128 *ℤ (pos (2 ^ s) *ℤ nearest s r -ℤ r) ⌝ }
 {
-    128 * ((1 << s) * round_last(r, s) - r)
+    128 * ((1 << s) * nearest(r, s) - r)
 }

@@ -14,7 +14,7 @@ use Rattle.product.specs.Product.{Laid}
 use Rattle.tables.specs.Term.{term}
 use Rattle.tables.proofs.Terms.{laid-size}
 use Rattle.wrapping.specs.Order.{Order}
-use Rattle.wrapping.specs.Feed.{productAt, Feed, sums}
+use Rattle.wrapping.specs.Feed.{productAt, Feed, lineSums}
 
 -- m is the literal size of a branch, n the caller's number of that size
 module _ {n m : ℕ} (q : n ≡ m) (pairs : ℕ) (two : 2 * pairs ≡ m) (few : m ≤ 32) (kind : ℕ) (forward : Bool) {t : List ℤ}
@@ -32,7 +32,7 @@ module _ {n m : ℕ} (q : n ≡ m) (pairs : ℕ) (two : 2 * pairs ≡ m) (few : 
   output : (j : ℕ) → j < m → sum m (productAt t (2 * m) j x) ≡ sum m (λ i. term forward kind m j i *ℤ at x i)
   output j g = sum-cong m _ _ (λ i h. ap (λ (w : ℤ). w *ℤ at x i) (z .right i j (omega arith) g))
 
-  pub is-line : (r : List ℤ) → r ≡ tabulate (length x) (λ j. sum (length x) (productAt t (2 * m) j x)) → r ≡ sums forward kind n (at x)
+  pub is-line : (r : List ℤ) → r ≡ tabulate (length x) (λ j. sum (length x) (productAt t (2 * m) j x)) → r ≡ lineSums forward kind n (at x)
   is-line r e =
       e ∙ ap (λ (k : ℕ). tabulate k (λ j. sum k (productAt t (2 * m) j x))) (l ∙ q) ∙ tab-cong m _ _ output
-      ∙ ap (λ (k : ℕ). sums forward kind k (at x)) (sym q)
+      ∙ ap (λ (k : ℕ). lineSums forward kind k (at x)) (sym q)

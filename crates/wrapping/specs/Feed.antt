@@ -23,5 +23,5 @@ pub record Feed (n apart : ℕ) (t : List ℤ) (order : List ℕ) : Type 0 where
   pub each : Order n order
 
 -- what they come to: the line in either direction, by its terms
-abbrev pub sums : Bool → ℕ → ℕ → (ℕ → ℤ) → List ℤ
-sums forward kind n x = tabulate n (λ j. sum n (λ i. term forward kind n j i *ℤ x i))
+abbrev pub lineSums : Bool → ℕ → ℕ → (ℕ → ℤ) → List ℤ
+lineSums forward kind n x = tabulate n (λ j. sum n (λ i. term forward kind n j i *ℤ x i))

@@ -8,14 +8,14 @@ mod word;
 use crate::places::is_order;
 use crate::running::line;
 use meaning::Answer;
-use meaning::acceptance;
+use meaning::accepted;
 use meaning::line_refusal;
-use meaning::refusal;
+use meaning::refused;
 ghost use mathlib.Core.Path.{_≡_};
 ghost use Rattle.algebra.specs.Lists.{at};
 ghost use Rattle.algebra.specs.Refusals.{numberOf};
 ghost use Rattle.meaning.specs.Answer.{Outcome};
-ghost use Rattle.wrapping.specs.Feed.{sums};
+ghost use Rattle.wrapping.specs.Feed.{lineSums};
 ghost use Rattle.wrapping.specs.Outcome.{wrappedTests, wrappedOutcome, forwardWrapped, inverseWrapped};
 
 // 1, 3, 6, 7 and 21, or 0.
@@ -42,14 +42,14 @@ fn total(
     x: &[i16],
     y: &mut [i32],
 ) -> Answer
-    ensures { λ r. ⌜ _≡_ {A = Outcome} (r, now (y .exit)) (wrappedOutcome n kind (now (order .entry)) (now (x .entry)) (now (y .entry)) (sums forward kind n (at (now (x .entry))))) ⌝ }
+    ensures { λ r. ⌜ _≡_ {A = Outcome} (r, now (y .exit)) (wrappedOutcome n kind (now (order .entry)) (now (x .entry)) (now (y .entry)) (lineSums forward kind n (at (now (x .entry))))) ⌝ }
 {
     let number = wrapped_refusal(n, kind, x.len(), y.len(), order);
     if number != 0 {
-        return refusal(number, 0);
+        return refused(number, 0);
     }
     line(n as usize, kind, forward, start, order, x, y);
-    acceptance(0)
+    accepted(0)
 }
 
 /// The forward line, its products fed in the order given to an adder that holds `start` and wraps.

@@ -16,7 +16,7 @@ ghost use Rattle.meaning.specs.Taken.{TakenLine};
 ghost use Rattle.product.specs.Product.{spot};
 ghost use Rattle.wrapping.specs.Order.{Order};
 ghost use Rattle.wrapping.specs.Wrapped.{wrap, adder};
-ghost use Rattle.wrapping.specs.Feed.{productAt, Feed, sums};
+ghost use Rattle.wrapping.specs.Feed.{productAt, Feed, lineSums};
 
 // The product of input i in output j.
 fn product_at(t: &[i16], apart: usize, j: usize, x: &[i16], i: usize) -> u32
@@ -63,7 +63,7 @@ fn line_of(t: &[i16], apart: usize, start: u32, order: &[u32], x: &[i16], y: &mu
 
 pub fn line(n: usize, kind: u32, forward: bool, start: u32, order: &[u32], x: &[i16], y: &mut [i32])
     requires { ⌜ TakenLine n kind (length (now x)) (length (now y)) × Order n (now order) ⌝ }
-    ensures { λ _. ⌜ now (y .exit) ≡ sums forward kind n (at (now (x .entry))) ⌝ }
+    ensures { λ _. ⌜ now (y .exit) ≡ lineSums forward kind n (at (now (x .entry))) ⌝ }
 {
     if n == 4 {
         let t = zipped_4(kind, forward);

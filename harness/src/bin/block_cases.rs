@@ -205,7 +205,7 @@ fn too_large() {
 /// All high, all low, and by turns, in every place that counts.
 fn blocks(direction: Direction, numbers: Numbers, [low, high]: [i64; 2]) {
     let [w, h, .., columns, rows] = numbers;
-    let area = (w * h) as usize;
+    let elements = (w * h) as usize;
     let counts = match direction {
         Inverse => [columns, rows],
         Forward => [w, h],
@@ -217,7 +217,7 @@ fn blocks(direction: Direction, numbers: Numbers, [low, high]: [i64; 2]) {
     ];
     for (what, turns) in every {
         let block = filled(w, counts, turns);
-        line(direction, numbers, what, &block, [area, area]);
+        line(direction, numbers, what, &block, [elements, elements]);
     }
 }
 

@@ -22,7 +22,7 @@ use Rattle.algebra.specs.Lists.{tabulate, block}
 use Rattle.algebra.specs.First.{firstAt}
 use Rattle.meaning.specs.Weights.{first, fold, S, C, cosines, turn, dct2, weight}
 use Rattle.meaning.specs.Line.{forwardSum, inverseSum, forwardLine, inverseLine}
-use Rattle.meaning.specs.Shape.{isSize, isKind, isDepth, isLongDepth, most, keeps}
+use Rattle.meaning.specs.Shape.{isSize, isKind, isDepth, isLongDepth, mostKept, keeps}
 use Rattle.meaning.specs.Plan.{shortRange, reach}
 use Rattle.meaning.specs.Answer.{forwardLineOutcome, inverseLineOutcome}
 use Rattle.meaning.specs.Inverse.{columnSum, middle, middleAt, rails, rowSum, residual, inverseBlock, inverseOutcome}
@@ -36,7 +36,7 @@ const MIDDLE: &str = "shortRange";
 const LINE: &str = "first fold S C cosines turn dct2 weight sum tabulate isSize isKind \
     forwardSum inverseSum forwardLine inverseLine";
 const BLOCK: &str =
-    "first fold S C cosines turn dct2 weight sum sumℕ tabulate block firstAt isSize isKind isDepth isLongDepth most keeps \
+    "first fold S C cosines turn dct2 weight sum sumℕ tabulate block firstAt isSize isKind isDepth isLongDepth mostKept keeps \
     shortRange reach forwardSum inverseSum columnSum middleAt rails rowSum residual inverseBlock \
     rowValue columnValue coefficient forwardBlock";
 
@@ -217,12 +217,12 @@ fn clear_outside(shape: &Shape, coefficients: &mut [i64]) {
 }
 
 fn accepted_block(t: &mut Theorems, direction: Direction, shape: &Shape) {
-    let area = shape.area() as usize;
-    let mut input = numbers(&mut t.random, area, direction.ends(shape.depth as u32));
+    let elements = shape.elements() as usize;
+    let mut input = numbers(&mut t.random, elements, direction.ends(shape.depth as u32));
     if let Inverse = direction {
         clear_outside(shape, &mut input);
     }
-    let held = held(&mut t.random, area);
+    let held = held(&mut t.random, elements);
     block_case(t, direction, shape, &input, &held);
 }
 
@@ -257,13 +257,13 @@ fn refused_block(t: &mut Theorems, direction: Direction, number: usize) {
     );
     let [columns, rows] = wrong.kept(random, [most.columns, most.rows]);
     let shape = most.keeping(columns, rows);
-    let area = if width.max(height) <= 64 {
-        shape.area().max(1)
+    let elements = if width.max(height) <= 64 {
+        shape.elements().max(1)
     } else {
         16
     };
-    let input = wrong.length(random, 6, area);
-    let output = wrong.length(random, 7, area);
+    let input = wrong.length(random, 6, elements);
+    let output = wrong.length(random, 7, elements);
     // any 16-bit numbers: some are too large for a forward, and some outside the kept part are not 0
     let [low, high] = SIXTEEN_BITS;
     let x = random.numbers(input, low, high);
@@ -273,15 +273,15 @@ fn refused_block(t: &mut Theorems, direction: Direction, number: usize) {
 
 /// One bad number alone among good ones, at a random place: 8 or 9 with that place.
 fn lone_bad_number(t: &mut Theorems, direction: Direction, shape: &Shape) {
-    let area = shape.area() as usize;
+    let elements = shape.elements() as usize;
     let [low, high] = direction.ends(shape.depth as u32);
-    let mut input = numbers(&mut t.random, area, [low, high]);
+    let mut input = numbers(&mut t.random, elements, [low, high]);
     let place = match direction {
-        Forward => t.random.below(area),
+        Forward => t.random.below(elements),
         Inverse => {
             clear_outside(shape, &mut input);
             let outside = |place: &usize| !is_kept(&(*shape).into(), *place);
-            let places: Vec<usize> = (0..area).filter(outside).collect();
+            let places: Vec<usize> = (0..elements).filter(outside).collect();
             t.random.choose(&places)
         }
     };
@@ -289,7 +289,7 @@ fn lone_bad_number(t: &mut Theorems, direction: Direction, shape: &Shape) {
         Forward => t.random.choose(&[high + 1, low - 1, 32767, -32768]),
         Inverse => t.random.choose(&[1, -1, 256, -32768]),
     };
-    let held = held(&mut t.random, area);
+    let held = held(&mut t.random, elements);
     block_case(t, direction, shape, &input, &held);
 }
 
@@ -366,10 +366,10 @@ fn railed_blocks(t: &mut Theorems) {
     {
         for turn in 0..3 {
             let shape = shape_in_turn(k + turn, width, height);
-            let area = shape.area() as usize;
-            let mut input = extremes(&mut t.random, area, SIXTEEN_BITS);
+            let elements = shape.elements() as usize;
+            let mut input = extremes(&mut t.random, elements, SIXTEEN_BITS);
             clear_outside(&shape, &mut input);
-            block_case(t, Inverse, &shape, &input, &vec![0; area]);
+            block_case(t, Inverse, &shape, &input, &vec![0; elements]);
         }
     }
 }
@@ -405,12 +405,12 @@ fn long_blocks(t: &mut Theorems) {
             for (k, (width, height)) in [(4, 4), (4, 8), (8, 4)].into_iter().enumerate() {
                 let mut shape = shape_in_turn(k + depth as usize, width, height);
                 shape.depth = depth;
-                let area = shape.area() as usize;
-                let mut input = extremes(&mut t.random, area, ends);
+                let elements = shape.elements() as usize;
+                let mut input = extremes(&mut t.random, elements, ends);
                 clear_outside(&shape, &mut input);
-                let held = held(&mut t.random, area);
+                let held = held(&mut t.random, elements);
                 long_case(t, extended, &shape, &input, &held);
-                let place = t.random.below(area);
+                let place = t.random.below(elements);
                 input[place] = t.random.choose(&[ends[0] - 1, ends[1] + 1]);
                 long_case(t, extended, &shape, &input, &held);
             }

@@ -83,7 +83,7 @@ pub fn floor_shift(a: i64, n: i64) -> i64 {
 }
 
 /// (a + 2^(n-1)) >> n
-pub fn round_shift(a: i64, n: i64) -> i64 {
+pub fn nearest(a: i64, n: i64) -> i64 {
     floor_shift(a + (1 << (n - 1)), n)
 }
 
@@ -136,7 +136,7 @@ pub fn fair_ends(shape: &Shape, coefficients: &[i64]) -> usize {
 fn residual_row(shape: &Shape, s: i64, middles: &[Vec<i64>], y: i64) -> Vec<i64> {
     let row: Vec<i64> = middles.iter().map(|column| column[y as usize]).collect();
     let sums = inverse_sums(shape.horizontal, shape.width as usize, &row);
-    sums.into_iter().map(|r| round_shift(r, s)).collect()
+    sums.into_iter().map(|r| nearest(r, s)).collect()
 }
 
 fn log2(n: i64) -> i64 {
@@ -148,7 +148,7 @@ fn forward_rows(shape: &Shape, residuals: &[i64]) -> Vec<Vec<i64>> {
     let p = log2(shape.width) + shape.depth - 9;
     let row = |row| {
         let sums = forward_sums(shape.horizontal, row);
-        sums.into_iter().map(|y| round_shift(y, p)).collect()
+        sums.into_iter().map(|y| nearest(y, p)).collect()
     };
     residuals
         .chunks_exact(shape.width as usize)
@@ -162,7 +162,7 @@ fn forward_columns(shape: &Shape, rows: &[Vec<i64>]) -> Vec<Vec<i64>> {
     let column = |x: i64| {
         let column: Vec<i64> = rows.iter().map(|row| row[x as usize]).collect();
         let sums = forward_sums(shape.vertical, &column);
-        sums.into_iter().map(|y| round_shift(y, q)).collect()
+        sums.into_iter().map(|y| nearest(y, q)).collect()
     };
     (0..shape.width).map(column).collect()
 }
@@ -192,14 +192,14 @@ mod tests {
         for _ in 0..50 {
             let shape = random_shape(&mut random);
             let largest = (1 << shape.depth) - 1;
-            let area = shape.area() as usize;
-            let residuals: Vec<i64> = (0..area)
+            let elements = shape.elements() as usize;
+            let residuals: Vec<i64> = (0..elements)
                 .map(|_| random.choose(&[-largest, largest]))
                 .collect();
-            let mut coefficients = vec![0; area];
+            let mut coefficients = vec![0; elements];
             assert_eq!(forward(&shape, &residuals, &mut coefficients).number, 0);
             assert!(coefficients.iter().all(|&c| i16::try_from(c).is_ok()));
-            let mut back = vec![0; area];
+            let mut back = vec![0; elements];
             assert_eq!(inverse(&shape, &coefficients, &mut back).number, 0);
             assert!(back.iter().all(|&r| i32::try_from(r).is_ok()));
         }
@@ -268,14 +268,14 @@ mod tests {
             let less = random_shape(&mut random);
             let [w, h, horizontal, vertical, depth, ..] = less.numbers();
             let most = Shape::new(w, h, horizontal, vertical, depth);
-            let area = less.area() as usize;
+            let elements = less.elements() as usize;
             let coefficients = any_coefficients(&mut random, &less, [-32768, 32767]);
-            let (mut one, mut other) = (vec![0; area], vec![0; area]);
+            let (mut one, mut other) = (vec![0; elements], vec![0; elements]);
             let answer = inverse(&less, &coefficients, &mut one);
             let rails = answer.rails;
             assert_eq!(inverse(&most, &coefficients, &mut other).rails, rails);
             assert_eq!((answer, &one), (Answer::accepted(rails), &other));
-            if let Some(place) = first_outside(&less, &vec![1; area]) {
+            if let Some(place) = first_outside(&less, &vec![1; elements]) {
                 let mut outside = coefficients.clone();
                 outside[place] = 1;
                 let refused = Answer::refused(8, place as i64);
@@ -283,7 +283,7 @@ mod tests {
             }
 
             let largest = (1 << depth) - 1;
-            let residuals = random.numbers(area, -largest, largest);
+            let residuals = random.numbers(elements, -largest, largest);
             forward(&less, &residuals, &mut one);
             forward(&most, &residuals, &mut other);
             assert_eq!(one, inside(&less, other));

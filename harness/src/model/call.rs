@@ -21,8 +21,8 @@ impl Shape {
             horizontal,
             vertical,
             depth,
-            columns: most(horizontal, width),
-            rows: most(vertical, height),
+            columns: most_kept(horizontal, width),
+            rows: most_kept(vertical, height),
         }
     }
 
@@ -54,14 +54,14 @@ impl Shape {
     }
 
     /// How many numbers a block has.
-    pub fn area(&self) -> i64 {
+    pub fn elements(&self) -> i64 {
         self.width * self.height
     }
 
     /// "at least 1 and at most what document 01 keeps, or at most what Wish 1 keeps for kind 0"
     fn keeps(&self) -> bool {
-        (1..=most(self.horizontal, self.width)).contains(&self.columns)
-            && (1..=most(self.vertical, self.height)).contains(&self.rows)
+        (1..=most_kept(self.horizontal, self.width)).contains(&self.columns)
+            && (1..=most_kept(self.vertical, self.height)).contains(&self.rows)
     }
 
     /// 1 to 5, then 20: the first that applies.
@@ -89,8 +89,8 @@ impl Shape {
     /// 6 and 7: a length that is not w*h.
     pub fn length_refusal(&self, input: usize, output: usize) -> Option<Answer> {
         first_refusal(&[
-            (6, input as i64 != self.area()),
-            (7, output as i64 != self.area()),
+            (6, input as i64 != self.elements()),
+            (7, output as i64 != self.elements()),
         ])
     }
 }
@@ -144,6 +144,6 @@ pub fn is_kind(kind: i64) -> bool {
 }
 
 /// What can be kept in a direction: 16 at most, but "All 32 columns or rows are kept in a direction of kind 0".
-pub fn most(kind: i64, n: i64) -> i64 {
+pub fn most_kept(kind: i64, n: i64) -> i64 {
     n.min(if kind == 0 { 32 } else { 16 })
 }

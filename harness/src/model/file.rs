@@ -24,7 +24,7 @@ pub struct Cursor {
 
 /// What the reader hands back: a number, itself at its next place, and the body.
 #[derive(Clone, Copy, Debug, PartialEq, Eq)]
-pub struct Step<'a> {
+pub struct Advance<'a> {
     pub number: i64,
     pub next: Cursor,
     pub body: &'a [u8],
@@ -41,7 +41,7 @@ impl Cursor {
     }
 
     /// "The reader moves a place through the file one field at a time". Order: 14, then the field's own.
-    pub fn step(self, file: &[u8]) -> Step<'_> {
+    pub fn advance(self, file: &[u8]) -> Advance<'_> {
         if file.len() > LARGEST_FILE {
             return self.stay(file, 14);
         }
@@ -50,7 +50,7 @@ impl Cursor {
             return self.stay(file, 0);
         }
         match self.field(file) {
-            Ok((field, shape)) => Step {
+            Ok((field, shape)) => Advance {
                 number: 0,
                 next: Cursor {
                     at: self.at + HEADER + field.body.len(),
@@ -63,8 +63,8 @@ impl Cursor {
     }
 
     /// "its place and shape stay and it hands back the empty start of the file"
-    fn stay(self, file: &[u8], number: i64) -> Step<'_> {
-        Step {
+    fn stay(self, file: &[u8], number: i64) -> Advance<'_> {
+        Advance {
             number,
             next: self,
             body: &file[..0],
@@ -80,7 +80,7 @@ impl Cursor {
     fn field(self, file: &[u8]) -> Result<(Field<'_>, Option<Shape>), i64> {
         let field = self.read(&file[self.at..])?;
         let shape = match (field.tag, self.shape) {
-            (TAG_SHAPE, _) => shape_of(field.body),
+            (TAG_SHAPE, _) => shape_in(field.body),
             (TAG_KEPT, Some(held)) => held.keeping(field.body[0].into(), field.body[1].into()),
             (_, held) => return Ok((field, held)),
         };
@@ -103,7 +103,7 @@ impl Cursor {
             TAG_KEPT => drop(self.held().ok_or(13)?),
             TAG_COEFFICIENTS | TAG_RESIDUALS => {
                 let shape = self.held().ok_or(13)?;
-                if length as i64 != 2 * shape.area() {
+                if length as i64 != 2 * shape.elements() {
                     return Err(6);
                 }
             }
@@ -115,14 +115,14 @@ impl Cursor {
 }
 
 /// The fields of a file in order, each with the cursor before it: up to the end, or to the first that is refused, with that one.
-pub fn fields(file: &[u8]) -> impl Iterator<Item = (Cursor, Step<'_>)> {
+pub fn fields(file: &[u8]) -> impl Iterator<Item = (Cursor, Advance<'_>)> {
     let mut next = Some(Cursor::new());
     std::iter::from_fn(move || {
         let cursor = next?;
-        let step = cursor.step(file);
-        next = (step.number == 0).then_some(step.next);
-        let is_end = step.number == 0 && step.body.is_empty();
-        (!is_end).then_some((cursor, step))
+        let advance = cursor.advance(file);
+        next = (advance.number == 0).then_some(advance.next);
+        let is_end = advance.number == 0 && advance.body.is_empty();
+        (!is_end).then_some((cursor, advance))
     })
 }
 
@@ -144,9 +144,9 @@ pub enum Picked {
 /// "A support engineer names a block": field by field, up to the one that is meant.
 pub fn picked(file: &[u8], n: usize) -> Picked {
     let mut met = 0;
-    for (cursor, step) in fields(file) {
-        if step.number != 0 {
-            return Picked::Refused(step.number, cursor.at);
+    for (cursor, advance) in fields(file) {
+        if advance.number != 0 {
+            return Picked::Refused(advance.number, cursor.at);
         }
         let tag = file[cursor.at];
         if [TAG_COEFFICIENTS, TAG_RESIDUALS].contains(&tag) {
@@ -156,7 +156,7 @@ pub fn picked(file: &[u8], n: usize) -> Picked {
                     tag,
                     at: cursor.at,
                     shape: cursor.shape.expect("data follows a shape"),
-                    numbers: numbers_of(step.body),
+                    numbers: numbers_of(advance.body),
                 };
             }
         }
@@ -171,7 +171,7 @@ impl Default for Cursor {
 }
 
 /// "width, height, horizontal kind, vertical kind, d", of a body of five bytes.
-fn shape_of(body: &[u8]) -> Shape {
+fn shape_in(body: &[u8]) -> Shape {
     let number = |k: usize| i64::from(body[k]);
     Shape::new(number(0), number(1), number(2), number(3), number(4))
 }
@@ -192,8 +192,8 @@ pub fn numbers_of(body: &[u8]) -> Vec<i64> {
 /// What the program prints of a file.
 pub fn run_file(file: &[u8]) -> String {
     let mut text = String::new();
-    for (cursor, step) in fields(file) {
-        match printed(step, file, cursor.at) {
+    for (cursor, advance) in fields(file) {
+        match printed(advance, file, cursor.at) {
             Ok(line) => text.push_str(&line),
             // "The first refusal ends the run; lines printed before it stand."
             Err(number) => return text + &format!("R {number} {}\n", cursor.at),
@@ -203,13 +203,13 @@ pub fn run_file(file: &[u8]) -> String {
 }
 
 /// What the field at a place prints, or the number of its refusal.
-fn printed(step: Step<'_>, file: &[u8], at: usize) -> Result<String, i64> {
-    if step.number != 0 {
-        return Err(step.number);
+fn printed(advance: Advance<'_>, file: &[u8], at: usize) -> Result<String, i64> {
+    if advance.number != 0 {
+        return Err(advance.number);
     }
-    match (file[at], step.next.shape) {
-        (TAG_COEFFICIENTS, Some(shape)) => inverse_line_of(&shape, step.body),
-        (TAG_RESIDUALS, Some(shape)) => forward_line_of(&shape, step.body),
+    match (file[at], advance.next.shape) {
+        (TAG_COEFFICIENTS, Some(shape)) => inverse_line_of(&shape, advance.body),
+        (TAG_RESIDUALS, Some(shape)) => forward_line_of(&shape, advance.body),
         _ => Ok(String::new()),
     }
 }
@@ -234,7 +234,7 @@ fn run(
     body: &[u8],
     direction: impl Fn(&Shape, &[i64], &mut [i64]) -> Answer,
 ) -> Result<(Answer, Vec<i64>), i64> {
-    let mut out = vec![0; shape.area() as usize];
+    let mut out = vec![0; shape.elements() as usize];
     let answer = direction(shape, &numbers_of(body), &mut out);
     match answer.number {
         0 => Ok((answer, out)),
@@ -357,9 +357,12 @@ mod tests {
     #[test]
     fn a_cursor_stays_at_the_end_and_at_a_refused_field() {
         let stays = |cursor: Cursor, file: &[u8], number| {
-            let step = cursor.step(file);
-            assert_eq!((step.number, step.next), (number, cursor));
-            assert_eq!((step.body.as_ptr(), step.body.len()), (file.as_ptr(), 0));
+            let advance = cursor.advance(file);
+            assert_eq!((advance.number, advance.next), (number, cursor));
+            assert_eq!(
+                (advance.body.as_ptr(), advance.body.len()),
+                (file.as_ptr(), 0)
+            );
         };
         stays(Cursor { at: 8, shape: None }, &SHAPE, 0);
         stays(
@@ -392,10 +395,10 @@ mod tests {
     #[test]
     fn a_body_is_the_stretch_of_the_file() {
         let file = [&SHAPE[..], &data(2, 5)].concat();
-        let first = Cursor::new().step(&file);
+        let first = Cursor::new().advance(&file);
         assert_eq!(first.body.as_ptr(), file[3..].as_ptr());
         assert_eq!(first.next.at, 8);
-        let second = first.next.step(&file);
+        let second = first.next.advance(&file);
         assert_eq!(second.body.as_ptr(), file[11..].as_ptr());
         assert_eq!(second.next.shape, Some(Shape::new(4, 4, 1, 1, 10)));
         assert_eq!(second.next.at, file.len());

@@ -1,7 +1,7 @@
 //! Document 02, Wish 14: "The second edition's long numbers". The inverse of a block whose range and last shift follow the
 //! extended-precision switch; `docs/DECISIONS.md` has where the two rules come from.
 
-use super::block::{first_outside, round_shift, unclipped};
+use super::block::{first_outside, nearest, unclipped};
 use super::call::{refusal_at, Answer, Shape};
 use super::line::inverse_sums;
 
@@ -41,7 +41,7 @@ pub fn first_beyond(shape: &Shape, extended: bool, coefficients: &[i64]) -> Opti
     coefficients.iter().position(beyond)
 }
 
-/// The inverse of a block of long coefficients.
+/// The inverse of a block of long numbers.
 pub fn inverse_long(
     shape: &Shape,
     extended: bool,
@@ -68,7 +68,7 @@ fn worked(shape: &Shape, extended: bool, coefficients: &[i64], residuals: &mut [
         let row: Vec<i64> = unclipped.iter().map(|c| c[y].clamp(low, high)).collect();
         let sums = inverse_sums(shape.horizontal, shape.width as usize, &row);
         for (residual, sum) in line.iter_mut().zip(sums) {
-            *residual = round_shift(sum, last_shift(extended, shape.depth));
+            *residual = nearest(sum, last_shift(extended, shape.depth));
         }
     }
     Answer::accepted(rails as i64)

@@ -74,13 +74,13 @@ pub fn add(totals: &mut Totals, shape: &Shape, residuals: &[i64]) -> Answer {
 /// The residual blocks of a block file, up to the field that is refused, or to the block that is one too many: its number and its
 /// offset.
 pub fn add_file(totals: &mut Totals, file: &[u8]) -> Option<(i64, usize)> {
-    for (cursor, step) in fields(file) {
-        if step.number != 0 {
-            return Some((step.number, cursor.at));
+    for (cursor, advance) in fields(file) {
+        if advance.number != 0 {
+            return Some((advance.number, cursor.at));
         }
         if file[cursor.at] == TAG_RESIDUALS {
             let shape = cursor.shape.expect("data follows a shape");
-            if add(totals, &shape, &numbers_of(step.body)).number == 22 {
+            if add(totals, &shape, &numbers_of(advance.body)).number == 22 {
                 return Some((22, cursor.at));
             }
         }

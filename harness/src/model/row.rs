@@ -37,7 +37,7 @@ pub fn block_row(
 /// "A shape that fails 1 or 2 adds nothing to that sum"; one that another number refuses adds its w*h.
 pub fn span(shape: &Shape) -> usize {
     if is_size(shape.width) && is_size(shape.height) {
-        shape.area() as usize
+        shape.elements() as usize
     } else {
         0
     }

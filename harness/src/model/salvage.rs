@@ -20,10 +20,10 @@ fn pieces(file: &[u8]) -> Vec<(Range<usize>, bool)> {
     let mut cursor = Cursor::new();
     while cursor.at < file.len() {
         let at = cursor.at;
-        let step = cursor.step(file);
-        let kept = step.number == 0;
+        let advance = cursor.advance(file);
+        let kept = advance.number == 0;
         cursor = if kept {
-            step.next
+            advance.next
         } else {
             let goes_on = (at + 1..file.len()).find(|&next| is_block_at(file, next));
             Cursor {
@@ -40,8 +40,8 @@ fn pieces(file: &[u8]) -> Vec<(Range<usize>, bool)> {
 /// shape belongs to it.
 fn is_block_at(file: &[u8], at: usize) -> bool {
     let read = |cursor: Cursor, tags: &[u8]| {
-        let step = cursor.step(file);
-        (step.next.at > cursor.at && tags.contains(&file[cursor.at])).then_some(step.next)
+        let advance = cursor.advance(file);
+        (advance.next.at > cursor.at && tags.contains(&file[cursor.at])).then_some(advance.next)
     };
     let is_data = |cursor| read(cursor, &[TAG_COEFFICIENTS, TAG_RESIDUALS]).is_some();
     let Some(behind) = read(Cursor { at, shape: None }, &[TAG_SHAPE]) else {

@@ -14,7 +14,7 @@ pub fn any_shape(random: &mut Random, deepest: i64) -> Shape {
 
 /// Numbers from `low` to `high` in every place that is kept, and 0 in the others.
 pub fn any_coefficients(random: &mut Random, shape: &Shape, [low, high]: [i64; 2]) -> Vec<i64> {
-    inside(shape, random.numbers(shape.area() as usize, low, high))
+    inside(shape, random.numbers(shape.elements() as usize, low, high))
 }
 
 /// The numbers with 0 in every place that is not kept.

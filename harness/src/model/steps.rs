@@ -46,7 +46,7 @@ impl StepList {
 
 /// What a run hands back beside its output: a number, and how many multiplying steps it took.
 #[derive(Clone, Copy, Debug, PartialEq, Eq)]
-pub struct Taken {
+pub struct StepCount {
     pub number: i64,
     pub count: i64,
 }
@@ -62,13 +62,13 @@ pub fn run(
     outs: &[i64],
     x: &[i64],
     y: &mut [i64],
-) -> Taken {
+) -> StepCount {
     match outputs(inputs, cells, steps, outs, x, y.len()) {
         Ok((values, count)) => {
             y.copy_from_slice(&values);
-            Taken { number: 0, count }
+            StepCount { number: 0, count }
         }
-        Err(number) => Taken { number, count: 0 },
+        Err(number) => StepCount { number, count: 0 },
     }
 }
 

@@ -1,7 +1,7 @@
 //! Document 02, Wish 7: "Blocks one sample wide or high", and the blocks of the inverse by the same call. The last shift is H.266's,
 //! which for one stage is one less of the 2^6 * sqrt(n) that each stage leaves: `docs/DECISIONS.md` has where it comes from.
 
-use super::block::{column_sums, first_outside, inverse, middle, round_shift};
+use super::block::{column_sums, first_outside, inverse, middle, nearest};
 use super::call::{first_refusal, is_size, refusal_at, Answer, Shape};
 use super::line::inverse_sums;
 
@@ -18,14 +18,14 @@ pub fn inverse_thin(shape: &Shape, c: &[i64], first: &mut [i64], second: &mut [i
     if let Some(answer) = refusal(shape, c, lengths) {
         return Thin { answer, area: 0 };
     }
-    let area = shape.area() as usize;
+    let elements = shape.elements() as usize;
     if shape.width == 1 || shape.height == 1 {
-        first[..area].copy_from_slice(&one_stage(shape, c));
+        first[..elements].copy_from_slice(&one_stage(shape, c));
         let answer = Answer::accepted(0);
         return Thin { answer, area: 1 };
     }
-    first[..area].copy_from_slice(&middles(shape, c));
-    let answer = inverse(shape, c, &mut second[..area]);
+    first[..elements].copy_from_slice(&middles(shape, c));
+    let answer = inverse(shape, c, &mut second[..elements]);
     Thin { answer, area: 2 }
 }
 
@@ -38,8 +38,8 @@ fn is_side(n: i64, other: i64) -> bool {
 fn refusal(shape: &Shape, c: &[i64], lengths: [usize; 2]) -> Option<Answer> {
     let [w, h] = [shape.width, shape.height];
     let of_lengths = || {
-        let short = lengths.iter().any(|n| (*n as i64) < shape.area());
-        first_refusal(&[(6, c.len() as i64 != shape.area()), (19, short)])
+        let short = lengths.iter().any(|n| (*n as i64) < shape.elements());
+        first_refusal(&[(6, c.len() as i64 != shape.elements()), (19, short)])
     };
     shape
         .refusal_by([is_side(w, h), is_side(h, w)], 12)
@@ -56,7 +56,7 @@ fn one_stage(shape: &Shape, c: &[i64]) -> Vec<i64> {
         [shape.horizontal, shape.width, shape.columns]
     };
     let sums = inverse_sums(kind, n as usize, &c[..kept as usize]);
-    let residual = |sum| round_shift(sum, 21 - shape.depth);
+    let residual = |sum| nearest(sum, 21 - shape.depth);
     sums.into_iter().map(residual).collect()
 }
 

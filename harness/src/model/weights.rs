@@ -142,7 +142,7 @@ mod tests {
         first_row(points)[n - 1]
     }
 
-    /// "Sharing between weights": the table of first rows has the sums that the scope names.
+    /// "Sharing between weights": the table of first rows has the sums that document 01 names.
     #[test]
     fn sharing() {
         assert_eq!(s(4, 1) + s(4, 2), s(4, 4));

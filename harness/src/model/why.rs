@@ -1,7 +1,7 @@
 //! Document 02, Wish 4: "Why is this residual what it is?" The four parts of one residual, put over 2^(7+s), where s is the last
 //! shift: each is worked out by what it is called, and that they add up is for a test to find.
 
-use super::block::{first_outside, floor_shift, round_shift, ENDS};
+use super::block::{first_outside, floor_shift, nearest, ENDS};
 use super::call::{first_refusal, refusal_at, Answer, Shape};
 use super::long::{deepest, ends, first_beyond, last_shift};
 use super::weights::weight;
@@ -43,7 +43,7 @@ pub fn why(shape: &Shape, coefficients: &[i64], place: i64) -> Parts {
     }
 }
 
-/// "in demand 3 and in Wish 4, s stands for 20-d": the same of a block of long coefficients.
+/// "in demand 3 and in Wish 4, s stands for 20-d": the same of a block of long numbers.
 pub fn why_long(shape: &Shape, extended: bool, coefficients: &[i64], place: i64) -> Parts {
     let beyond = || first_beyond(shape, extended, coefficients);
     match refusal(shape, deepest(extended), coefficients, beyond, place) {
@@ -66,10 +66,10 @@ fn refusal(
 ) -> Option<Answer> {
     shape
         .refusal_to(deepest)
-        .or_else(|| first_refusal(&[(6, c.len() as i64 != shape.area())]))
+        .or_else(|| first_refusal(&[(6, c.len() as i64 != shape.elements())]))
         .or_else(|| refusal_at(8, first_outside(shape, c)))
         .or_else(|| refusal_at(27, beyond()))
-        .or_else(|| first_refusal(&[(15, place >= shape.area())]))
+        .or_else(|| first_refusal(&[(15, place >= shape.elements())]))
 }
 
 /// The parts at a place of a block that is taken, by its range, its last shift s and its kept part.
@@ -98,7 +98,7 @@ fn parts(shape: &Shape, [low, high]: [i64; 2], s: i64, c: &[i64], place: i64) ->
         exact: exact(shape, c, [x, y]),
         middle_roundings: carried(&|i| 128 * before(i) - e(i)),
         clippings: carried(&|i| 128 * (after(i) - before(i))),
-        last_rounding: i128::from(round_shift(r, s) * (1 << s) - r) * 128,
+        last_rounding: i128::from(nearest(r, s) * (1 << s) - r) * 128,
     }
 }
 

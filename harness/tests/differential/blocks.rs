@@ -1,6 +1,6 @@
 //! Blocks that are taken: every shape with every layout of numbers, and middle values about the rails.
 
-use crate::calls::{area, block_call, shapes};
+use crate::calls::{block_call, elements, shapes};
 use hoengtila_harness::compare::Comparison;
 use hoengtila_harness::direction::Direction::{self, Forward, Inverse};
 use hoengtila_harness::model::fair_ends;
@@ -26,7 +26,7 @@ fn blocks(title: &'static str, direction: Direction) {
             if direction == Inverse {
                 clear_outside(&shape, &mut input);
             }
-            let call = block_call(&mut c.random, direction, shape, &input, area(&shape));
+            let call = block_call(&mut c.random, direction, shape, &input, elements(&shape));
             c.add(call);
         }
     }
@@ -54,7 +54,7 @@ fn inverse_blocks_about_the_rails() {
             _ => *most,
         };
         let input = block_about_the_rails(&mut c.random, shape);
-        let call = block_call(&mut c.random, Inverse, *shape, &input, area(shape));
+        let call = block_call(&mut c.random, Inverse, *shape, &input, elements(shape));
         let altered = c.outcome(&call).answer.rails;
         let ends = fair_ends(&(*shape).into(), &input);
         rails += altered;

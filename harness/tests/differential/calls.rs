@@ -5,7 +5,7 @@ use hoengtila_harness::direction::Direction::{self, Forward, Inverse};
 use hoengtila_harness::library::Shape;
 use hoengtila_harness::patterns::{keeping_any, SIXTEEN_BITS};
 use hoengtila_harness::random::Random;
-use hoengtila_harness::widths::{most_kept, narrow};
+use hoengtila_harness::widths::{narrow, shape_of};
 
 pub const SIZES: [u32; 4] = [4, 8, 16, 32];
 pub const KINDS: [u32; 3] = [0, 1, 2];
@@ -70,7 +70,7 @@ pub fn block_call(
     Call::new(what, narrow(input), held)
 }
 
-pub fn area(shape: &Shape) -> usize {
+pub fn elements(shape: &Shape) -> usize {
     (shape.width * shape.height) as usize
 }
 
@@ -84,7 +84,7 @@ fn shapes_of_sides([width, height]: [u32; 2]) -> Vec<Shape> {
     let mut shapes = vec![];
     for horizontal in KINDS {
         for vertical in KINDS {
-            let shape = |depth| most_kept([width, height, horizontal, vertical, depth]);
+            let shape = |depth| shape_of([width, height, horizontal, vertical, depth]);
             shapes.extend((8..=12).map(shape));
         }
     }
@@ -111,7 +111,7 @@ pub fn shapes_to(random: &mut Random, deepest: u32) -> Vec<Shape> {
     for [w, h] in sides() {
         for depth in 8..=deepest {
             let kinds = [random.choose(&KINDS), random.choose(&KINDS)];
-            let most = most_kept([w, h, kinds[0], kinds[1], depth]);
+            let most = shape_of([w, h, kinds[0], kinds[1], depth]);
             all.extend([most, keeping_any(random, &most)]);
         }
     }

@@ -1,7 +1,7 @@
 //! Blocks of long numbers: every depth of either switch with every layout of numbers, middle values about the ends of the
 //! range, every set of refusals, and the switch off beside the other inverse.
 
-use crate::calls::{area, held, shapes_to, KINDS};
+use crate::calls::{elements, held, shapes_to, KINDS};
 use hoengtila_harness::call::{Call, What};
 use hoengtila_harness::compare::Comparison;
 use hoengtila_harness::header::numbers;
@@ -10,7 +10,7 @@ use hoengtila_harness::long_call::LongCall;
 use hoengtila_harness::model::long::ends;
 use hoengtila_harness::patterns::{block, clear_outside, is_kept, LAYOUTS, SIXTEEN_BITS};
 use hoengtila_harness::random::Random;
-use hoengtila_harness::widths::{most_kept, narrow};
+use hoengtila_harness::widths::{narrow, shape_of};
 use hoengtila_harness::wrong::{right_length, Wrong};
 
 /// The switch as a caller may write it, and its deepest depth.
@@ -39,7 +39,7 @@ fn long_blocks() {
             for ends in [ends_of(shape, extended), SIXTEEN_BITS] {
                 let mut input = block(&mut c.random, layout, shape, ends);
                 clear_outside(shape, &mut input);
-                let call = long_call(&mut c.random, *shape, extended, &input, area(shape));
+                let call = long_call(&mut c.random, *shape, extended, &input, elements(shape));
                 rails += c.outcome(&call).answer.rails;
             }
         }
@@ -56,7 +56,7 @@ fn long_blocks_about_the_ends() {
     for round in 0..6000 {
         let (extended, deepest) = SWITCHES[round % 2];
         let depth = 8 + c.random.below((deepest - 7) as usize) as u32;
-        let shape = most_kept([4, 4, c.random.choose(&KINDS), 1, depth]);
+        let shape = shape_of([4, 4, c.random.choose(&KINDS), 1, depth]);
         let [low, high] = ends_of(&shape, extended);
         let mut input = vec![0; 16];
         let x = c.random.below(4);
@@ -83,7 +83,7 @@ fn long_blocks_with_the_switch_off() {
         if k % 3 != 0 {
             clear_outside(shape, &mut input);
         }
-        let call = long_call(&mut c.random, *shape, 0, &input, area(shape));
+        let call = long_call(&mut c.random, *shape, 0, &input, elements(shape));
         let other = Call::new(What::Inverse(*shape), narrow(&input), call.held.clone());
         assert_eq!(c.outcome(&call), c.other(&other));
     }
@@ -125,11 +125,11 @@ fn one_number_beyond_the_range_at_each_place() {
     for (extended, deepest) in &SWITCHES[..2] {
         for shape in shapes_to(&mut c.random, *deepest).iter().step_by(7) {
             let [low, high] = ends_of(shape, *extended);
-            for place in 0..area(shape) {
+            for place in 0..elements(shape) {
                 let mut input = block(&mut c.random, LAYOUTS[0], shape, [low, high]);
                 clear_outside(shape, &mut input);
                 input[place] = c.random.choose(&[low - 1, high + 1]);
-                let call = long_call(&mut c.random, *shape, *extended, &input, area(shape));
+                let call = long_call(&mut c.random, *shape, *extended, &input, elements(shape));
                 c.outcome(&call);
             }
         }

@@ -1,12 +1,12 @@
-//! "Numbers on both sides": what the scope itself says that calls give, in its own numbers and not the model's.
+//! "Numbers on both sides": what document 01 itself says that calls give, in its own numbers and not the model's.
 
 use hoengtila_harness::call::{Call, Outcome, Path, What};
 use hoengtila_harness::compare::Comparison;
 use hoengtila_harness::library::{Answer, Shape};
-use hoengtila_harness::widths::most_kept;
+use hoengtila_harness::widths::shape_of;
 
 fn shape(width: u32, height: u32, depth: u32) -> Shape {
-    most_kept([width, height, 1, 1, depth])
+    shape_of([width, height, 1, 1, depth])
 }
 
 /// What the library makes of a call whose output holds sevens.
@@ -86,7 +86,7 @@ fn whole_case(c: &mut Comparison) {
     let whole = run(c, What::Inverse(shape(4, 4, 10)), &corner);
     let residuals = [0, 1, 1, 1, 1, 2, 2, 2, 1, 2, 3, 3, 1, 2, 3, 3];
     assert_eq!(whole.output, residuals, "item 8");
-    let flat = run(c, What::Inverse(most_kept([4, 4, 0, 0, 10])), &corner);
+    let flat = run(c, What::Inverse(shape_of([4, 4, 0, 0, 10])), &corner);
     assert_eq!(flat.output, [2; 16], "kind 0 twice");
 }
 
@@ -114,7 +114,7 @@ fn kept_parts(c: &mut Comparison) {
         ([2, 0], 1007, 0),
         ([2, 0], 1008, 8),
     ] {
-        let shape = most_kept([32, 32, horizontal, vertical, 10]);
+        let shape = shape_of([32, 32, horizontal, vertical, 10]);
         one_alone(c, shape, place, number);
     }
     for ([columns, rows], place, number) in [
@@ -142,7 +142,7 @@ fn several_reasons(c: &mut Comparison) {
 
 #[test]
 fn numbers_on_both_sides() {
-    let mut c = Comparison::open("the scope's own numbers");
+    let mut c = Comparison::open("document 01's own numbers");
     lines(&mut c);
     weights(&mut c);
     forward_blocks(&mut c);

@@ -1,6 +1,6 @@
 //! The order of refusals that the header gives each function: every set of them, on one small call.
 
-use crate::calls::area;
+use crate::calls::elements;
 use hoengtila_harness::call::{Call, Path, What};
 use hoengtila_harness::compare::Comparison;
 use hoengtila_harness::header::{each_set, Set};
@@ -147,7 +147,7 @@ fn orders_of_rows() {
             rows: 4,
         };
         let shapes = vec![block; set.pick(16, 65, 2)];
-        let sum = shapes.len() * area(&block);
+        let sum = shapes.len() * elements(&block);
         let call = RowCall {
             answers: vec![Answer::default(); shapes.len()],
             input: vec![1; set.pick(6, sum - 1, sum)],

@@ -1,6 +1,6 @@
 //! Calls that are turned down: the number, the place, and the output as it was.
 
-use crate::calls::{area, block_call, line_call, shapes_in_turn, KINDS, SIZES};
+use crate::calls::{block_call, elements, line_call, shapes_in_turn, KINDS, SIZES};
 use hoengtila_harness::call::{Call, PATHS};
 use hoengtila_harness::compare::Comparison;
 use hoengtila_harness::direction::Direction::{self, Forward, Inverse};
@@ -76,7 +76,7 @@ fn one_bad_number_at_each_place() {
         .flat_map(|s| DIRECTIONS.map(|d| (s, d)))
     {
         let [low, high] = direction.ends(shape.depth);
-        for place in 0..area(shape) {
+        for place in 0..elements(shape) {
             let mut input = block(&mut c.random, LAYOUTS[0], shape, [low, high]);
             let bad = match direction {
                 Forward => [high + 1, low - 1, 32767, -32768],
@@ -86,7 +86,7 @@ fn one_bad_number_at_each_place() {
                 clear_outside(shape, &mut input);
             }
             input[place] = c.random.choose(&bad);
-            let call = block_call(&mut c.random, direction, *shape, &input, area(shape));
+            let call = block_call(&mut c.random, direction, *shape, &input, elements(shape));
             c.add(call);
         }
     }
@@ -120,7 +120,7 @@ fn lengths_of_blocks() {
         .iter()
         .flat_map(|s| DIRECTIONS.map(|d| (s, d)))
     {
-        let right = area(shape);
+        let right = elements(shape);
         for length in 0..=right + 1 {
             for (input, output) in [(length, right), (right, length), (length, length)] {
                 let x = vec![0; input];

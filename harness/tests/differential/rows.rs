@@ -9,7 +9,7 @@ use hoengtila_harness::model;
 use hoengtila_harness::patterns::{clear_outside, keeping_any};
 use hoengtila_harness::random::Random;
 use hoengtila_harness::row_call::{RowCall, RowOutcome};
-use hoengtila_harness::widths::{most_kept, narrow, shape_numbers};
+use hoengtila_harness::widths::{narrow, shape_numbers, shape_of};
 use hoengtila_harness::wrong::{NO_DEPTH, NO_KIND, NO_SIZE};
 use std::collections::BTreeMap;
 
@@ -95,7 +95,7 @@ fn none_kept(random: &mut Random, most: u32) -> u32 {
 fn spoiled(random: &mut Random, mut shape: Shape) -> Shape {
     for _ in 0..=random.below(2) {
         let [width, height, horizontal, vertical, depth, ..] = shape_numbers(&shape);
-        let most = most_kept([width, height, horizontal, vertical, depth]);
+        let most = shape_of([width, height, horizontal, vertical, depth]);
         match random.below(7) {
             0 => shape.width = random.choose(&NO_SIZE) as u32,
             1 => shape.height = random.choose(&NO_SIZE) as u32,
@@ -207,8 +207,8 @@ fn refused_blocks_among_good_ones() {
 /// The sum, shorter and longer ones, and one that would fit if shapes that 1 or 2 refuses counted.
 fn lengths(shapes: &[Shape]) -> [usize; 7] {
     let right = sum(shapes);
-    let area = |s: &Shape| u64::from(s.width) * u64::from(s.height);
-    let whole: u64 = shapes.iter().map(area).sum();
+    let elements = |s: &Shape| u64::from(s.width) * u64::from(s.height);
+    let whole: u64 = shapes.iter().map(elements).sum();
     [
         right,
         right + 1,

@@ -1,7 +1,7 @@
 //! Blocks one sample wide or high, and the blocks of the inverse by the same call: every thin shape, both areas with numbers behind
 //! that stay, the other inverse beside it, and every set of refusals.
 
-use crate::calls::{area, shapes, KINDS, SIZES};
+use crate::calls::{elements, shapes, KINDS, SIZES};
 use hoengtila_harness::call::{Call, What};
 use hoengtila_harness::compare::Comparison;
 use hoengtila_harness::header::numbers;
@@ -11,7 +11,7 @@ use hoengtila_harness::patterns::{
 };
 use hoengtila_harness::random::Random;
 use hoengtila_harness::thin_call::ThinCall;
-use hoengtila_harness::widths::{most_kept, narrow};
+use hoengtila_harness::widths::{narrow, shape_of};
 use hoengtila_harness::wrong::{right_length, Wrong};
 
 /// Each side of 1 with each other side that it may have.
@@ -19,7 +19,7 @@ const THIN: [[u32; 2]; 6] = [[1, 4], [1, 8], [1, 16], [4, 1], [8, 1], [16, 1]];
 
 /// A call with random numbers in both areas, which are so much longer than the block.
 fn call(random: &mut Random, shape: Shape, c: &[i64], longer: [usize; 2]) -> ThinCall {
-    call_of(random, shape, c, longer.map(|more| area(&shape) + more))
+    call_of(random, shape, c, longer.map(|more| elements(&shape) + more))
 }
 
 fn call_of(random: &mut Random, shape: Shape, c: &[i64], lengths: [usize; 2]) -> ThinCall {
@@ -42,7 +42,7 @@ fn thin_shapes() -> Vec<Shape> {
     let mut all = vec![];
     for [w, h] in THIN {
         for (x, y) in KINDS.iter().flat_map(|x| KINDS.map(|y| (*x, y))) {
-            all.extend((8..=12).map(|d| most_kept([w, h, x, y, d])));
+            all.extend((8..=12).map(|d| shape_of([w, h, x, y, d])));
         }
     }
     all
@@ -123,11 +123,11 @@ fn thin_blocks() {
 fn thin_blocks_about_half_a_level() {
     let mut c = Comparison::open("blocks one sample wide or high, about half a level");
     for shape in thin_shapes() {
-        for place in 0..area(&shape) {
+        for place in 0..elements(&shape) {
             let weight = c.random.between(1, 90);
             let half = (1 << (20 - shape.depth)) / weight;
             let number = half * c.random.choose(&[1, -1, 3, -3]) + c.random.between(-1, 1);
-            let mut input = vec![0; area(&shape)];
+            let mut input = vec![0; elements(&shape)];
             input[place] = number.clamp(-32768, 32767);
             compare_thin(&mut c, shape, &input);
         }
@@ -238,8 +238,8 @@ fn call_with(random: &mut Random, thin: bool, wrong: &Wrong) -> ThinCall {
 fn every_pair_of_sides() {
     let mut c = Comparison::open("blocks over lent areas, every pair of sides");
     for (w, h) in (0..=33).flat_map(|w| (0..=33).map(move |h| (w, h))) {
-        let shape = most_kept([w, h, 1, 2, 9]);
-        let input = vec![0; area(&shape)];
+        let shape = shape_of([w, h, 1, 2, 9]);
+        let input = vec![0; elements(&shape)];
         let call = call(&mut c.random, shape, &input, [0, 0]);
         let number = c.outcome(&call).told.number;
         match [w, h] {
@@ -257,8 +257,8 @@ fn every_pair_of_sides() {
 fn lengths_of_areas() {
     let mut c = Comparison::open("blocks over lent areas of every length");
     for [w, h] in THIN.into_iter().chain([[4, 4]]) {
-        let shape = most_kept([w, h, 0, 1, 12]);
-        let n = area(&shape);
+        let shape = shape_of([w, h, 0, 1, 12]);
+        let n = elements(&shape);
         let lengths = (0..=n + 1).flat_map(|a| (0..=n + 1).map(move |b| [a, b]));
         for lengths in lengths {
             let input = c.random.choose(&[n, n, n, n - 1, n + 1, 0]);

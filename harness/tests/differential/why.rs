@@ -1,7 +1,7 @@
 //! Why a residual is what it is: the four parts at every place, of both calls, with rails and without; that they add up to the
 //! residual which the library's own inverse gives; and every set of refusals.
 
-use crate::calls::{area, shapes_to, sides, KINDS};
+use crate::calls::{elements, shapes_to, sides, KINDS};
 use hoengtila_harness::call::{Call, What};
 use hoengtila_harness::compare::Comparison;
 use hoengtila_harness::header::numbers;
@@ -13,7 +13,7 @@ use hoengtila_harness::patterns::{
 };
 use hoengtila_harness::random::Random;
 use hoengtila_harness::why_call::WhyCall;
-use hoengtila_harness::widths::{most_kept, narrow};
+use hoengtila_harness::widths::{narrow, shape_of};
 use hoengtila_harness::wrong::{right_length, Wrong};
 
 /// No switch, and the switch as a caller may write it, with the deepest depth of each.
@@ -54,7 +54,7 @@ fn residuals(
     extended: Option<u32>,
     input: &[i64],
 ) -> (u32, Vec<i32>) {
-    let held = vec![0; area(&shape)];
+    let held = vec![0; elements(&shape)];
     let outcome = match extended {
         None => c.other(&Call::new(What::Inverse(shape), narrow(input), held)),
         Some(extended) => c.other(&LongCall {
@@ -84,7 +84,7 @@ fn sum(parts: &Parts) -> i128 {
 /// were not 0.
 fn compare_places(c: &mut Comparison, shape: Shape, extended: Option<u32>, input: &[i64]) -> usize {
     let (rails, residuals) = residuals(c, shape, extended, input);
-    let all = area(&shape);
+    let all = elements(&shape);
     let mut places: Vec<usize> = (0..6).map(|_| c.random.below(all)).collect();
     places.extend([0, shape.width as usize - 1, all - 1]);
     let mut clipped = 0;
@@ -124,7 +124,7 @@ fn parts_about_the_rails() {
         let extended = [None, Some(0)][k % 2];
         let input = block_about_the_rails(&mut c.random, &shape);
         clipped += compare_places(&mut c, shape, extended, &input);
-        let mut small = c.random.numbers(area(&shape), -99, 99);
+        let mut small = c.random.numbers(elements(&shape), -99, 99);
         clear_outside(&shape, &mut small);
         fair += usize::from(compare_places(&mut c, shape, extended, &small) == 0);
     }
@@ -138,11 +138,11 @@ fn parts_at_every_place() {
     let mut c = Comparison::open("parts of a residual at every place");
     for (k, [w, h]) in sides().enumerate() {
         let (extended, _) = SWITCHES[k % 4];
-        let shape = most_kept([w, h, KINDS[k % 3], KINDS[k / 3 % 3], 8 + k as u32 % 5]);
+        let shape = shape_of([w, h, KINDS[k % 3], KINDS[k / 3 % 3], 8 + k as u32 % 5]);
         let ends = ends_of(&shape, extended);
         let mut input = block(&mut c.random, LAYOUTS[0], &shape, ends);
         clear_outside(&shape, &mut input);
-        for place in 0..=area(&shape) {
+        for place in 0..=elements(&shape) {
             c.outcome(&why_call(shape, extended, &input, place));
         }
     }
@@ -158,7 +158,7 @@ fn parts_with_the_switch_off() {
         if !c.random.once_in(4) {
             clear_outside(&shape, &mut input);
         }
-        let place = c.random.below(area(&shape) + 1);
+        let place = c.random.below(elements(&shape) + 1);
         let short = c.outcome(&why_call(shape, None, &input, place));
         assert_eq!(short, c.outcome(&why_call(shape, Some(0), &input, place)));
     }

@@ -77,7 +77,7 @@ fn refused_writings() {
         let random = &mut c.random;
         let (width, height) = (any_side(random), any_side(random));
         let right = match u64::from(width) * u64::from(height) {
-            area @ 1..=1024 => area as i64,
+            elements @ 1..=1024 => elements as i64,
             _ => 16,
         };
         let count = near(random, right);

@@ -2,7 +2,7 @@
 
 use crate::command::check;
 use hoengtila_harness::files::{data, kept, shape, stored};
-use hoengtila_harness::model::call::most;
+use hoengtila_harness::model::call::most_kept;
 use hoengtila_harness::model::file::{LARGEST_FILE, TAG_COEFFICIENTS, TAG_RESIDUALS};
 use hoengtila_harness::random::{self, Random};
 
@@ -21,7 +21,7 @@ struct Group {
 impl Group {
     /// One that keeps the most.
     fn new(sides: [u8; 2], kinds: [u8; 2], depth: u8) -> Group {
-        let most = |k: usize| most(kinds[k].into(), sides[k].into()) as u8;
+        let most = |k: usize| most_kept(kinds[k].into(), sides[k].into()) as u8;
         Group {
             sides,
             kinds,
@@ -68,8 +68,8 @@ impl Group {
                 0
             }
         };
-        let area = usize::from(self.sides[0]) * usize::from(self.sides[1]);
-        (0..area).map(number).collect()
+        let elements = usize::from(self.sides[0]) * usize::from(self.sides[1]);
+        (0..elements).map(number).collect()
     }
 }
 

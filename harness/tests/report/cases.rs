@@ -7,7 +7,7 @@ use hoengtila_harness::library::Shape;
 use hoengtila_harness::model::report::{Totals, GIVEN, LIMIT, NUMBERS};
 use hoengtila_harness::random::Random;
 use hoengtila_harness::subject::Answered;
-use hoengtila_harness::widths::most_kept;
+use hoengtila_harness::widths::shape_of;
 
 /// Mostly a shape that is taken; sometimes one with a number that is refused.
 fn any_shape(random: &mut Random) -> Shape {
@@ -32,7 +32,7 @@ fn any_shape(random: &mut Random) -> Shape {
         1..=19 => random.between(1, i64::from(most.max(1))) as u32,
         _ => most,
     };
-    let most = most_kept([width, height, horizontal, vertical, depth]);
+    let most = shape_of([width, height, horizontal, vertical, depth]);
     let columns = kept(random, most.columns);
     most.keeping(columns, kept(random, most.rows))
 }

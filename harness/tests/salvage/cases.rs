@@ -15,7 +15,7 @@ const FILES: usize = 10_000;
 const MOST_MICROSECONDS: u32 = 500_000;
 
 fn is_undamaged(file: &[u8]) -> bool {
-    fields(file).all(|(_, step)| step.number == 0)
+    fields(file).all(|(_, advance)| advance.number == 0)
 }
 
 /// The file without its dropped stretches, which have bytes, lie in it, and stand in order and apart.

@@ -37,19 +37,19 @@ fn wanted(file: &[u8], n: usize, place: &str) -> (String, String) {
 
 /// A place of the block, or one of those that are none.
 fn place(random: &mut Random, file: &[u8], n: usize) -> String {
-    let area = match picked(file, n) {
+    let elements = match picked(file, n) {
         Picked::Block { numbers, .. } => numbers.len() as i64,
         _ => 16,
     };
-    let inside = random.between(0, area - 1);
+    let inside = random.between(0, elements - 1);
     random
         .choose(&[
             inside,
             inside,
             inside,
             0,
-            area - 1,
-            area,
+            elements - 1,
+            elements,
             99_999,
             123_456_789,
         ])

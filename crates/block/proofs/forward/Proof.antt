@@ -15,7 +15,7 @@ use Rattle.meaning.specs.Shape.{isLongDepth}
 use Rattle.meaning.specs.Answer.{Outcome, refused, accepted, shapeTests, lengthTests}
 use Rattle.meaning.specs.Forward.{firstTooLarge, forwardBlock, forwardOutcome}
 use Rattle.meaning.specs.Taken.{TakenBlock}
-use Rattle.meaning.proofs.Accepted.{few, block-taken}
+use Rattle.meaning.proofs.AcceptedCalls.{few, block-taken}
 use Rattle.meaning.proofs.Small.{none-too-large}
 use Rattle.block.proofs.forward.Statement.{statement}
 use Rattle.block.proofs.forward.Tie as tie
@@ -32,8 +32,8 @@ place s = firstTooLarge (s .args .shape) (s .args .residuals .now)
 abbrev second : tie.Start → List Refusal
 second s = record { applies = ltb (place s) (length (s .args .residuals .now)); number = 9; place = place s } ∷ []
 
-abbrev refusal : tie.Start → ℕ → ℕ → Outcome
-refusal s number place = (refused number place, s .args .coefficients .now)
+abbrev refuse : tie.Start → ℕ → ℕ → Outcome
+refuse s number place = (refused number place, s .args .coefficients .now)
 
 abbrev done : tie.Start → Outcome
 done s = (accepted 0, forwardBlock (s .args .shape) (s .args .residuals .now))
@@ -46,8 +46,8 @@ unfolding isLongDepth
 passed c = sym (c .before .block-refusal .ensures) ∙ c .if1 .left
 
 -- past 1 to 5, 20, 6 and 7, test 9 decides
-past : (c : tie.Else1) → let s = c .before .before in expected s ≡ cond (ltb (place s) (length (s .args .residuals .now))) (refusal s 9 (place s)) (done s)
-past c = let s = c .before .before in passed-first (second s) (refusal s) (done s) (first s) tt (passed c)
+past : (c : tie.Else1) → let s = c .before .before in expected s ≡ cond (ltb (place s) (length (s .args .residuals .now))) (refuse s 9 (place s)) (done s)
+past c = let s = c .before .before in passed-first (second s) (refuse s) (done s) (first s) tt (passed c)
 
 taken : (c : tie.Else1) → let s = c .before .before in TakenBlock (s .args .shape) (s .args .residuals .now) (s .args .coefficients .now)
 taken c = let s = c .before .before in block-taken (s .args .shape) (s .args .residuals .now) (s .args .coefficients .now) (passed c)
@@ -61,30 +61,30 @@ none c = let s = c .before .before .before .before in le-ltb (place s) (length (
 block-refusal-requires : tie.Need-block-refusal-requires
 block-refusal-requires c κs = search needs
 
-refusal-requires : tie.Need-refusal-requires
-refusal-requires c κs = search needs
+refused-requires : tie.Need-refused-requires
+refused-requires c κs = search needs
 
 returns : tie.Need-returns
 unfolding isLongDepth
 returns c =
     let s = c .before .before .before in
-    (λ i. ((c .refusal .ensures ∙ ap (λ (n : ℕ). refused n 0) (c .before .before .block-refusal .ensures)) i, s .args .coefficients .now))
-    ∙ sym (refused-first (second s) (refusal s) (done s) (first s) tt (λ e. c .before .if1 .taken (c .before .before .block-refusal .ensures ∙ e)))
+    (λ i. ((c .refused .ensures ∙ ap (λ (n : ℕ). refused n 0) (c .before .before .block-refusal .ensures)) i, s .args .coefficients .now))
+    ∙ sym (refused-first (second s) (refuse s) (done s) (first s) tt (λ e. c .before .if1 .taken (c .before .before .block-refusal .ensures ∙ e)))
 
 first-too-large-requires : tie.Need-first-too-large-requires
 first-too-large-requires c κs = (taken c .taken .depth, taken c .long)
 
-cast-refusal : tie.Need-cast-refusal
-cast-refusal c = record { fits = omega (arith, c .if2 .taken, few (c .before .before .before .before .args .shape) (taken (c .before .before))) }
+cast-refused : tie.Need-cast-refused
+cast-refused c = record { fits = omega (arith, c .if2 .taken, few (c .before .before .before .before .args .shape) (taken (c .before .before))) }
 
-refusal-requires-2 : tie.Need-refusal-requires-2
-refusal-requires-2 c κs = search needs
+refused-requires-2 : tie.Need-refused-requires-2
+refused-requires-2 c κs = search needs
 
 returns-2 : tie.Need-returns-2
 returns-2 c =
     let s = c .before .before .before .before .before in
-    (λ i. ((c .refusal2 .ensures ∙ ap (λ (n : ℕ). refused 9 n) (c .before .before .first-too-large .ensures)) i, s .args .coefficients .now))
-    ∙ sym (past (c .before .before .before) ∙ ap (λ (b : Bool). cond b (refusal s 9 (place s)) (done s)) (found (c .before)))
+    (λ i. ((c .refused2 .ensures ∙ ap (λ (n : ℕ). refused 9 n) (c .before .before .first-too-large .ensures)) i, s .args .coefficients .now))
+    ∙ sym (past (c .before .before .before) ∙ ap (λ (b : Bool). cond b (refuse s 9 (place s)) (done s)) (found (c .before)))
 
 stages-requires : tie.Need-stages-requires
 stages-requires c κs =
@@ -92,8 +92,8 @@ stages-requires c κs =
     let w = taken (c .before .before .before) in
     (record { taken = w .taken; long = w .long; small = none-too-large (s .args .shape) (s .args .residuals .now) (none (c .before)) }, w .room)
 
-acceptance-requires : tie.Need-acceptance-requires
-acceptance-requires c κs = search needs
+accepted-requires : tie.Need-accepted-requires
+accepted-requires c κs = search needs
 
 same-length : tie.Need-same-length
 same-length c = search needs
@@ -101,21 +101,21 @@ same-length c = search needs
 returns-3 : tie.Need-returns-3
 returns-3 c =
     let s = c .before .before .before .before .before .before .before .before in
-    (λ i. (c .acceptance .ensures i, c .before .before .stages .ensures i))
-    ∙ sym (past (c .before .before .before .before .before .before) ∙ ap (λ (b : Bool). cond b (refusal s 9 (place s)) (done s)) (none (c .before .before .before .before)))
+    (λ i. (c .accepted .ensures i, c .before .before .stages .ensures i))
+    ∙ sym (past (c .before .before .before .before .before .before) ∙ ap (λ (b : Bool). cond b (refuse s 9 (place s)) (done s)) (none (c .before .before .before .before)))
 
 pub forward-spec : {M : Type 1} → statement M
 forward-spec =
     tie.close
     (tie.spec
     block-refusal-requires
-    refusal-requires
+    refused-requires
     returns
     first-too-large-requires
-    cast-refusal
-    refusal-requires-2
+    cast-refused
+    refused-requires-2
     returns-2
     stages-requires
-    acceptance-requires
+    accepted-requires
     same-length
     returns-3)

@@ -17,7 +17,7 @@ use Rattle.meaning.specs.Answer.{Outcome, refused, accepted, shapeTests, length
 use Rattle.meaning.specs.Plan.{planOf}
 use Rattle.meaning.specs.Inverse.{rails, inverseBlock, firstOutside, inverseOutcome}
 use Rattle.meaning.specs.Taken.{TakenBlock}
-use Rattle.meaning.proofs.Accepted.{few, block-taken}
+use Rattle.meaning.proofs.AcceptedCalls.{few, block-taken}
 use Rattle.meaning.proofs.KeptPart.{columns-kept, rows-kept}
 use Rattle.layout.specs.Live.{Live}
 use Rattle.layout.specs.Part.{Part}
@@ -54,15 +54,15 @@ taken c = let s = c .before .before in block-taken (s .args .shape) (s .args .co
 block-refusal-requires : tie.Need-block-refusal-requires
 block-refusal-requires c κs = search needs
 
-refusal-requires : tie.Need-refusal-requires
-refusal-requires c κs = search needs
+refused-requires : tie.Need-refused-requires
+refused-requires c κs = search needs
 
 returns : tie.Need-returns
 unfolding isLongDepth
 returns c =
     let s = c .before .before .before in
     let n = c .before .before .block-refusal .ensures in
-    ap (λ (a : Answer). (a, s .args .residuals .now)) (c .refusal .ensures) ∙ ap (λ (n : ℕ). refuse s n 0) n
+    ap (λ (a : Answer). (a, s .args .residuals .now)) (c .refused .ensures) ∙ ap (λ (n : ℕ). refuse s n 0) n
     ∙ sym (refused-first (eight s) (refuse s) (done s) (seven s) tt (λ e. c .before .if1 .taken (n ∙ e)))
 
 -- how much of the block is not zero
@@ -86,26 +86,26 @@ columns-requires c κs =
     let s = c .before .before .before in
     (taken (c .before) .taken .width, omega (arith, turned (c .before), mul-le-mul-right (s .args .shape .width) (live-rows c .within)))
 
-hunt-requires : tie.Need-hunt-requires
-hunt-requires c κs =
+first-outside-requires : tie.Need-first-outside-requires
+first-outside-requires c κs =
     let s = c .before .before .before .before in
     let t = taken (c .before .before) in
     ((t .long, columns-kept (s .args .shape) (t .taken) .within), live c)
 
-cast-refusal : tie.Need-cast-refusal
-cast-refusal c =
+cast-refused : tie.Need-cast-refused
+cast-refused c =
     let E = c .before .before .before .before in
     omega (arith, c .if2 .taken, few (E .before .before .args .shape) (taken E))
 
-refusal-requires-2 : tie.Need-refusal-requires-2
-refusal-requires-2 c κs = search needs
+refused-requires-2 : tie.Need-refused-requires-2
+refused-requires-2 c κs = search needs
 
 returns-2 : tie.Need-returns-2
 returns-2 c =
     let s = c .before .before .before .before .before .before .before in
-    let h = c .before .before .hunt .ensures in
+    let h = c .before .before .first-outside .ensures in
     let l : ltb (place s) (length (s .args .coefficients .now)) ≡ true = lt-ltb (place s) (length (s .args .coefficients .now)) (omega (arith, h, c .before .if2 .taken)) in
-    ap (λ (a : Answer). (a, s .args .residuals .now)) (c .refusal2 .ensures) ∙ ap (λ (n : ℕ). refuse s 8 n) h
+    ap (λ (a : Answer). (a, s .args .residuals .now)) (c .refused2 .ensures) ∙ ap (λ (n : ℕ). refuse s 8 n) h
     ∙ sym (past (c .before .before .before .before .before) ∙ rw l)
 
 stages-requires : tie.Need-stages-requires
@@ -118,11 +118,11 @@ stages-requires c κs =
       size-rows = C .before .rows .ensures .size;
       size-columns = C .columns .ensures .size;
       live = live C;
-      kept = kept-part (planOf (s .args .shape)) (s .args .coefficients .now) (w .long) (columns-kept (s .args .shape) (w .taken) .within) (rows-kept (s .args .shape) (w .taken) .within) (omega (arith, c .before .before .hunt .ensures, c .before .if2 .left));
+      kept = kept-part (planOf (s .args .shape)) (s .args .coefficients .now) (w .long) (columns-kept (s .args .shape) (w .taken) .within) (rows-kept (s .args .shape) (w .taken) .within) (omega (arith, c .before .before .first-outside .ensures, c .before .if2 .left));
     }
 
-acceptance-requires : tie.Need-acceptance-requires
-acceptance-requires c κs = search needs
+accepted-requires : tie.Need-accepted-requires
+accepted-requires c κs = search needs
 
 same-length : tie.Need-same-length
 same-length c = search needs
@@ -130,10 +130,10 @@ same-length c = search needs
 returns-3 : tie.Need-returns-3
 returns-3 c =
     let s = c .before .before .before .before .before .before .before .before .before .before in
-    let h = c .before .before .before .before .before .hunt .ensures in
+    let h = c .before .before .before .before .before .first-outside .ensures in
     let l : ltb (place s) (length (s .args .coefficients .now)) ≡ false = le-ltb (place s) (length (s .args .coefficients .now)) (omega (arith, h, c .before .before .before .before .if2 .left)) in
     let e = c .before .before .stages .ensures in
-    (λ i. (c .acceptance .ensures i, e .1 i)) ∙ ap (λ (n : ℕ). (accepted n, inverseBlock (planOf (s .args .shape)) (s .args .coefficients .now))) (e .0)
+    (λ i. (c .accepted .ensures i, e .1 i)) ∙ ap (λ (n : ℕ). (accepted n, inverseBlock (planOf (s .args .shape)) (s .args .coefficients .now))) (e .0)
     ∙ sym (past (c .before .before .before .before .before .before .before .before) ∙ rw l)
 
 pub inverse-spec : {M : Type 1} → statement M
@@ -141,15 +141,15 @@ inverse-spec =
     tie.close
     (tie.spec
     block-refusal-requires
-    refusal-requires
+    refused-requires
     returns
     rows-requires
     columns-requires
-    hunt-requires
-    cast-refusal
-    refusal-requires-2
+    first-outside-requires
+    cast-refused
+    refused-requires-2
     returns-2
     stages-requires
-    acceptance-requires
+    accepted-requires
     same-length
     returns-3)

@@ -4,7 +4,7 @@ use mathlib.Core.Path.{sym, ap, _∙_}
 use mathlib.Core.Bool.{true}
 use Prim.Native.Nat.{ℕ}
 use Rattle.algebra.specs.Lists.{at}
-use Rattle.meaning.proofs.Accepted.{line-taken}
+use Rattle.meaning.proofs.AcceptedCalls.{line-taken}
 use Rattle.engine.specs.Lines.{lineOf}
 use Rattle.line.proofs.Lent.{halves-given, eight, folded-given}
 use Rattle.line.proofs.fast_forward.Statement.{statement}
@@ -13,8 +13,8 @@ use Rattle.line.proofs.fast_forward.Tie as tie
 forward-requires : tie.Need-forward-requires
 forward-requires c κs = halves-given (line-taken _ _ _ _ (c .before .before .pre)) (c .before .if1 .taken)
 
-full-requires : tie.Need-full-requires
-full-requires c κs = eight (line-taken _ _ _ _ (c .before .before .before .pre)) (c .before .if2 .taken)
+eight-requires : tie.Need-eight-requires
+eight-requires c κs = eight (line-taken _ _ _ _ (c .before .before .before .pre)) (c .before .if2 .taken)
 
 forward-requires-2 : tie.Need-forward-requires-2
 forward-requires-2 c κs = folded-given (line-taken _ _ _ _ (c .before .before .before .pre)) (c .before .before .if1 .left) (c .before .if2 .left)
@@ -33,7 +33,7 @@ same-length-2 c = search needs
 returns-2 : tie.Need-returns-2
 returns-2 c =
     let s = c .before .before .before .before .before .args in
-    c .before .full .ensures ∙ ap (λ (n : ℕ). lineOf true (s .kind) n (at (s .x .now))) (sym (c .before .before .before .if2 .taken))
+    c .before .eight .ensures ∙ ap (λ (n : ℕ). lineOf true (s .kind) n (at (s .x .now))) (sym (c .before .before .before .if2 .taken))
 
 same-length-3 : tie.Need-same-length-3
 same-length-3 c = search needs
@@ -46,7 +46,7 @@ fast-forward-spec =
     tie.close
     (tie.spec
     forward-requires
-    full-requires
+    eight-requires
     forward-requires-2
     same-length
     returns

@@ -4,7 +4,7 @@ use mathlib.Core.Path.{sym, ap, _∙_}
 use mathlib.Core.Bool.{false}
 use Prim.Native.Nat.{ℕ}
 use Rattle.algebra.specs.Lists.{at}
-use Rattle.meaning.proofs.Accepted.{line-taken}
+use Rattle.meaning.proofs.AcceptedCalls.{line-taken}
 use Rattle.engine.specs.Lines.{lineOf}
 use Rattle.line.proofs.Lent.{halves-given, eight, folded-given}
 use Rattle.line.proofs.fast_inverse.Statement.{statement}
@@ -13,8 +13,8 @@ use Rattle.line.proofs.fast_inverse.Tie as tie
 inverse-requires : tie.Need-inverse-requires
 inverse-requires c κs = halves-given (line-taken _ _ _ _ (c .before .before .pre)) (c .before .if1 .taken)
 
-full-requires : tie.Need-full-requires
-full-requires c κs = eight (line-taken _ _ _ _ (c .before .before .before .pre)) (c .before .if2 .taken)
+eight-requires : tie.Need-eight-requires
+eight-requires c κs = eight (line-taken _ _ _ _ (c .before .before .before .pre)) (c .before .if2 .taken)
 
 inverse-requires-2 : tie.Need-inverse-requires-2
 inverse-requires-2 c κs = folded-given (line-taken _ _ _ _ (c .before .before .before .pre)) (c .before .before .if1 .left) (c .before .if2 .left)
@@ -33,7 +33,7 @@ same-length-2 c = search needs
 returns-2 : tie.Need-returns-2
 returns-2 c =
     let s = c .before .before .before .before .before .args in
-    c .before .full .ensures ∙ ap (λ (n : ℕ). lineOf false (s .kind) n (at (s .x .now))) (sym (c .before .before .before .if2 .taken))
+    c .before .eight .ensures ∙ ap (λ (n : ℕ). lineOf false (s .kind) n (at (s .x .now))) (sym (c .before .before .before .if2 .taken))
 
 same-length-3 : tie.Need-same-length-3
 same-length-3 c = search needs
@@ -46,7 +46,7 @@ fast-inverse-spec =
     tie.close
     (tie.spec
     inverse-requires
-    full-requires
+    eight-requires
     inverse-requires-2
     same-length
     returns

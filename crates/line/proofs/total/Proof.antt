@@ -8,7 +8,7 @@ use Rattle.algebra.specs.Refusals.{Refusal}
 use Rattle.algebra.proofs.Refusals.{refused-first, passed-first}
 use Rattle.meaning.specs.declared.Answer.{Answer}
 use Rattle.meaning.specs.Answer.{Outcome, refused, accepted, lineTests}
-use Rattle.meaning.proofs.Accepted.{line-taken}
+use Rattle.meaning.proofs.AcceptedCalls.{line-taken}
 use Rattle.engine.specs.Lines.{lineOf}
 use Rattle.algebra.specs.Lists.{at}
 use Rattle.line.proofs.total.Statement.{statement}
@@ -26,20 +26,20 @@ done s = (accepted 0, lineOf (s .args .forward) (s .args .kind) (s .args .n) (at
 line-refusal-requires : tie.Need-line-refusal-requires
 line-refusal-requires c κs = search needs
 
-refusal-requires : tie.Need-refusal-requires
-refusal-requires c κs = search needs
+refused-requires : tie.Need-refused-requires
+refused-requires c κs = search needs
 
 returns : tie.Need-returns
 returns c =
     let s = c .before .before .before in
-    ap (λ (a : Answer). (a, s .args .y .now)) (c .refusal .ensures ∙ ap (λ (number : ℕ). refused number 0) (c .before .before .line-refusal .ensures))
+    ap (λ (a : Answer). (a, s .args .y .now)) (c .refused .ensures ∙ ap (λ (number : ℕ). refused number 0) (c .before .before .line-refusal .ensures))
     ∙ sym (refused-first [] (given-back s) (done s) (tests s) tt (λ e. c .before .if1 .taken (c .before .before .line-refusal .ensures ∙ e)))
 
 full-requires : tie.Need-full-requires
 full-requires c κs = line-taken _ _ _ _ (sym (c .before .before .line-refusal .ensures) ∙ c .before .if1 .left)
 
-acceptance-requires : tie.Need-acceptance-requires
-acceptance-requires c κs = search needs
+accepted-requires : tie.Need-accepted-requires
+accepted-requires c κs = search needs
 
 same-length : tie.Need-same-length
 same-length c = search needs
@@ -47,7 +47,7 @@ same-length c = search needs
 returns-2 : tie.Need-returns-2
 returns-2 c =
     let s = c .before .before .before .before .before .before in
-    _∙_ {b = done s} (λ i. (c .acceptance .ensures i, c .before .before .full .ensures i))
+    _∙_ {b = done s} (λ i. (c .accepted .ensures i, c .before .before .full .ensures i))
     (sym (passed-first [] (given-back s) (done s) (tests s) tt (sym (c .before .before .before .before .before .line-refusal .ensures) ∙ c .before .before .before .before .if1 .left)))
 
 pub total-spec : {M : Type 1} → statement M
@@ -55,9 +55,9 @@ total-spec =
     tie.close
     (tie.spec
     line-refusal-requires
-    refusal-requires
+    refused-requires
     returns
     full-requires
-    acceptance-requires
+    accepted-requires
     same-length
     returns-2)

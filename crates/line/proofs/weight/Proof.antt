@@ -14,11 +14,11 @@ is-place-requires c κs = search needs
 returns : tie.Need-returns
 returns c = rw (← c .before .is-place .ensures, not-true (c .before .is-place .result) (c .if1 .taken))
 
-entry-requires : tie.Need-entry-requires
-entry-requires c κs = place _ _ _ _ (sym (c .before .is-place .ensures) ∙ not-false (c .before .is-place .result) (c .if1 .left))
+weight-requires : tie.Need-weight-requires
+weight-requires c κs = place _ _ _ _ (sym (c .before .is-place .ensures) ∙ not-false (c .before .is-place .result) (c .if1 .left))
 
 returns-2 : tie.Need-returns-2
-returns-2 c = toZ-ofZ w32 _ (search needs) ∙ c .entry .ensures ∙ rw (← c .before .before .is-place .ensures, not-false (c .before .before .is-place .result) (c .before .if1 .left))
+returns-2 c = toZ-ofZ w32 _ (search needs) ∙ c .weight .ensures ∙ rw (← c .before .before .is-place .ensures, not-false (c .before .before .is-place .result) (c .before .if1 .left))
 
 pub weight-spec : {M : Type 1} → statement M
-weight-spec = tie.close (tie.spec is-place-requires returns entry-requires returns-2)
+weight-spec = tie.close (tie.spec is-place-requires returns weight-requires returns-2)

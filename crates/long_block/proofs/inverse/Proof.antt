@@ -19,7 +19,7 @@ use Rattle.meaning.specs.Inverse.{rails, inverseBlock, firstOutside}
 use Rattle.meaning.specs.Long.{firstBeyond, longShapeTests, longOutcome}
 use Rattle.meaning.proofs.Cases.{size-in}
 use Rattle.meaning.proofs.KeptPart.{columns-kept, rows-kept}
-use Rattle.meaning.proofs.Accepted.{few, long-block-taken}
+use Rattle.meaning.proofs.AcceptedCalls.{few, long-block-taken}
 use Rattle.meaning.proofs.LongRules.{reach-in}
 use Rattle.layout.proofs.Inside.{live-part, kept-part}
 use Rattle.long_block.proofs.inverse.Statement.{statement}
@@ -82,31 +82,31 @@ beyond-is c =
 block-refusal-requires : tie.Need-block-refusal-requires
 block-refusal-requires c κs = search needs
 
-refusal-requires : tie.Need-refusal-requires
-refusal-requires c κs = search needs
+refused-requires : tie.Need-refused-requires
+refused-requires c κs = search needs
 
 returns : tie.Need-returns
 returns c =
     let s = c .before .before .before in
     let n = c .before .before .block-refusal .ensures in
-    ap (λ (a : Answer). (a, s .args .residuals .now)) (c .refusal .ensures) ∙ ap (λ (n : ℕ). refuse s n 0) n
+    ap (λ (a : Answer). (a, s .args .residuals .now)) (c .refused .ensures) ∙ ap (λ (n : ℕ). refuse s n 0) n
     ∙ sym (refused-first (eight s) (refuse s) (done s) (seven s) tt (λ e. c .before .if1 .taken (n ∙ e)))
 
 first-outside-requires : tie.Need-first-outside-requires
 first-outside-requires c κs = taken c .long
 
-cast-refusal : tie.Need-cast-refusal
-cast-refusal c = omega (arith, c .if2 .taken, few (c .before .before .before .before .args .shape) (taken (c .before .before)))
+cast-refused : tie.Need-cast-refused
+cast-refused c = omega (arith, c .if2 .taken, few (c .before .before .before .before .args .shape) (taken (c .before .before)))
 
-refusal-requires-2 : tie.Need-refusal-requires-2
-refusal-requires-2 c κs = search needs
+refused-requires-2 : tie.Need-refused-requires-2
+refused-requires-2 c κs = search needs
 
 returns-2 : tie.Need-returns-2
 returns-2 c =
     let s = c .before .before .before .before .before in
     let h = c .before .before .first-outside .ensures in
     let l : ltb (place s) (length (s .args .coefficients .now)) ≡ true = lt-ltb (place s) (length (s .args .coefficients .now)) (omega (arith, h, c .before .if2 .taken)) in
-    ap (λ (a : Answer). (a, s .args .residuals .now)) (c .refusal2 .ensures) ∙ ap (λ (n : ℕ). refuse s 8 n) h
+    ap (λ (a : Answer). (a, s .args .residuals .now)) (c .refused2 .ensures) ∙ ap (λ (n : ℕ). refuse s 8 n) h
     ∙ sym (past (c .before .before .before) ∙ rw l)
 
 reach-of-requires : tie.Need-reach-of-requires
@@ -117,20 +117,20 @@ first-beyond-requires c κs =
     let s = c .before .before .before .before .before in
     omega (arith, c .reach-of .ensures, reach-in (s .args .extended) (s .args .shape .depth))
 
-cast-refusal-2 : tie.Need-cast-refusal-2
-cast-refusal-2 c =
+cast-refused-2 : tie.Need-cast-refused-2
+cast-refused-2 c =
     let E = c .before .before .before .before .before in
     omega (arith, c .if3 .taken, few (E .before .before .args .shape) (taken E))
 
-refusal-requires-3 : tie.Need-refusal-requires-3
-refusal-requires-3 c κs = search needs
+refused-requires-3 : tie.Need-refused-requires-3
+refused-requires-3 c κs = search needs
 
 returns-3 : tie.Need-returns-3
 returns-3 c =
     let B = c .before .before in
     let s = B .before .before .before .before .before .before in
     let l : ltb (far s) (length (s .args .coefficients .now)) ≡ true = lt-ltb (far s) (length (s .args .coefficients .now)) (omega (arith, beyond-is B, c .before .if3 .taken)) in
-    ap (λ (a : Answer). (a, s .args .residuals .now)) (c .refusal3 .ensures) ∙ ap (λ (n : ℕ). refuse s 27 n) (beyond-is B)
+    ap (λ (a : Answer). (a, s .args .residuals .now)) (c .refused3 .ensures) ∙ ap (λ (n : ℕ). refuse s 27 n) (beyond-is B)
     ∙ sym (past8 (B .before .before) ∙ rw l)
 
 cast-w : tie.Need-cast-w
@@ -170,8 +170,8 @@ stages-requires c κs =
       kept = kept-part (longPlan (s .args .extended) sh) l (t .long) (columns-kept sh (t .taken) .within) (rows-kept sh (t .taken) .within) (none-outside E2);
     }
 
-acceptance-requires : tie.Need-acceptance-requires
-acceptance-requires c κs = search needs
+accepted-requires : tie.Need-accepted-requires
+accepted-requires c κs = search needs
 
 same-length : tie.Need-same-length
 same-length c = search needs
@@ -184,7 +184,7 @@ returns-4 c =
     let s = B .before .before .before .before .before .before in
     let l : ltb (far s) (length (s .args .coefficients .now)) ≡ false = le-ltb (far s) (length (s .args .coefficients .now)) (omega (arith, beyond-is B, F .if3 .left)) in
     let e = S .stages .ensures in
-    (λ i. (c .acceptance .ensures i, e .1 i)) ∙ ap (λ (n : ℕ). (accepted n, inverseBlock (longPlan (s .args .extended) (s .args .shape)) (s .args .coefficients .now))) (e .0)
+    (λ i. (c .accepted .ensures i, e .1 i)) ∙ ap (λ (n : ℕ). (accepted n, inverseBlock (longPlan (s .args .extended) (s .args .shape)) (s .args .coefficients .now))) (e .0)
     ∙ sym (past8 (B .before .before) ∙ rw l)
 
 pub inverse-spec : {M : Type 1} → statement M
@@ -192,16 +192,16 @@ inverse-spec =
     tie.close
     (tie.spec
     block-refusal-requires
-    refusal-requires
+    refused-requires
     returns
     first-outside-requires
-    cast-refusal
-    refusal-requires-2
+    cast-refused
+    refused-requires-2
     returns-2
     reach-of-requires
     first-beyond-requires
-    cast-refusal-2
-    refusal-requires-3
+    cast-refused-2
+    refused-requires-3
     returns-3
     cast-w
     cast-row-pairs
@@ -209,6 +209,6 @@ inverse-spec =
     mul-column-pairs
     column-pairs-requires
     stages-requires
-    acceptance-requires
+    accepted-requires
     same-length
     returns-4)

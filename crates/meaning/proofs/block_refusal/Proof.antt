@@ -28,14 +28,14 @@ returns c =
     c .before .long-refusal .ensures
     ∙ sym (refused-first (lengths s) (λ number place. number) 0 (longShapeTests (s .args .extended) (s .args .shape)) tt (λ e. c .if1 .taken (c .before .long-refusal .ensures ∙ e)))
 
-cast-area : tie.Need-cast-area
-cast-area c = search needs
+cast-elements : tie.Need-cast-elements
+cast-elements c = search needs
 
-cast-area-2 : tie.Need-cast-area-2
-cast-area-2 c = search needs
+cast-elements-2 : tie.Need-cast-elements-2
+cast-elements-2 c = search needs
 
-mul-area : tie.Need-mul-area
-mul-area c =
+mul-elements : tie.Need-mul-elements
+mul-elements c =
     let w : c .before .before .before .before .args .shape .width ≤ 4294967295 = search needs in
     let h : c .before .before .before .before .args .shape .height ≤ 4294967295 = search needs in
     record { fits = lt-of-le-of-lt (mul-le-mul w h) (lit< tt) }
@@ -52,8 +52,8 @@ block-refusal-spec =
     (tie.spec
     long-refusal-requires
     returns
-    cast-area
-    cast-area-2
-    mul-area
+    cast-elements
+    cast-elements-2
+    mul-elements
     length-refusal-requires
     returns-2)

@@ -1,9 +1,8 @@
+-- `is_kind` meets its contract. Assumes nothing.
 use borrow.Author.Tests.{eq-eqb, ne-eqb}
 use Rattle.meaning.specs.Shape.{isKind}
 use Rattle.meaning.proofs.is_kind.Statement.{statement}
 use Rattle.meaning.proofs.is_kind.Tie as tie
-use Rattle.meaning.proofs.is_kind.Reads as reads
-use Rattle.meaning.proofs.is_kind.Lts as lts
 
 returns : tie.Need-returns
 unfolding isKind

@@ -45,11 +45,11 @@ loop-holds c = (two-bytes (bytes (c .before)) (starts (c .before)), rw (c .behin
 ended-requires : tie.Need-ended-requires Inv-loop μ-loop
 ended-requires c κs = search needs
 
-shared-slice-read-step : tie.Need-shared-slice-read-step Inv-loop μ-loop
-shared-slice-read-step c = search needs
+shared-slice-read-with-byte : tie.Need-shared-slice-read-with-byte Inv-loop μ-loop
+shared-slice-read-with-byte c = search needs
 
-step-requires : tie.Need-step-requires Inv-loop μ-loop
-step-requires c κs = sym (c .before .before .ended .ensures) ∙ c .before .if2 .left
+with-byte-requires : tie.Need-with-byte-requires Inv-loop μ-loop
+with-byte-requires c κs = sym (c .before .before .ended .ensures) ∙ c .before .if2 .left
 
 add-start : tie.Need-add-start Inv-loop μ-loop
 add-start c = search needs
@@ -60,7 +60,7 @@ loop-less c = search needs
 loop-again : tie.Need-loop-again Inv-loop μ-loop
 loop-again c =
     let l = c .before .before .before .before .before .loop in
-    (search needs, rw (c .step .ensures, ← read-more (bytes (c .before .before .before .before .before .before .before)) (l .header) (l .start) (omega arith) (sym (c .before .before .before .ended .ensures) ∙ c .before .before .if2 .left)) (l .inv .1))
+    (search needs, rw (c .with-byte .ensures, ← read-more (bytes (c .before .before .before .before .before .before .before)) (l .header) (l .start) (omega arith) (sym (c .before .before .before .ended .ensures) ∙ c .before .before .if2 .left)) (l .inv .1))
 
 returns-2 : tie.Need-returns-2 Inv-loop μ-loop
 unfolding headerOf readFrom
@@ -88,8 +88,8 @@ header-of-spec =
     behind-p5-requires
     loop-holds
     ended-requires
-    shared-slice-read-step
-    step-requires
+    shared-slice-read-with-byte
+    with-byte-requires
     add-start
     loop-less
     loop-again

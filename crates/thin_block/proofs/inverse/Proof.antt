@@ -18,14 +18,14 @@ start c = c .before .before .before
 abbrev left : tie.After-work → Areas
 left c = record { answer = c .work .result; first = c .work .last .1 .1 .0; second = c .work .last .1 .1 .1 .0 }
 
-abbrev area : tie.After-work → ℕ
-area c = start c .args .shape .width * start c .args .shape .height
+abbrev elements : tie.After-work → ℕ
+elements c = start c .args .shape .width * start c .args .shape .height
 
 same : (c : tie.After-work) → let a = start c .args in left c ≡ thinOutcome (a .shape) (a .coefficients .now) (a .first .now) (a .second .now)
 same c = c .work .ensures
 
 rooms : (c : tie.After-work) → (c .work .result .area ≡ 0 → ⊥)
-    → (length (start c .args .coefficients .now) ≡ area c) × ((area c ≤ length (left c .first)) × (area c ≤ length (left c .second)))
+    → (length (start c .args .coefficients .now) ≡ elements c) × ((elements c ≤ length (left c .first)) × (elements c ≤ length (left c .second)))
 rooms c = let a = start c .args in room (a .shape) (a .coefficients .now) (a .first .now) (a .second .now) (left c) (same c)
 
 work-requires : tie.Need-work-requires
@@ -39,8 +39,8 @@ returns c =
     let T = c .before in
     let W = T .before .before .before .before in
     let a = start W .args in
-    nothing-back (area W) (left W) (a .first .ptr) (a .second .ptr) (T .if1 .taken)
-    ∙ ap (λ (o : Areas). handedOf (area W) o (a .first .ptr) (a .second .ptr)) (same W)
+    nothing-back (elements W) (left W) (a .first .ptr) (a .second .ptr) (T .if1 .taken)
+    ∙ ap (λ (o : Areas). handedOf (elements W) o (a .first .ptr) (a .second .ptr)) (same W)
 
 slice-aggregate-result-2 : tie.Need-slice-aggregate-result-2
 slice-aggregate-result-2 c =
@@ -55,8 +55,8 @@ returns-2 c =
     let E = T .before .before in
     let W = E .before .before .before .before in
     let a = start W .args in
-    second-back (area W) (left W) (a .first .ptr) (a .second .ptr) (length (a .coefficients .now)) (rooms W (E .if1 .left) .0) (T .if2 .taken)
-    ∙ ap (λ (o : Areas). handedOf (area W) o (a .first .ptr) (a .second .ptr)) (same W)
+    second-back (elements W) (left W) (a .first .ptr) (a .second .ptr) (length (a .coefficients .now)) (rooms W (E .if1 .left) .0) (T .if2 .taken)
+    ∙ ap (λ (o : Areas). handedOf (elements W) o (a .first .ptr) (a .second .ptr)) (same W)
 
 slice-aggregate-result-3 : tie.Need-slice-aggregate-result-3
 slice-aggregate-result-3 c =
@@ -71,8 +71,8 @@ returns-3 c =
     let E = T .before .before in
     let W = E .before .before .before .before in
     let a = start W .args in
-    first-back (area W) (left W) (a .first .ptr) (a .second .ptr) (length (a .coefficients .now)) (rooms W (E .if1 .left) .0) (E .if1 .left) (T .if2 .left)
-    ∙ ap (λ (o : Areas). handedOf (area W) o (a .first .ptr) (a .second .ptr)) (same W)
+    first-back (elements W) (left W) (a .first .ptr) (a .second .ptr) (length (a .coefficients .now)) (rooms W (E .if1 .left) .0) (E .if1 .left) (T .if2 .left)
+    ∙ ap (λ (o : Areas). handedOf (elements W) o (a .first .ptr) (a .second .ptr)) (same W)
 
 pub inverse-spec : {M : Type 1} → statement M
 inverse-spec =

@@ -65,7 +65,7 @@ abbrev start : tie.Else2 → tie.Start
 start c = before8 c .before .before
 
 none-outside : (c : tie.Else2) → let s = start c in length (s .args .coefficients .now) ≤ place s
-none-outside c = omega (arith, c .before .hunt .ensures, c .if2 .left)
+none-outside c = omega (arith, c .before .first-outside .ensures, c .if2 .left)
 
 kept : (c : tie.Else2) → let s = start c in let sh = s .args .shape in Part (sh .width) (sh .height) (sh .columns) (sh .rows) (s .args .coefficients .now)
 kept c =
@@ -103,8 +103,8 @@ cast-h : tie.Need-cast-h
 cast-h c = search needs
 
 -- nothing is known of the block yet
-hunt-requires : tie.Need-hunt-requires
-hunt-requires c κs =
+first-outside-requires : tie.Need-first-outside-requires
+first-outside-requires c κs =
     let E = c .before .before in
     let sh = E .before .before .args .shape in
     let p = passed E in (
@@ -122,7 +122,7 @@ returns-2 : tie.Need-returns-2
 returns-2 c =
     let E = c .before .before .before .before in
     let s = E .before .before in
-    let h = c .before .hunt .ensures in
+    let h = c .before .first-outside .ensures in
     let l : ltb (place s) (length (s .args .coefficients .now)) ≡ true = lt-ltb (place s) (length (s .args .coefficients .now)) (omega (arith, h, c .if2 .taken)) in
     ap (λ (n : ℕ). refuse s 8 n) h ∙ sym (past E ∙ rw l)
 
@@ -217,7 +217,7 @@ work-spec =
     returns
     cast-w
     cast-h
-    hunt-requires
+    first-outside-requires
     cast-t15
     returns-2
     one-stage-requires

@@ -8,7 +8,7 @@ use Rattle.algebra.specs.Refusals.{Refusal, firstOf, numberOf}
 use Rattle.meaning.specs.Plan.{Plan, longPlan}
 use Rattle.meaning.specs.Long.{beyondTest}
 use Rattle.meaning.specs.Inverse.{outsideTest}
-use Rattle.meaning.proofs.Accepted.{long-block-taken}
+use Rattle.meaning.proofs.AcceptedCalls.{long-block-taken}
 use Rattle.why.specs.Why.{partsOf, noParts, placeTest, longWhyOutcome}
 use Rattle.why.proofs.Passing.{seven, refuses, passes}
 use Rattle.why.proofs.long_parts.Statement.{statement}

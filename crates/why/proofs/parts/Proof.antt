@@ -13,7 +13,7 @@ use Rattle.meaning.specs.Shape.{isLongDepth}
 use Rattle.meaning.specs.Plan.{Plan, planOf, longPlan}
 use Rattle.meaning.specs.Long.{beyondTest}
 use Rattle.meaning.specs.Inverse.{outsideTest}
-use Rattle.meaning.proofs.Accepted.{few, long-block-taken}
+use Rattle.meaning.proofs.AcceptedCalls.{few, long-block-taken}
 use Rattle.why.specs.declared.answer.Parts.{Parts}
 use Rattle.why.specs.Why.{partsOf, noParts, placeTest, longWhyOutcome}
 use Rattle.why.specs.Work.{Passed}

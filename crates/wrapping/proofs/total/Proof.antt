@@ -9,7 +9,7 @@ use Rattle.algebra.specs.Refusals.{Refusal}
 use Rattle.algebra.proofs.Refusals.{refused-first, passed-first}
 use Rattle.meaning.specs.declared.Answer.{Answer}
 use Rattle.meaning.specs.Answer.{Outcome, refused, accepted}
-use Rattle.wrapping.specs.Feed.{sums}
+use Rattle.wrapping.specs.Feed.{lineSums}
 use Rattle.wrapping.specs.Outcome.{wrappedTests}
 use Rattle.wrapping.proofs.Passed.{passed}
 use Rattle.wrapping.proofs.total.Statement.{statement}
@@ -22,18 +22,18 @@ abbrev given-back : tie.Start → ℕ → ℕ → Outcome
 given-back s number place = (refused number place, s .args .y .now)
 
 abbrev done : tie.Start → Outcome
-done s = (accepted 0, sums (s .args .forward) (s .args .kind) (s .args .n) (at (s .args .x .now)))
+done s = (accepted 0, lineSums (s .args .forward) (s .args .kind) (s .args .n) (at (s .args .x .now)))
 
 wrapped-refusal-requires : tie.Need-wrapped-refusal-requires
 wrapped-refusal-requires c κs = search needs
 
-refusal-requires : tie.Need-refusal-requires
-refusal-requires c κs = search needs
+refused-requires : tie.Need-refused-requires
+refused-requires c κs = search needs
 
 returns : tie.Need-returns
 returns c =
     let s = c .before .before .before .before in
-    ap (λ (a : Answer). (a, s .args .y .now)) (c .refusal .ensures ∙ ap (λ (number : ℕ). refused number 0) (c .before .before .wrapped-refusal .ensures))
+    ap (λ (a : Answer). (a, s .args .y .now)) (c .refused .ensures ∙ ap (λ (number : ℕ). refused number 0) (c .before .before .wrapped-refusal .ensures))
     ∙ sym (refused-first [] (given-back s) (done s) (tests s) tt (λ e. c .before .if1 .taken (c .before .before .wrapped-refusal .ensures ∙ e)))
 
 line-requires : tie.Need-line-requires
@@ -41,8 +41,8 @@ line-requires c κs =
     let s = c .before .before .before .before in
     passed (s .args .n) (s .args .kind) (length (s .args .x .now)) (length (s .args .y .now)) (s .args .order .now) (sym (c .before .before .wrapped-refusal .ensures) ∙ c .before .if1 .left)
 
-acceptance-requires : tie.Need-acceptance-requires
-acceptance-requires c κs = search needs
+accepted-requires : tie.Need-accepted-requires
+accepted-requires c κs = search needs
 
 same-length : tie.Need-same-length
 same-length c = search needs
@@ -50,9 +50,9 @@ same-length c = search needs
 returns-2 : tie.Need-returns-2
 returns-2 c =
     let s = c .before .before .before .before .before .before .before in
-    _∙_ {b = done s} (λ i. (c .acceptance .ensures i, c .before .before .line .ensures i))
+    _∙_ {b = done s} (λ i. (c .accepted .ensures i, c .before .before .line .ensures i))
     (sym (passed-first [] (given-back s) (done s) (tests s) tt (sym (c .before .before .before .before .before .wrapped-refusal .ensures) ∙ c .before .before .before .before .if1 .left)))
 
 pub total-spec : {M : Type 1} → statement M
 total-spec =
-    tie.close (tie.spec wrapped-refusal-requires refusal-requires returns line-requires acceptance-requires same-length returns-2)
+    tie.close (tie.spec wrapped-refusal-requires refused-requires returns line-requires accepted-requires same-length returns-2)

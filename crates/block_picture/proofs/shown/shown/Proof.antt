@@ -4,14 +4,14 @@ use mathlib.Core.Bool.{true}
 use mathlib.Core.List.{List}
 use Prim.Native.Nat.{ℕ}
 use denote.Ref.{now}
-use Rattle.block_file.specs.declared.cursor.Step.{Step}
+use Rattle.block_file.specs.declared.cursor.Advance.{Advance}
 use Rattle.block_file.specs.Field.{isData}
 use Rattle.block_file.specs.Cursor.{foundAt}
 use Rattle.block_numbers.specs.Numbers.{numbers}
 use Rattle.block_run.specs.Does.{Fits}
 use Rattle.block_picture.specs.declared.shown.View.{View}
 use Rattle.block_picture.specs.Shown.{drawnAt, inverseShown}
-use Rattle.block_run.proofs.Steps.{bytes, data-fits}
+use Rattle.block_run.proofs.Advances.{bytes, data-fits}
 use Rattle.block_picture.proofs.Drawing.{is-inverse, is-forward, is-neither}
 use borrow.Author.Needs.{needs}
 use Rattle.block_picture.proofs.shown.shown.Statement.{statement}
@@ -20,8 +20,8 @@ use Rattle.block_picture.proofs.shown.shown.Tie as tie
 pick-requires : tie.Need-pick-requires
 pick-requires c κs = search needs
 
-step-requires : tie.Need-step-requires
-step-requires c κs = search needs
+advance-requires : tie.Need-advance-requires
+advance-requires c κs = search needs
 
 body-requires : tie.Need-body-requires
 body-requires c κs = search needs
@@ -30,7 +30,7 @@ inverse-shown-requires : tie.Need-inverse-shown-requires
 inverse-shown-requires c κs =
     let file = now (c .before .before .before .before .before .before .before .before .args .file) in
     let k = c .before .before .before .before .before .pick .result in
-    let t : isData (foundAt file k .tag) ≡ true = rw (sym (ap (λ (x : Step). x .tag) (c .before .before .before .before .step .ensures)) ∙ c .before .before .if1 .taken) in
+    let t : isData (foundAt file k .tag) ≡ true = rw (sym (ap (λ (x : Advance). x .tag) (c .before .before .before .before .advance .ensures)) ∙ c .before .before .if1 .taken) in
     subst (λ (l : List ℕ). Fits (k .shape) l) (sym (bytes (c .before .body .ensures))) (data-fits file k t)
 
 same-length : tie.Need-same-length
@@ -44,7 +44,7 @@ returns c =
     let k = c .before .before .before .before .before .before .before .before .pick .result in
     c .before .before .inverse-shown .ensures
     ∙ ap (λ (l : List ℕ). inverseShown (k .shape) (numbers l) (k .at) out) (bytes (c .before .before .before .before .body .ensures))
-    ∙ is-inverse file (a .n) out k (c .before .before .before .before .before .before .before .before .pick .ensures) (c .before .before .before .before .before .before .before .step .result) (c .before .before .before .before .before .before .before .step .ensures) (c .before .before .before .before .before .if1 .taken)
+    ∙ is-inverse file (a .n) out k (c .before .before .before .before .before .before .before .before .pick .ensures) (c .before .before .before .before .before .before .before .advance .result) (c .before .before .before .before .before .before .before .advance .ensures) (c .before .before .before .before .before .if1 .taken)
 
 body-requires-2 : tie.Need-body-requires-2
 body-requires-2 c κs = search needs
@@ -53,7 +53,7 @@ forward-shown-requires : tie.Need-forward-shown-requires
 forward-shown-requires c κs =
     let file = now (c .before .before .before .before .before .before .before .before .before .args .file) in
     let k = c .before .before .before .before .before .before .pick .result in
-    let t : isData (foundAt file k .tag) ≡ true = rw (sym (ap (λ (x : Step). x .tag) (c .before .before .before .before .before .step .ensures)) ∙ c .before .before .if2 .taken) in
+    let t : isData (foundAt file k .tag) ≡ true = rw (sym (ap (λ (x : Advance). x .tag) (c .before .before .before .before .before .advance .ensures)) ∙ c .before .before .if2 .taken) in
     subst (λ (l : List ℕ). Fits (k .shape) l) (sym (bytes (c .before .body2 .ensures))) (data-fits file k t)
 
 same-length-2 : tie.Need-same-length-2
@@ -67,7 +67,7 @@ returns-2 c =
     let k = c .before .before .before .before .before .before .before .before .before .pick .result in
     c .before .before .forward-shown .ensures
     ∙ ap (λ (l : List ℕ). drawnAt (k .shape) (numbers l) (k .at) out) (bytes (c .before .before .before .before .body2 .ensures))
-    ∙ is-forward file (a .n) out k (c .before .before .before .before .before .before .before .before .before .pick .ensures) (c .before .before .before .before .before .before .before .before .step .result) (c .before .before .before .before .before .before .before .before .step .ensures) (c .before .before .before .before .before .if2 .taken)
+    ∙ is-forward file (a .n) out k (c .before .before .before .before .before .before .before .before .before .pick .ensures) (c .before .before .before .before .before .before .before .before .advance .result) (c .before .before .before .before .before .before .before .before .advance .ensures) (c .before .before .before .before .before .if2 .taken)
 
 refused-requires : tie.Need-refused-requires
 refused-requires c κs = search needs
@@ -77,14 +77,14 @@ returns-3 c =
     let a = c .before .before .before .before .before .before .before .before .args in
     let out = now (a .picture) in
     ap (λ (x : View). (x, out)) (c .refused .ensures)
-    ∙ is-neither (now (a .file)) (a .n) out (c .before .before .before .before .before .pick .result) (c .before .before .before .before .before .pick .ensures) (c .before .before .before .before .step .result) (c .before .before .before .before .step .ensures) (c .before .before .if1 .left) (c .before .if2 .left)
+    ∙ is-neither (now (a .file)) (a .n) out (c .before .before .before .before .before .pick .result) (c .before .before .before .before .before .pick .ensures) (c .before .before .before .before .advance .result) (c .before .before .before .before .advance .ensures) (c .before .before .if1 .left) (c .before .if2 .left)
 
 pub shown-spec : {M : Type 1} → statement M
 shown-spec =
     tie.close
     (tie.spec
     pick-requires
-    step-requires
+    advance-requires
     body-requires
     inverse-shown-requires
     same-length

@@ -39,24 +39,24 @@ few s = omega (arith, taken s .few, T-long s)
 k-in : (c : tie.After-span-of Inv-loop μ-loop) → c .before .before .before .loop .k < length (T (c .before .before .before .before))
 k-in c = omega (arith, T-long (c .before .before .before .before), c .before .before .loop-test .taken)
 
-is-shape : (c : tie.After-span-of Inv-loop μ-loop) → getD (T (c .before .before .before .before)) (c .before .before .before .loop .k) (c .before .shape-at .result) ≡ c .before .shape-at .result
+is-shape : (c : tie.After-span-of Inv-loop μ-loop) → getD (T (c .before .before .before .before)) (c .before .before .before .loop .k) (c .before .row-shape .result) ≡ c .before .row-shape .result
 is-shape c =
     let s = c .before .before .before .before in
-    shapes-at (s .args .count) (s .args .shapes .now) (c .before .before .before .loop .k) (c .before .shape-at .result) (c .before .before .loop-test .taken)
-    ∙ sym (c .before .shape-at .ensures)
+    shapes-at (s .args .count) (s .args .shapes .now) (c .before .before .before .loop .k) (c .before .row-shape .result) (c .before .before .loop-test .taken)
+    ∙ sym (c .before .row-shape .ensures)
 
 room : (c : tie.After-span-of Inv-loop μ-loop) → c .before .before .before .loop .start + c .span-of .result ≤ length (c .before .before .before .before .args .coefficients .now)
 room c =
     let L = c .before .before .before .loop in
-    omega (arith, c .span-of .ensures, ap span (is-shape c), made-room (L .inv .1) (c .before .shape-at .result) (k-in c))
+    omega (arith, c .span-of .ensures, ap span (is-shape c), made-room (L .inv .1) (c .before .row-shape .result) (k-in c))
 
 loop-holds : tie.Need-loop-holds Inv-loop μ-loop
 loop-holds c =
     let t = taken c in
     (search needs, made-none (T c) (c .args .answers .now) (c .args .coefficients .now) (c .args .residuals .now) (t .long) (t .room))
 
-shape-at-requires : tie.Need-shape-at-requires Inv-loop μ-loop
-shape-at-requires c κs = omega (arith, few (c .before .before), c .loop-test .taken)
+row-shape-requires : tie.Need-row-shape-requires Inv-loop μ-loop
+row-shape-requires c κs = omega (arith, few (c .before .before), c .loop-test .taken)
 
 span-of-requires : tie.Need-span-of-requires Inv-loop μ-loop
 span-of-requires c κs = search needs
@@ -105,7 +105,7 @@ loop-again c =
     let L = c .before .before .before .before .before .before .before .before .before .loop in
     let a = c .before .before .before .before .before .before in (
       search needs,
-      rw (c .put .ensures) (made-next-of (L .inv .1) (a .before .shape-at .result) (c .before .before .before .inverse .result) _ _ (a .before .shape-at .result) (is-shape a) (k-in a) (ap (λ (n : ℕ). L .start + n) (a .span-of .ensures)) (c .before .before .before .inverse .ensures)),
+      rw (c .put .ensures) (made-next-of (L .inv .1) (a .before .row-shape .result) (c .before .before .before .inverse .result) _ _ (a .before .row-shape .result) (is-shape a) (k-in a) (ap (λ (n : ℕ). L .start + n) (a .span-of .ensures)) (c .before .before .before .inverse .ensures)),
     )
 
 same-length : tie.Need-same-length Inv-loop μ-loop
@@ -125,7 +125,7 @@ each-spec =
     Inv-loop
     μ-loop
     loop-holds
-    shape-at-requires
+    row-shape-requires
     span-of-requires
     add-end
     mul-inverse

@@ -8,7 +8,7 @@ use Rattle.algebra.specs.Refusals.{Refusal}
 use Rattle.algebra.proofs.Refusals.{refused-first, passed-first}
 use Rattle.meaning.specs.declared.Shape.{Shape}
 use Rattle.block_row.specs.Numbers.{shapesOf}
-use Rattle.block_row.specs.Row.{Answered, answered, rowTests, RowOutcome}
+use Rattle.block_row.specs.Row.{Answered, rowAnswers, rowTests, RowOutcome}
 use Rattle.block_row.proofs.row.row.Statement.{statement}
 use Rattle.block_row.proofs.row.row.Tie as tie
 
@@ -23,7 +23,7 @@ abbrev refuse : tie.Start → ℕ → ℕ → RowOutcome
 refuse s number place = (number, (s .args .answers .now, s .args .residuals .now))
 
 abbrev done : tie.Start → RowOutcome
-done s = (0, answered (T s) (s .args .answers .now) (s .args .coefficients .now) (s .args .residuals .now))
+done s = (0, rowAnswers (T s) (s .args .answers .now) (s .args .coefficients .now) (s .args .residuals .now))
 
 row-refusal-requires : tie.Need-row-refusal-requires
 row-refusal-requires c κs = search needs

@@ -22,14 +22,14 @@ abbrev μ-loop : tie.MeasureT-loop
 loop-holds : tie.Need-loop-holds Inv-loop μ-loop
 loop-holds c = (search needs, (search needs, zero-add _))
 
-shape-at-requires : tie.Need-shape-at-requires Inv-loop μ-loop
-shape-at-requires c κs = search needs
+row-shape-requires : tie.Need-row-shape-requires Inv-loop μ-loop
+row-shape-requires c κs = search needs
 
 span-of-requires : tie.Need-span-of-requires Inv-loop μ-loop
 span-of-requires c κs = search needs
 
 add-sum : tie.Need-add-sum Inv-loop μ-loop
-add-sum c = omega (arith, c .span-of .ensures, span-small (c .before .shape-at .result))
+add-sum c = omega (arith, c .span-of .ensures, span-small (c .before .row-shape .result))
 
 add-i : tie.Need-add-i Inv-loop μ-loop
 add-i c = search needs
@@ -43,13 +43,13 @@ loop-again c =
     let L = c .before .before .before .loop in
     let l = s .args .shapes .now in
     let T = shapesOf (s .args .count) l in
-    let sh = c .before .shape-at .result in
+    let sh = c .before .row-shape .result in
     let e = ap span (shapes-at (s .args .count) l (L .i) sh (c .before .before .loop-test .taken)) in
     let m = spans-more T (L .i) sh (omega (arith, shapes-length (s .args .count) l, c .before .before .loop-test .taken)) in
     let a = span-small sh in
     let q : spans (drop (L .i + 1) T) ≡ spans (drop (suc (L .i)) T) = rw (add-one (L .i)) in
     let r = c .span-of .ensures in
-    let z = ap span (c .before .shape-at .ensures) in
+    let z = ap span (c .before .row-shape .ensures) in
     (search needs, (omega arith, omega arith))
 
 returns : tie.Need-returns Inv-loop μ-loop
@@ -67,7 +67,7 @@ total-spec =
     Inv-loop
     μ-loop
     loop-holds
-    shape-at-requires
+    row-shape-requires
     span-of-requires
     add-sum
     add-i

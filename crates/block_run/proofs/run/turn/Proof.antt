@@ -8,25 +8,25 @@ use native.Mathlib.Omega.{arith}
 use borrow.Author.Tests.{eq-eqb}
 use denote.Ref.{now}
 use Rattle.block_file.specs.declared.cursor.Cursor.{Cursor}
-use Rattle.block_file.specs.declared.cursor.Step.{Step}
+use Rattle.block_file.specs.declared.cursor.Advance.{Advance}
 use Rattle.block_file.specs.Field.{isData}
-use Rattle.block_file.specs.Cursor.{foundAt, stepOf, bytesOf}
+use Rattle.block_file.specs.Cursor.{foundAt, advanceOf, bytesOf}
 use Rattle.block_numbers.specs.Numbers.{numbers}
 use Rattle.block_run.specs.Run.{inverseTurn, forwardTurn}
 use Rattle.block_run.specs.Does.{Fits}
 use Rattle.block_file.proofs.Shapes.{shape-range}
 use Rattle.block_text.proofs.Writing.{nothing}
 use Rattle.block_run.proofs.Turns.{same-turn, at-most}
-use Rattle.block_run.proofs.Steps.{Read, inverse-next, forward-next, no-more, bytes, same-bytes, read-on, read-data, data-follows, turn-refused, turn-inverse, turn-forward, turn-silent}
+use Rattle.block_run.proofs.Advances.{Read, inverse-next, forward-next, no-more, bytes, same-bytes, read-on, read-data, data-follows, turn-refused, turn-inverse, turn-forward, turn-silent}
 use Rattle.block_run.proofs.run.turn.Statement.{statement}
 use Rattle.block_run.proofs.run.turn.Tie as tie
 
--- what a step that read data says
-held : (file : List ℕ) (k : Cursor) (st : Step) → st ≡ stepOf file k → st .number ≡ 0 → isData (st .tag) ≡ true → Fits (k .shape) (bytesOf file k) × Read file k (foundAt file k)
-held file k st e z t = read-data file k (sym (ap (λ (x : Step). x .number) e) ∙ z) (ap (λ (x : Step). isData (x .tag)) (sym e) ∙ t)
+-- what an advance that read data says
+held : (file : List ℕ) (k : Cursor) (st : Advance) → st ≡ advanceOf file k → st .number ≡ 0 → isData (st .tag) ≡ true → Fits (k .shape) (bytesOf file k) × Read file k (foundAt file k)
+held file k st e z t = read-data file k (sym (ap (λ (x : Advance). x .number) e) ∙ z) (ap (λ (x : Advance). isData (x .tag)) (sym e) ∙ t)
 
-step-requires : tie.Need-step-requires
-step-requires c κs = search needs
+advance-requires : tie.Need-advance-requires
+advance-requires c κs = search needs
 
 refused-requires : tie.Need-refused-requires
 refused-requires c κs = search needs
@@ -37,7 +37,7 @@ same-length c = search needs
 returns : tie.Need-returns
 returns c =
     let s = c .before .before .before .before .before .before .before .before .before .before in
-    let st = c .before .before .before .before .before .before .before .step in
+    let st = c .before .before .before .before .before .before .before .advance in
     let d = c .before .before .refused .ensures in
     (at-most (same-turn (turn-refused (now (s .args .file)) (s .args .cursor) (st .result) (st .ensures) (c .before .before .before .before .if1 .taken)) d) (omega arith), no-more d refl)
 
@@ -47,7 +47,7 @@ body-requires c κs = search needs
 inverse-turn-requires : tie.Need-inverse-turn-requires
 inverse-turn-requires c κs =
     let s = c .before .before .before .before .before .before .before .before .before in
-    let st = c .before .before .before .before .before .before .step in
+    let st = c .before .before .before .before .before .before .advance in
     let file = now (s .args .file) in
     let r = held file (s .args .cursor) (st .result) (st .ensures) (c .before .before .before .if1 .left) (rw (c .before .before .if2 .taken)) in
     (subst (λ (l : List ℕ). Fits (s .args .cursor .shape) l) (sym (bytes (c .before .body .ensures))) (r .0), s .pre .0, s .pre .1)
@@ -58,7 +58,7 @@ same-length-2 c = search needs
 returns-2 : tie.Need-returns-2
 returns-2 c =
     let s = c .before .before .before .before .before .before .before .before .before .before .before .before in
-    let st = c .before .before .before .before .before .before .before .before .before .step in
+    let st = c .before .before .before .before .before .before .before .before .before .advance in
     let k = s .args .cursor in
     let file = now (s .args .file) in
     let zero = c .before .before .before .before .before .before .if1 .left in
@@ -67,7 +67,7 @@ returns-2 c =
     let b = bytes (c .before .before .before .before .body .ensures) in
     let d = same-bytes (λ (l : List ℕ). inverseTurn (k .shape) (numbers l) (k .at) (st .result .next)) _ (bytesOf file k) b (c .before .before .inverse-turn .ensures) in
     let s2 = shape-range (k .shape) (r .0 .held) in
-    (at-most (same-turn (turn-inverse file k (st .result) (st .ensures) zero tag) d) (omega (arith, r .0 .long, s2 .1)), data-follows file k r d (inverse-next (k .shape) (numbers (bytesOf file k)) (k .at) (st .result .next) ∙ ap (λ (x : Step). x .next) (st .ensures)))
+    (at-most (same-turn (turn-inverse file k (st .result) (st .ensures) zero tag) d) (omega (arith, r .0 .long, s2 .1)), data-follows file k r d (inverse-next (k .shape) (numbers (bytesOf file k)) (k .at) (st .result .next) ∙ ap (λ (x : Advance). x .next) (st .ensures)))
 
 body-requires-2 : tie.Need-body-requires-2
 body-requires-2 c κs = search needs
@@ -75,7 +75,7 @@ body-requires-2 c κs = search needs
 forward-turn-requires : tie.Need-forward-turn-requires
 forward-turn-requires c κs =
     let s = c .before .before .before .before .before .before .before .before .before .before in
-    let st = c .before .before .before .before .before .before .before .step in
+    let st = c .before .before .before .before .before .before .before .advance in
     let file = now (s .args .file) in
     let r = held file (s .args .cursor) (st .result) (st .ensures) (c .before .before .before .before .if1 .left) (rw (c .before .before .if3 .taken)) in
     (subst (λ (l : List ℕ). Fits (s .args .cursor .shape) l) (sym (bytes (c .before .body2 .ensures))) (r .0), s .pre .0, s .pre .1)
@@ -86,7 +86,7 @@ same-length-3 c = search needs
 returns-3 : tie.Need-returns-3
 returns-3 c =
     let s = c .before .before .before .before .before .before .before .before .before .before .before .before .before in
-    let st = c .before .before .before .before .before .before .before .before .before .before .step in
+    let st = c .before .before .before .before .before .before .before .before .before .before .advance in
     let k = s .args .cursor in
     let file = now (s .args .file) in
     let zero = c .before .before .before .before .before .before .before .if1 .left in
@@ -95,23 +95,23 @@ returns-3 c =
     let b = bytes (c .before .before .before .before .body2 .ensures) in
     let d = same-bytes (λ (l : List ℕ). forwardTurn (k .shape) (numbers l) (k .at) (st .result .next)) _ (bytesOf file k) b (c .before .before .forward-turn .ensures) in
     let s2 = shape-range (k .shape) (r .0 .held) in
-    (at-most (same-turn (turn-forward file k (st .result) (st .ensures) zero tag) d) (omega (arith, r .0 .long, s2 .1)), data-follows file k r d (forward-next (k .shape) (numbers (bytesOf file k)) (k .at) (st .result .next) ∙ ap (λ (x : Step). x .next) (st .ensures)))
+    (at-most (same-turn (turn-forward file k (st .result) (st .ensures) zero tag) d) (omega (arith, r .0 .long, s2 .1)), data-follows file k r d (forward-next (k .shape) (numbers (bytesOf file k)) (k .at) (st .result .next) ∙ ap (λ (x : Advance). x .next) (st .ensures)))
 
 returns-4 : tie.Need-returns-4
 returns-4 c =
     let s = c .before .before .before .before .before .before .before .before in
-    let st = c .before .before .before .before .before .step in
+    let st = c .before .before .before .before .before .advance in
     let file = now (s .args .file) in
     let k = s .args .cursor in
     let e = st .ensures in
-    let n : st .result .next .at ≡ foundAt file k .next .at = ap (λ (x : Step). x .next .at) e in
-    (same-turn (turn-silent file k (st .result) e (c .before .before .if1 .left) (c .before .if2 .left) (c .if3 .left)) (record { wrote = nothing _ _ _; ends = refl; next = refl }), λ h. let r = read-on file k (λ z. false≢true (sym h ∙ eq-eqb (st .result .tag) 0 (ap (λ (x : Step). x .tag) e ∙ z))) in (omega (arith, n, r .0), omega (arith, n, r .1), omega (arith, n, r .0)))
+    let n : st .result .next .at ≡ foundAt file k .next .at = ap (λ (x : Advance). x .next .at) e in
+    (same-turn (turn-silent file k (st .result) e (c .before .before .if1 .left) (c .before .if2 .left) (c .if3 .left)) (record { wrote = nothing _ _ _; ends = refl; next = refl }), λ h. let r = read-on file k (λ z. false≢true (sym h ∙ eq-eqb (st .result .tag) 0 (ap (λ (x : Advance). x .tag) e ∙ z))) in (omega (arith, n, r .0), omega (arith, n, r .1), omega (arith, n, r .0)))
 
 pub turn-spec : {M : Type 1} → statement M
 turn-spec =
     tie.close
     (tie.spec
-    step-requires
+    advance-requires
     refused-requires
     same-length
     returns

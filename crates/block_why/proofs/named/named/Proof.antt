@@ -5,12 +5,12 @@ use mathlib.Core.List.{List}
 use Prim.Native.Nat.{ℕ}
 use denote.Ref.{now}
 use Rattle.why.specs.declared.answer.Parts.{Parts}
-use Rattle.block_file.specs.declared.cursor.Step.{Step}
+use Rattle.block_file.specs.declared.cursor.Advance.{Advance}
 use Rattle.block_file.specs.Field.{isData}
 use Rattle.block_file.specs.Cursor.{foundAt}
 use Rattle.block_numbers.specs.Numbers.{numbers}
 use Rattle.block_run.specs.Does.{Fits}
-use Rattle.block_run.proofs.Steps.{bytes, data-fits}
+use Rattle.block_run.proofs.Advances.{bytes, data-fits}
 use Rattle.block_why.specs.Named.{inverseNamed}
 use Rattle.block_why.proofs.Naming.{is-inverse, is-none}
 use borrow.Author.Needs.{needs}
@@ -20,8 +20,8 @@ use Rattle.block_why.proofs.named.named.Tie as tie
 pick-requires : tie.Need-pick-requires
 pick-requires c κs = search needs
 
-step-requires : tie.Need-step-requires
-step-requires c κs = search needs
+advance-requires : tie.Need-advance-requires
+advance-requires c κs = search needs
 
 body-requires : tie.Need-body-requires
 body-requires c κs = search needs
@@ -30,7 +30,7 @@ body-parts-requires : tie.Need-body-parts-requires
 body-parts-requires c κs =
     let file = now (c .before .before .before .before .before .before .args .file) in
     let k = c .before .before .before .before .pick .result in
-    let t : isData (foundAt file k .tag) ≡ true = rw (sym (ap (λ (x : Step). x .tag) (c .before .before .before .step .ensures)) ∙ c .before .if1 .taken) in
+    let t : isData (foundAt file k .tag) ≡ true = rw (sym (ap (λ (x : Advance). x .tag) (c .before .before .before .advance .ensures)) ∙ c .before .if1 .taken) in
     subst (λ (l : List ℕ). Fits (k .shape) l) (sym (bytes (c .body .ensures))) (data-fits file k t)
 
 returns : tie.Need-returns
@@ -38,11 +38,11 @@ returns c =
     let a = c .before .before .before .before .before .before .before .args in
     let file = now (a .file) in
     let pick = c .before .before .before .before .before .pick in
-    let step = c .before .before .before .before .step in
+    let advance = c .before .before .before .before .advance in
     let k = pick .result in
     ap (λ (p : Parts). record { tag = 2; offset = k .at; depth = k .shape .depth; parts = p }) (c .body-parts .ensures)
     ∙ ap (λ (l : List ℕ). inverseNamed (k .shape) (numbers l) (k .at) (a .place)) (bytes (c .before .body .ensures))
-    ∙ is-inverse file (a .n) (a .place) k (pick .ensures) (step .result) (step .ensures) (c .before .before .if1 .taken)
+    ∙ is-inverse file (a .n) (a .place) k (pick .ensures) (advance .result) (advance .ensures) (c .before .before .if1 .taken)
 
 none-requires : tie.Need-none-requires
 none-requires c κs = search needs
@@ -51,17 +51,17 @@ returns-2 : tie.Need-returns-2
 returns-2 c =
     let a = c .before .before .before .before .before .before .args in
     let pick = c .before .before .before .before .pick in
-    let step = c .before .before .before .step in
+    let advance = c .before .before .before .advance in
     let k = pick .result in
-    ap (λ (p : Parts). record { tag = step .result .tag; offset = k .at; depth = 0; parts = p }) (c .none .ensures)
-    ∙ is-none (now (a .file)) (a .n) (a .place) k (pick .ensures) (step .result) (step .ensures) (c .before .if1 .left)
+    ap (λ (p : Parts). record { tag = advance .result .tag; offset = k .at; depth = 0; parts = p }) (c .none .ensures)
+    ∙ is-none (now (a .file)) (a .n) (a .place) k (pick .ensures) (advance .result) (advance .ensures) (c .before .if1 .left)
 
 pub named-spec : {M : Type 1} → statement M
 named-spec =
     tie.close
     (tie.spec
     pick-requires
-    step-requires
+    advance-requires
     body-requires
     body-parts-requires
     returns

@@ -7,7 +7,7 @@ use mir.Syntax.{w32}
 use mir.Val.{toZ, ofZ}
 use Rattle.algebra.proofs.Order.{abs-add}
 use Rattle.meaning.specs.Weights.{signed}
-use Rattle.folding.specs.Folds.{half, odd, folded, stretches}
+use Rattle.folding.specs.Folds.{half, isOdd, folded, stretches}
 use Rattle.folding.specs.Lines.{reading}
 use Rattle.folding.proofs.Reading.{Reads, reads, reads-sign, reads-sum, safe, is-small, stretch-next, stretch-last, read-back}
 use Rattle.folding.proofs.inputs.periodic_input.Statement.{statement}
@@ -79,8 +79,8 @@ sign-requires : tie.Need-sign-requires Inv-loop μ-loop
 sign-requires c κs = safe (two c) (omega arith)
 
 changed : (c : tie.After-sign Inv-loop μ-loop) → let s = c .before .before .before .before .before .before in let k = c .before .before .before .before .before .loop .k in let o = k * s .args .q in
-    Reads (c .sign .result) (signed (odd k) (X s (o + s .args .g) +ℤ X s (o + s .args .q - 2 - s .args .g))) 65536
-changed c = reads-sign (two (c .before)) (odd (c .before .before .before .before .before .loop .k)) (c .sign .ensures) (omega arith)
+    Reads (c .sign .result) (signed (isOdd k) (X s (o + s .args .g) +ℤ X s (o + s .args .q - 2 - s .args .g))) 65536
+changed c = reads-sign (two (c .before)) (isOdd (c .before .before .before .before .before .loop .k)) (c .sign .ensures) (omega arith)
 
 -- the sum so far
 abbrev so : tie.Start Inv-loop μ-loop → ℕ → ℤ
@@ -116,7 +116,7 @@ loop-again c =
       omega (arith, L .loop-test .taken),
       (
         ap (ofZ w32) (c .plus2 .ensures ∙ (λ t. sofar (L .before) .0 t +ℤ v .is t) ∙ sym e),
-        subst (λ (z : ℤ). natAbs z ≤ (k + 1) * 65536) (sym e) (omega (arith, abs-add (so s k) (signed (odd k) (X s (k * s .args .q + s .args .g) +ℤ X s (k * s .args .q + s .args .q - 2 - s .args .g))), L .before .loop .inv .1 .1, v .size)),
+        subst (λ (z : ℤ). natAbs z ≤ (k + 1) * 65536) (sym e) (omega (arith, abs-add (so s k) (signed (isOdd k) (X s (k * s .args .q + s .args .g) +ℤ X s (k * s .args .q + s .args .q - 2 - s .args .g))), L .before .loop .inv .1 .1, v .size)),
       ),
     )
 
@@ -144,8 +144,8 @@ sign-requires-2 : tie.Need-sign-requires-2 Inv-loop μ-loop
 sign-requires-2 c κs = safe (third c) (omega arith)
 
 last : (c : tie.After-sign2 Inv-loop μ-loop) → let s = c .before .before .before .before in let k = c .before .before .before .loop .k in
-    Reads (c .sign2 .result) (signed (odd k) (X s (k * s .args .q + s .args .g))) 32768
-last c = reads-sign (third (c .before)) (odd (c .before .before .before .loop .k)) (c .sign2 .ensures) (omega arith)
+    Reads (c .sign2 .result) (signed (isOdd k) (X s (k * s .args .q + s .args .g))) 32768
+last c = reads-sign (third (c .before)) (isOdd (c .before .before .before .loop .k)) (c .sign2 .ensures) (omega arith)
 
 plus-requires-3 : tie.Need-plus-requires-3 Inv-loop μ-loop
 plus-requires-3 c κs = (sum-safe (c .before .before .before), safe (last c) (omega arith))
@@ -156,10 +156,10 @@ returns c =
     let s = E .before .before in
     let k = E .before .loop .k in
     let v = last (c .before) in
-    let z = signed (odd k) (X s (k * s .args .q + s .args .g)) in
+    let z = signed (isOdd k) (X s (k * s .args .q + s .args .g)) in
     let e : c .plus3 .result ≡ so s k +ℤ z = c .plus3 .ensures ∙ (λ t. sofar (E .before) .0 t +ℤ v .is t) in
     let r = reads 425984 e (omega (arith, ap natAbs e, abs-add (so s k) z, sofar (E .before) .1, v .size)) (omega arith) in (
-      r .is ∙ ap (λ (j : ℕ). so s j +ℤ signed (odd j) (X s (j * s .args .q + s .args .g))) (ended E) ∙ sym (stretch-last (X s) (s .args .n) (s .args .q) (s .args .g)),
+      r .is ∙ ap (λ (j : ℕ). so s j +ℤ signed (isOdd j) (X s (j * s .args .q + s .args .g))) (ended E) ∙ sym (stretch-last (X s) (s .args .n) (s .args .q) (s .args .g)),
       is-small r,
     )
 

@@ -6,14 +6,14 @@ use lib.ListN.{length}
 use lib.IntN.{_+ℤ_}
 use Rattle.algebra.specs.Lists.{at}
 use Rattle.folding.specs.Folds.{folded, leading, periodic}
-use Rattle.folding.specs.Steps.{Front, joined}
+use Rattle.folding.specs.Steps.{FilledTo, joinedSums}
 use Rattle.folding.proofs.Reading.{Reads, reads, reads-sum, safe, turned-in}
 use Rattle.folding.proofs.Gathering.{front-next, joined-at}
 use Rattle.folding.proofs.spread.spread.Statement.{statement}
 use Rattle.folding.proofs.spread.spread.Tie as tie
 
 abbrev Inv-loop : tie.InvT-loop
-Inv-loop a c d n p q back from to y₀ k₀ y k = (k ≤ to) × Front back n k (joined p q a c d) y
+Inv-loop a c d n p q back from to y₀ k₀ y k = (k ≤ to) × FilledTo back n k (joinedSums p q a c d) y
 
 abbrev μ-loop : tie.MeasureT-loop
 μ-loop a c d n p q back from to y₀ k₀ y k = to - k
@@ -97,7 +97,7 @@ returns c =
     let s = c .before .before .args in
     let L = c .before .loop in
     let e : L .k ≡ s .to = omega (arith, L .inv .0, c .loop-test .left) in
-    subst (λ (k : ℕ). Front (s .back) (s .n) k (joined (s .p) (s .q) (s .a .now) (s .c .now) (s .d .now)) (L .y)) e (L .inv .1)
+    subst (λ (k : ℕ). FilledTo (s .back) (s .n) k (joinedSums (s .p) (s .q) (s .a .now) (s .c .now) (s .d .now)) (L .y)) e (L .inv .1)
 
 pub spread-spec : {M : Type 1} → statement M
 spread-spec =

@@ -6,7 +6,7 @@ use lib.IntN.{pos}
 use Rattle.meaning.specs.Forward.{rowShift}
 use Rattle.forward_block.specs.Stage.{Stage}
 use Rattle.forward_block.specs.Square.{fourValue}
-use Rattle.forward_block.proofs.Turning.{area, row-given, column-given, turned-block}
+use Rattle.forward_block.proofs.Turning.{elements, row-given, column-given, turned-block}
 use Rattle.forward_block.proofs.four.four.Statement.{statement}
 use Rattle.forward_block.proofs.four.four.Tie as tie
 
@@ -36,7 +36,7 @@ stage-requires-2 : tie.Need-stage-requires-2
 stage-requires-2 c κs =
     let S = c .before .before .before .before in
     let s = S .before .before .before in
-    (rw (c .before .column-shift .ensures) (column-given (s .pre .0) (s .pre .1 .1) refl (first S)), s .pre .1 .0 ∙ area (s .pre .0) (s .pre .1 .1))
+    (rw (c .before .column-shift .ensures) (column-given (s .pre .0) (s .pre .1 .1) refl (first S)), s .pre .1 .0 ∙ elements (s .pre .0) (s .pre .1 .1))
 
 same-length : tie.Need-same-length
 same-length c = search needs
@@ -46,7 +46,7 @@ returns c =
     let C = c .before .before in
     let S = C .before .before .before .before in
     let s = S .before .before .before in
-    turned-block (s .pre .0) (s .pre .1 .1) refl (first S) (s .pre .1 .0 ∙ area (s .pre .0) (s .pre .1 .1)) (rw (C .before .column-shift .ensures) at (c .before .stage2 .ensures))
+    turned-block (s .pre .0) (s .pre .1 .1) refl (first S) (s .pre .1 .0 ∙ elements (s .pre .0) (s .pre .1 .1)) (rw (C .before .column-shift .ensures) at (c .before .stage2 .ensures))
 
 pub four-spec : {M : Type 1} → statement M
 four-spec =

@@ -6,15 +6,15 @@ use Prim.Native.Nat.{ℕ, _/_}
 use lib.ListN.{length}
 use lib.IntN.{ℤ}
 use Rattle.meaning.proofs.Cases.{thirty-two}
-use Rattle.forward_block.specs.Stage.{lineValue, Put, Stage}
+use Rattle.forward_block.specs.Stage.{lineValue, PutLines, Stage}
 use Rattle.forward_block.proofs.stages.stage.Statement.{statement}
 use Rattle.forward_block.proofs.stages.stage.Tie as tie
 
 -- at a size of n
-given : (s : tie.Start) (n : ℕ) → s .args .n ≡ n → let a = s .args in Put (n / 2) (a .a .now) (a .step) (a .gap) (a .b .now) (a .apart) (a .kept) (a .some) (a .wide) (a .shift) (length (a .out .now))
+given : (s : tie.Start) (n : ℕ) → s .args .n ≡ n → let a = s .args in PutLines (n / 2) (a .a .now) (a .step) (a .gap) (a .b .now) (a .apart) (a .kept) (a .some) (a .wide) (a .shift) (length (a .out .now))
 given s n e =
     let a = s .args in
-    subst (λ (n : ℕ). Put (n / 2) (a .a .now) (a .step) (a .gap) (a .b .now) (a .apart) (a .kept) (a .some) (a .wide) (a .shift) (length (a .out .now))) e (s .pre .1)
+    subst (λ (n : ℕ). PutLines (n / 2) (a .a .now) (a .step) (a .gap) (a .b .now) (a .apart) (a .kept) (a .some) (a .wide) (a .shift) (length (a .out .now))) e (s .pre .1)
 
 done : (s : tie.Start) (n : ℕ) {out : List ℤ} → s .args .n ≡ n
     → let a = s .args in Stage (a .kept) (a .wide) (a .some) (lineValue (n / 2) (a .a .now) (a .step) (a .gap) (a .b .now) (a .apart) (a .shift)) out (a .out .now)

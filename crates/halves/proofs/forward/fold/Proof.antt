@@ -11,13 +11,13 @@ use mir.ValLaws.{toZ-ofZ}
 use Rattle.algebra.specs.Lists.{at}
 use Rattle.algebra.proofs.Word.{small}
 use Rattle.algebra.proofs.Lists.{Filled, fill-none, fill-first, filled}
-use Rattle.halves.specs.Halves.{sums, differences}
+use Rattle.halves.specs.Halves.{endSums, endDifferences}
 use Rattle.halves.proofs.ForwardStep.{less9}
 use Rattle.halves.proofs.forward.fold.Statement.{statement}
 use Rattle.halves.proofs.forward.fold.Tie as tie
 
 abbrev Inv-loop : tie.InvT-loop
-Inv-loop x h s₀ d₀ j₀ s d j = (j ≤ h) × (Filled 0 j s s₀ (sums (h + h) (at x)) × Filled 0 j d d₀ (differences (h + h) (at x)))
+Inv-loop x h s₀ d₀ j₀ s d j = (j ≤ h) × (Filled 0 j s s₀ (endSums (h + h) (at x)) × Filled 0 j d d₀ (endDifferences (h + h) (at x)))
 
 abbrev μ-loop : tie.MeasureT-loop
 μ-loop x h s₀ d₀ j₀ s d j = h - j
@@ -152,8 +152,8 @@ returns c =
     let L = c .before in
     let s = L .before .args in
     let q : L .loop .j ≡ s .h = omega (arith, c .loop-test .left, L .loop .inv .0) in (
-      filled (L .before .pre .1 .0) (subst (λ (m : ℕ). Filled 0 m (L .loop .s) (s .s .now) (sums (s .h + s .h) (at (s .x .now)))) q (L .loop .inv .1 .0)),
-      filled (L .before .pre .1 .1) (subst (λ (m : ℕ). Filled 0 m (L .loop .d) (s .d .now) (differences (s .h + s .h) (at (s .x .now)))) q (L .loop .inv .1 .1)),
+      filled (L .before .pre .1 .0) (subst (λ (m : ℕ). Filled 0 m (L .loop .s) (s .s .now) (endSums (s .h + s .h) (at (s .x .now)))) q (L .loop .inv .1 .0)),
+      filled (L .before .pre .1 .1) (subst (λ (m : ℕ). Filled 0 m (L .loop .d) (s .d .now) (endDifferences (s .h + s .h) (at (s .x .now)))) q (L .loop .inv .1 .1)),
     )
 
 pub fold-spec : {M : Type 1} → statement M

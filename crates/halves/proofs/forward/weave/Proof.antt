@@ -14,7 +14,7 @@ use Rattle.algebra.proofs.Sum.{sum-cong}
 use Rattle.algebra.proofs.Lists.{Filled, fill-none, fill-first, filled, tab-length}
 use Rattle.meaning.specs.Line.{forwardSum}
 use Rattle.product.specs.Product.{spot}
-use Rattle.halves.specs.Halves.{odd, sums, differences}
+use Rattle.halves.specs.Halves.{odd, endSums, endDifferences}
 use Rattle.halves.proofs.ByHalves.{forward-even, forward-odd}
 use Rattle.halves.proofs.Tables.{odd-size, tab-holds, row-of, row-sum}
 use Rattle.halves.proofs.ForwardStep.{recount}
@@ -50,18 +50,18 @@ module _ (c : tie.In-loop Inv-loop μ-loop) where
   room = omega (arith, here, c .before .before .pre .1 .1 .1 .1)
 
   long : length (c .before .before .args .e .now) ≡ h
-  long = ap length (c .before .before .pre .1 .1 .0) ∙ tab-length h (forwardSum 0 h (sums (h + h) x))
+  long = ap length (c .before .before .pre .1 .1 .0) ∙ tab-length h (forwardSum 0 h (endSums (h + h) x))
 
   even : at (c .before .before .args .e .now) i ≡ forwardSum 0 (h + h) x (2 * i)
   even =
-      tab-holds h (c .before .before .args .e .now) (forwardSum 0 h (sums (h + h) x)) (c .before .before .pre .1 .1 .0) i here
+      tab-holds h (c .before .before .args .e .now) (forwardSum 0 h (endSums (h + h) x)) (c .before .before .pre .1 .1 .0) i here
       ∙ sym (forward-even (c .before .before .pre .0 .1) x i here)
 
   odded : sum h (λ j. at (c .before .before .args .t .now) (2 * j + spot (2 * h) i) *ℤ at (c .before .before .args .d .now) j) ≡ forwardSum 0 (h + h) x (2 * i + 1)
   odded =
       row-sum (c .before .before .pre .0 .0) i here (at (c .before .before .args .d .now))
-      ∙ sum-cong h (λ j. odd (h + h) i j *ℤ at (c .before .before .args .d .now) j) (λ j. odd (h + h) i j *ℤ differences (h + h) x j)
-      (λ j l. ap (λ (z : ℤ). odd (h + h) i j *ℤ z) (tab-holds h (c .before .before .args .d .now) (differences (h + h) x) (c .before .before .pre .1 .1 .1 .0) j l))
+      ∙ sum-cong h (λ j. odd (h + h) i j *ℤ at (c .before .before .args .d .now) j) (λ j. odd (h + h) i j *ℤ endDifferences (h + h) x j)
+      (λ j l. ap (λ (z : ℤ). odd (h + h) i j *ℤ z) (tab-holds h (c .before .before .args .d .now) (endDifferences (h + h) x) (c .before .before .pre .1 .1 .1 .0) j l))
       ∙ sym (forward-odd (c .before .before .pre .0 .1) x i here)
 
 mul-out : tie.Need-mul-out Inv-loop μ-loop

@@ -11,12 +11,12 @@ use Rattle.meaning.specs.Shape.{isSize}
 use Rattle.meaning.specs.Plan.{planOf}
 use Rattle.meaning.specs.Inverse.{rails}
 use Rattle.meaning.proofs.Cases.{size-in}
-use Rattle.inverse_stage.specs.Given.{Given, Room}
+use Rattle.inverse_stage.specs.Given.{GivenStages, Room}
 use Rattle.inverse_stage.proofs.Work.{four, eight, sixteen, thirty-two, all-rooms, zip-given, settled, counted, block-long, First, first-room, first-part, settle-given, Down, Along, down-asks, down-leaves, held-long, along-asks, along-leaves}
 use Rattle.inverse_block.proofs.stages.large.Statement.{statement}
 use Rattle.inverse_block.proofs.stages.large.Tie as tie
 
-given : (s : tie.Start) → Given (s .args .shape) (s .args .rows) (s .args .columns) (s .args .c .now) (s .args .r .now)
+given : (s : tie.Start) → GivenStages (s .args .shape) (s .args .rows) (s .args .columns) (s .args .c .now) (s .args .r .now)
 given s = s .pre
 
 fits : (s : tie.Start) → Room 1024 (s .args .shape) (s .args .rows) (s .args .columns)
@@ -28,8 +28,8 @@ cast-w c = search needs
 cast-h : tie.Need-cast-h
 cast-h c = search needs
 
-mul-area : tie.Need-mul-area
-mul-area c = omega (arith, fits (c .before .before) .between)
+mul-elements : tie.Need-mul-elements
+mul-elements c = omega (arith, fits (c .before .before) .between)
 
 mul-wide : tie.Need-mul-wide
 mul-wide c = omega (arith, size-in (c .before .before .args .columns) (given (c .before .before) .size-columns))
@@ -258,7 +258,7 @@ large-spec =
     (tie.spec
     cast-w
     cast-h
-    mul-area
+    mul-elements
     mul-wide
     mul-tall
     mul-full

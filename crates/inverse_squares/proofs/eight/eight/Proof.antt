@@ -13,21 +13,21 @@ use Rattle.algebra.specs.Lists.{at, block}
 use Rattle.algebra.proofs.Lists.{tab-length}
 use Rattle.product.specs.Product.{Laid, lineSum, shifted, Lines}
 use Rattle.product.proofs.Laid.{half-is, half-rounds}
-use Rattle.inverse_stage.specs.Given.{Given}
+use Rattle.inverse_stage.specs.Given.{GivenStages}
 use Rattle.inverse_squares.specs.Square.{Square, downBlock, alongBlock}
 use Rattle.inverse_stage.proofs.Work.{all-written, sums, sums-long, settled, counted, block-long}
 use Rattle.inverse_squares.proofs.Square.{of-square, down-lines, down-sums, along-lines, along-sums, whole-sums, whole-block}
 use Rattle.inverse_squares.proofs.eight.eight.Statement.{statement}
 use Rattle.inverse_squares.proofs.eight.eight.Tie as tie
 
-given : (s : tie.Start) → Given (s .args .shape) (s .args .shape .height) (s .args .shape .width) (s .args .c .now) (s .args .r .now)
+given : (s : tie.Start) → GivenStages (s .args .shape) (s .args .shape .height) (s .args .shape .width) (s .args .c .now) (s .args .r .now)
 given s = s .pre .0
 
 square : (s : tie.Start) → Square 8 (s .args .shape)
 square s = s .pre .1 .0
 
-area : (s : tie.Start) → s .args .shape .height * s .args .shape .width ≡ 64
-area s = λ i. square s .height i * square s .width i
+elements : (s : tie.Start) → s .args .shape .height * s .args .shape .width ≡ 64
+elements s = λ i. square s .height i * square s .width i
 
 room : (s : tie.Start) → length (s .args .r .now) ≡ s .args .shape .height * s .args .shape .width
 room s = given s .block .room ∙ mul-comm (s .args .shape .width) (s .args .shape .height)
@@ -45,7 +45,7 @@ zip-requires : tie.Need-zip-requires
 zip-requires c κs =
     let s = c .before .before .before in
     let e = square s .width in
-    let l : length (s .args .c .now) ≡ 64 = given s .block .long ∙ mul-comm (s .args .shape .width) (s .args .shape .height) ∙ area s in
+    let l : length (s .args .c .now) ≡ 64 = given s .block .long ∙ mul-comm (s .args .shape .width) (s .args .shape .height) ∙ elements s in
     record { some = omega arith; wide = omega arith; narrow = omega arith; there = omega arith; room = omega arith }
 
 put-requires : tie.Need-put-requires
@@ -103,7 +103,7 @@ settle-requires : tie.Need-settle-requires
 settle-requires c κs =
     let L = c .before .before .before in
     let s = start (down L) in
-    let e = first-long L ∙ area s in
+    let e = first-long L ∙ elements s in
     (e ∙ sym (zipped-long (down L)), omega arith)
 
 abbrev work : tie.After-settle → tie.After-lines
@@ -113,7 +113,7 @@ abbrev origin : tie.After-settle → tie.Start
 origin c = start (down (work c))
 
 settled-long : (c : tie.After-settle) → length (c .settle .last .1 .0) ≡ 64
-settled-long c = ap length (c .settle .ensures .0) ∙ tab-length _ _ ∙ first-long (work c) ∙ area (origin c)
+settled-long c = ap length (c .settle .ensures .0) ∙ tab-length _ _ ∙ first-long (work c) ∙ elements (origin c)
 
 last-shift-requires : tie.Need-last-shift-requires
 last-shift-requires c κs = given (origin (c .before)) .block .taken .depth

@@ -5,24 +5,24 @@ use mathlib.Core.Path.{_≡_, refl, sym, ap, _∙_}
 use Prim.Native.Nat.{_*_}
 use lib.ListN.{length}
 use Rattle.algebra.proofs.Lists.{block-length, tab-length}
-use Rattle.inverse_stage.specs.Given.{Given}
+use Rattle.inverse_stage.specs.Given.{GivenStages}
 use Rattle.inverse_squares.specs.Square.{Square, downBlock, alongBlock}
 use Rattle.inverse_stage.proofs.Work.{sums, settled, counted, block-long}
 use Rattle.inverse_squares.proofs.Square.{whole-sums, whole-block}
 use Rattle.inverse_squares.proofs.four.four.Statement.{statement}
 use Rattle.inverse_squares.proofs.four.four.Tie as tie
 
-given : (s : tie.Start) → Given (s .args .shape) (s .args .shape .height) (s .args .shape .width) (s .args .c .now) (s .args .r .now)
+given : (s : tie.Start) → GivenStages (s .args .shape) (s .args .shape .height) (s .args .shape .width) (s .args .c .now) (s .args .r .now)
 given s = s .pre .0
 
 square : (s : tie.Start) → Square 4 (s .args .shape)
 square s = s .pre .1
 
-area : (s : tie.Start) → s .args .shape .width * s .args .shape .height ≡ 16
-area s = λ i. square s .width i * square s .height i
+elements : (s : tie.Start) → s .args .shape .width * s .args .shape .height ≡ 16
+elements s = λ i. square s .width i * square s .height i
 
 down-requires : tie.Need-down-requires
-down-requires c κs = let s = c .before in (given s .block .taken .vertical, (given s .block .long ∙ area s, refl))
+down-requires c κs = let s = c .before in (given s .block .taken .vertical, (given s .block .long ∙ elements s, refl))
 
 -- the rounded sums of the first stage
 abbrev start : tie.After-down → tie.Start
@@ -59,7 +59,7 @@ along-requires : tie.Need-along-requires
 along-requires c κs =
     let S = c .before .before .before .before in
     let s = start (downed S) in
-    (given s .block .taken .horizontal, (c .before .last-shift .ensures .1, (settled-long S, given s .block .room ∙ area s)))
+    (given s .block .taken .horizontal, (c .before .last-shift .ensures .1, (settled-long S, given s .block .room ∙ elements s)))
 
 returns : tie.Need-returns
 returns c =

@@ -14,8 +14,8 @@ use Rattle.long_stages.proofs.live.row_pairs.Tie as tie
 wide : (c : tie.Start) → (4 ≤ c .args .w) × (c .args .w ≤ 32)
 wide c = (size-some (c .args .w) (c .pre .0), size-in (c .args .w) (c .pre .0))
 
-area : (c : tie.Start) → length (c .args .c .now) ≤ 1024
-area c =
+elements : (c : tie.Start) → length (c .args .c .now) ≤ 1024
+elements c =
     let m : c .args .h * c .args .w ≤ 32 * 32 = mul-le-mul (size-in (c .args .h) (c .pre .1 .0)) (wide c .1) in
     omega (arith, c .pre .1 .1)
 
@@ -40,7 +40,7 @@ sub-result : tie.Need-sub-result
 sub-result c = omega (arith, wide (c .before))
 
 add-result : tie.Need-add-result
-add-result c = omega (arith, wide (c .before), area (c .before), c .used .ensures .0)
+add-result c = omega (arith, wide (c .before), elements (c .before), c .used .ensures .0)
 
 div-result : tie.Need-div-result
 div-result c = omega (arith, wide (c .before))

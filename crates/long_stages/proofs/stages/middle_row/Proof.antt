@@ -54,11 +54,11 @@ dot-requires c κs = c .before .before .pre .0 .each (c .before .loop .x) (c .be
 dot-is : (c : tie.After-dot Inv-loop μ-loop) → toZ w64 (ofZ w64 (c .dot .result)) ≡ c .dot .result
 dot-is c = toZ-ofZ w64 (c .dot .result) (search needs)
 
-round7-requires : tie.Need-round7-requires Inv-loop μ-loop
-round7-requires c κs = subst (λ (z : ℤ). natAbs z ≤ 1000000000000000000) (sym (dot-is c)) (omega (arith, c .dot .ensures .1))
+rounded-requires : tie.Need-rounded-requires Inv-loop μ-loop
+rounded-requires c κs = subst (λ (z : ℤ). natAbs z ≤ 1000000000000000000) (sym (dot-is c)) (omega (arith, c .dot .ensures .1))
 
-before-is : (c : tie.After-round7 Inv-loop μ-loop) → let L = c .before .before .before in toZ w64 (ofZ w64 (c .round7 .result)) ≡ rounded (e (L .before) (L .loop .x))
-before-is c = toZ-ofZ w64 (c .round7 .result) (search needs) ∙ c .round7 .ensures ∙ ap (nearest 7) (dot-is (c .before) ∙ c .before .dot .ensures .0)
+before-is : (c : tie.After-rounded Inv-loop μ-loop) → let L = c .before .before .before in toZ w64 (ofZ w64 (c .rounded .result)) ≡ rounded (e (L .before) (L .loop .x))
+before-is c = toZ-ofZ w64 (c .rounded .result) (search needs) ∙ c .rounded .ensures ∙ ap (nearest 7) (dot-is (c .before) ∙ c .before .dot .ensures .0)
 
 clipped-requires : tie.Need-clipped-requires Inv-loop μ-loop
 clipped-requires c κs = omega (arith, c .before .before .before .before .pre .0 .far)
@@ -135,7 +135,7 @@ middle-row-spec =
     mul-dot
     mul-dot-2
     dot-requires
-    round7-requires
+    rounded-requires
     clipped-requires
     mul-after
     slice-set-from-after

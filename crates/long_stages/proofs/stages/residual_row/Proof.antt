@@ -51,19 +51,19 @@ dot-requires c κs = c .before .before .pre .0 .each (c .before .loop .x) (c .be
 dot-is : (c : tie.After-dot Inv-loop μ-loop) → toZ w64 (ofZ w64 (c .dot .result)) ≡ c .dot .result
 dot-is c = toZ-ofZ w64 (c .dot .result) (search needs)
 
-round-last-requires : tie.Need-round-last-requires Inv-loop μ-loop
-round-last-requires c κs =
+nearest-requires : tie.Need-nearest-requires Inv-loop μ-loop
+nearest-requires c κs =
     let s = c .before .before .before in
     (subst (λ (z : ℤ). natAbs z ≤ 1000000000000000000) (sym (dot-is c)) (omega (arith, c .dot .ensures .1)), (s .pre .0 .some, s .pre .0 .short))
 
 -- the residual, which fits 32 bits
-value : (c : tie.After-round-last Inv-loop μ-loop) → let L = c .before .before .before in
-    toZ w64 (ofZ w64 (c .round-last .result)) ≡ nearest (L .before .args .last) (r (L .before) (L .loop .x))
+value : (c : tie.After-nearest Inv-loop μ-loop) → let L = c .before .before .before in
+    toZ w64 (ofZ w64 (c .nearest .result)) ≡ nearest (L .before .args .last) (r (L .before) (L .loop .x))
 value c =
     let L = c .before .before .before in
-    toZ-ofZ w64 (c .round-last .result) (search needs) ∙ c .round-last .ensures ∙ ap (nearest (L .before .args .last)) (dot-is (c .before) ∙ c .before .dot .ensures .0)
+    toZ-ofZ w64 (c .nearest .result) (search needs) ∙ c .nearest .ensures ∙ ap (nearest (L .before .args .last)) (dot-is (c .before) ∙ c .before .dot .ensures .0)
 
-fits : (c : tie.After-round-last Inv-loop μ-loop) → let L = c .before .before .before in SFits w32 (nearest (L .before .args .last) (r (L .before) (L .loop .x)))
+fits : (c : tie.After-nearest Inv-loop μ-loop) → let L = c .before .before .before in SFits w32 (nearest (L .before .args .last) (r (L .before) (L .loop .x)))
 fits c =
     let I = c .before .before in
     let s = I .before .before in
@@ -94,7 +94,7 @@ loop-again c =
     let L = I .before in
     let s = L .before in
     let z = nearest (s .args .last) (r s (L .loop .x)) in
-    let word : Is w64 (ofZ w64 (c .round-last .result)) z (natAbs z) = record { val = value c; abs = le-refl (natAbs z) } in
+    let word : Is w64 (ofZ w64 (c .nearest .result)) z (natAbs z) = record { val = value c; abs = le-refl (natAbs z) } in
     (omega arith, fill-first _ (omega (arith, s .pre .1 .1, I .loop-test .taken)) (L .loop .inv .1) (castV! word (fits c) .val))
 
 same-length : tie.Need-same-length Inv-loop μ-loop
@@ -116,7 +116,7 @@ residual-row-spec =
     mul-dot-2
     mul-dot-3
     dot-requires
-    round-last-requires
+    nearest-requires
     cast-out
     mul-t18
     slice-set-from-out

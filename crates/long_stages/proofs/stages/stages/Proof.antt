@@ -13,12 +13,12 @@ use Rattle.algebra.specs.Lists.{block}
 use Rattle.meaning.specs.Plan.{rangeOf, reach, longPlan}
 use Rattle.meaning.specs.Inverse.{middle, rails}
 use Rattle.meaning.proofs.LongRules.{long-depth}
-use Rattle.long_stages.specs.Work.{columnAt, railOf, Down, rowAt, Along, Given}
+use Rattle.long_stages.specs.Work.{columnAt, railOf, Down, rowAt, Along, GivenLong}
 use Rattle.long_stages.proofs.Whole.{wide, low, columns-given, rails-read, rows-given, block-read}
 use Rattle.long_stages.proofs.stages.stages.Statement.{statement}
 use Rattle.long_stages.proofs.stages.stages.Tie as tie
 
-given : (s : tie.Start) → Given (s .args .extended) (s .args .shape) (s .args .rows) (s .args .columns) (s .args .c .now) (s .args .out .now)
+given : (s : tie.Start) → GivenLong (s .args .extended) (s .args .shape) (s .args .rows) (s .args .columns) (s .args .c .now) (s .args .out .now)
 given s = s .pre
 
 -- the middle values have room

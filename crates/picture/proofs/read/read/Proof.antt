@@ -8,16 +8,16 @@ use borrow.Author.Tests.{not-true, not-false, eq-eqb, ne-eqb}
 use lib.ListN.{length, take, drop, length-drop}
 use lib.Seq.{take-length}
 use denote.Ref.{now}
-use Rattle.picture_header.specs.declared.Found.{Found}
+use Rattle.picture_header.specs.declared.FoundHeader.{FoundHeader}
 use Rattle.picture_header.specs.Header.{isPicture}
 use Rattle.picture_header.proofs.Tests.{sides}
 use Rattle.picture_header.proofs.Reading.{start-in}
-use Rattle.picture.proofs.Lengths.{area}
+use Rattle.picture.proofs.Lengths.{elements}
 use borrow.Author.Needs.{needs}
 use Rattle.picture.proofs.read.read.Statement.{statement}
 use Rattle.picture.proofs.read.read.Tie as tie
 
-abbrev count : Found → ℕ
+abbrev count : FoundHeader → ℕ
 count f = f .header .width * f .header .height
 
 abbrev file : tie.After-header-of → List ℕ
@@ -34,7 +34,7 @@ pictured : (c : tie.Else1) → isPicture (found c .header-of .result .header) �
 pictured c = sym (c .before .is-picture .ensures) ∙ not-false _ (c .if1 .left)
 
 few : (c : tie.Else1) → count (found c .header-of .result) ≤ 1024
-few c = let d = sides (found c .header-of .result .header) (pictured c) in area _ _ (d .0) (d .1) .1
+few c = let d = sides (found c .header-of .result .header) (pictured c) in elements _ _ (d .0) (d .1) .1
 
 -- 25, and past it
 abbrev behind : tie.After-header-of → List ℕ

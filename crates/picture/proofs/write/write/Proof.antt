@@ -11,7 +11,7 @@ use Rattle.meaning.specs.Shape.{isSize}
 use Rattle.block_text.proofs.Writing.{andThen}
 use Rattle.picture_samples.specs.Samples.{anyBeyond}
 use Rattle.picture.specs.Picture.{pictureOf}
-use Rattle.picture.proofs.Lengths.{area, header-length, picture-parts, at-start}
+use Rattle.picture.proofs.Lengths.{elements, header-length, picture-parts, at-start}
 use borrow.Author.Needs.{needs}
 use Rattle.picture.proofs.write.write.Statement.{statement}
 use Rattle.picture.proofs.write.write.Tie as tie
@@ -36,7 +36,7 @@ high : (c : tie.Else2) → isSize (start2 c .args .height) ≡ true
 high c = sym (c .before .is-size2 .ensures) ∙ not-false _ (c .if2 .left)
 
 count-in : (c : tie.Else2) → let a = start2 c .args in (16 ≤ a .width * a .height) × (a .width * a .height ≤ 1024)
-count-in c = area (start2 c .args .width) (start2 c .args .height) (wide (c .before .before)) (high c)
+count-in c = elements (start2 c .args .width) (start2 c .args .height) (wide (c .before .before)) (high c)
 
 long : (c : tie.Else3) → let a = start3 c .args in length (now (a .residuals)) ≡ a .width * a .height
 long c = c .if3 .left

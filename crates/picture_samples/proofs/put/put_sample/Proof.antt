@@ -2,7 +2,7 @@
 use mathlib.Core.Path.{ap, _∙_}
 use mir.Syntax.{w32}
 use mir.ValLaws.{toZ-ofZ}
-use Rattle.picture_samples.specs.Samples.{level, samples}
+use Rattle.picture_samples.specs.Samples.{sampleOf, samples}
 use mathlib.Core.List.{[], _∷_}
 use Prim.Native.Nat.{ℕ, _/_, _%_}
 use Rattle.block_text.proofs.Writing.{andThen, retext}
@@ -10,8 +10,8 @@ use borrow.Author.Needs.{needs}
 use Rattle.picture_samples.proofs.put.put_sample.Statement.{statement}
 use Rattle.picture_samples.proofs.put.put_sample.Tie as tie
 
-level-requires : tie.Need-level-requires
-level-requires c κs = search needs
+sample-of-requires : tie.Need-sample-of-requires
+sample-of-requires c κs = search needs
 
 cast-put : tie.Need-cast-put
 cast-put c = search needs
@@ -32,9 +32,9 @@ returns : tie.Need-returns
 unfolding samples
 returns c =
     let s = c .before .before .before .before .before .before .before .before .before .before in
-    retext (ap (λ (n : ℕ). n / 256 ∷ n % 256 ∷ []) (c .before .before .before .before .before .before .before .before .level .ensures .0 ∙ ap level (toZ-ofZ w32 (s .args .z) (s .fits .z)))) (andThen (c .before .before .before .before .before .before .put .ensures) (c .before .before .put2 .ensures))
+    retext (ap (λ (n : ℕ). n / 256 ∷ n % 256 ∷ []) (c .before .before .before .before .before .before .before .before .sample-of .ensures .0 ∙ ap sampleOf (toZ-ofZ w32 (s .args .z) (s .fits .z)))) (andThen (c .before .before .before .before .before .before .put .ensures) (c .before .before .put2 .ensures))
 
 pub put-sample-spec : {M : Type 1} → statement M
 put-sample-spec =
     tie.close
-    (tie.spec level-requires cast-put put-requires cast-put-2 put-requires-2 same-length returns)
+    (tie.spec sample-of-requires cast-put put-requires cast-put-2 put-requires-2 same-length returns)

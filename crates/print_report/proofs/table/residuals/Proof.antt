@@ -6,17 +6,17 @@ use borrow.Author.Needs.{needs}
 use Rattle.print_report.proofs.table.residuals.Statement.{statement}
 use Rattle.print_report.proofs.table.residuals.Tie as tie
 
-area : (c : tie.Else1) → c .before .args .width * c .before .args .height ≤ 32 * 32
-area c = mul-le-mul (c .before .pre .0) (c .before .pre .1)
+elements : (c : tie.Else1) → c .before .args .width * c .before .args .height ≤ 32 * 32
+elements c = mul-le-mul (c .before .pre .0) (c .before .pre .1)
 
 all : (c : tie.Else1) → c .before .args .blocks * (c .before .args .width * c .before .args .height) ≤ 65536 * (32 * 32)
-all c = let b : c .before .args .blocks ≤ 65536 = omega (arith, c .if1 .left) in mul-le-mul b (area c)
+all c = let b : c .before .args .blocks ≤ 65536 = omega (arith, c .if1 .left) in mul-le-mul b (elements c)
 
 returns : tie.Need-returns
 returns c = search needs
 
 mul-result : tie.Need-mul-result
-mul-result c = record { fits = omega (arith, area c) }
+mul-result c = record { fits = omega (arith, elements c) }
 
 mul-result-2 : tie.Need-mul-result-2
 mul-result-2 c = record { fits = omega (arith, all c) }

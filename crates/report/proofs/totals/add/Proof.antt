@@ -11,13 +11,13 @@ use Rattle.report.proofs.totals.add.Tie as tie
 element-copy-out-if1 : tie.Need-element-copy-out-if1
 element-copy-out-if1 c = search needs
 
-refusal-requires : tie.Need-refusal-requires
-refusal-requires c κs = search needs
+refused-requires : tie.Need-refused-requires
+refused-requires c κs = search needs
 
 returns : tie.Need-returns
 returns c =
     let s = c .before .before .before in
-    (λ i. (c .refusal .ensures i, now (s .args .totals)))
+    (λ i. (c .refused .ensures i, now (s .args .totals)))
     ∙ sym (add-limit (now (s .args .totals)) (s .args .shape) (now (s .args .residuals)) (omega (arith, c .before .if1 .taken)))
 
 tally-requires : tie.Need-tally-requires
@@ -35,4 +35,4 @@ returns-2 c =
 
 pub add-spec : {M : Type 1} → statement M
 add-spec =
-    tie.close (tie.spec element-copy-out-if1 refusal-requires returns tally-requires count-requires returns-2)
+    tie.close (tie.spec element-copy-out-if1 refused-requires returns tally-requires count-requires returns-2)

@@ -5,8 +5,8 @@ use borrow.Author.Needs.{needs}
 use Rattle.salvage.proofs.search.piece_at.Statement.{statement}
 use Rattle.salvage.proofs.search.piece_at.Tie as tie
 
-step-requires : tie.Need-step-requires
-step-requires c κs = search needs
+advance-requires : tie.Need-advance-requires
+advance-requires c κs = search needs
 
 onward-requires : tie.Need-onward-requires
 onward-requires c κs = search needs
@@ -16,9 +16,9 @@ sub-t7 c = search needs
 
 returns : tie.Need-returns
 returns c =
-    let s = c .before .before .before .step in
+    let s = c .before .before .before .advance in
     let o = c .before .before .onward in
     (λ i. record { offset = c .before .before .before .before .before .args .cursor .at; bytes = o .ensures .0 i .at - c .before .before .before .before .before .args .cursor .at; kept = eqb (s .ensures i .number) 0 }, o .ensures)
 
 pub piece-at-spec : {M : Type 1} → statement M
-piece-at-spec = tie.close (tie.spec step-requires onward-requires sub-t7 returns)
+piece-at-spec = tie.close (tie.spec advance-requires onward-requires sub-t7 returns)

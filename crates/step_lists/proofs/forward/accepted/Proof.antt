@@ -5,7 +5,7 @@ use mathlib.Core.Bool.{true}
 use Prim.Native.Nat.{ℕ}
 use lib.ListN.{length}
 use Rattle.steps.specs.Lists.{list4, list16, list32}
-use Rattle.steps.proofs.Computed.{right4, right16, right32, products4, products16, products32}
+use Rattle.steps.proofs.Computed.{right4, right16, right32, multiplying4, multiplying16, multiplying32}
 use Rattle.step_lists.specs.Listed.{isListed, stepLine}
 use Rattle.step_lists.proofs.ByList.{by-list, is-third, passed}
 use Rattle.step_lists.proofs.forward.accepted.Statement.{statement}
@@ -44,7 +44,7 @@ returns c =
     let named = c .before .before .before .before .before .outs-4 in
     let e : 4 ≡ s .args .n = sym (c .before .before .before .before .before .before .before .if1 .taken) in
     c .before .run .ensures
-    ∙ by-list 4 (stored .result) (named .result) (stored .ensures) (named .ensures) right4 products4 (s .args .x .now) (s .args .y .now) (p .1 .0 ∙ sym e) (p .1 .1 ∙ sym e) (c .before .before .before .before .before .before .before .before .sixteen .ensures)
+    ∙ by-list 4 (stored .result) (named .result) (stored .ensures) (named .ensures) right4 multiplying4 (s .args .x .now) (s .args .y .now) (p .1 .0 ∙ sym e) (p .1 .1 ∙ sym e) (c .before .before .before .before .before .before .before .before .sixteen .ensures)
     ∙ ap (λ (n : ℕ). stepLine n (s .args .x .now)) e
 
 steps-16-requires : tie.Need-steps-16-requires
@@ -74,7 +74,7 @@ returns-2 c =
     let named = c .before .before .before .before .before .outs-16 in
     let e : 16 ≡ s .args .n = sym (c .before .before .before .before .before .before .before .if2 .taken) in
     c .before .run2 .ensures
-    ∙ by-list 16 (stored .result) (named .result) (stored .ensures) (named .ensures) right16 products16 (s .args .x .now) (s .args .y .now) (p .1 .0 ∙ sym e) (p .1 .1 ∙ sym e) (c .before .before .before .before .before .before .before .before .before .sixteen .ensures)
+    ∙ by-list 16 (stored .result) (named .result) (stored .ensures) (named .ensures) right16 multiplying16 (s .args .x .now) (s .args .y .now) (p .1 .0 ∙ sym e) (p .1 .1 ∙ sym e) (c .before .before .before .before .before .before .before .before .before .sixteen .ensures)
     ∙ ap (λ (n : ℕ). stepLine n (s .args .x .now)) e
 
 steps-32-requires : tie.Need-steps-32-requires
@@ -104,7 +104,7 @@ returns-3 c =
     let named = c .before .before .before .before .before .outs-32 in
     let e : 32 ≡ s .args .n = sym (is-third (s .args .n) (p .0) (c .before .before .before .before .before .before .before .before .if1 .left) (c .before .before .before .before .before .before .before .if2 .left)) in
     c .before .run3 .ensures
-    ∙ by-list 32 (stored .result) (named .result) (stored .ensures) (named .ensures) right32 products32 (s .args .x .now) (s .args .y .now) (p .1 .0 ∙ sym e) (p .1 .1 ∙ sym e) (c .before .before .before .before .before .before .before .before .before .sixteen .ensures)
+    ∙ by-list 32 (stored .result) (named .result) (stored .ensures) (named .ensures) right32 multiplying32 (s .args .x .now) (s .args .y .now) (p .1 .0 ∙ sym e) (p .1 .1 ∙ sym e) (c .before .before .before .before .before .before .before .before .before .sixteen .ensures)
     ∙ ap (λ (n : ℕ). stepLine n (s .args .x .now)) e
 
 pub accepted-spec : {M : Type 1} → statement M

@@ -1,7 +1,7 @@
 -- `run::accepted`: the inputs, the steps, then the output cells. Assumes nothing.
 use borrow.Author.Needs.{needs}
 use mathlib.Core.Path.{_≡_, ap, _∙_}
-use Rattle.steps.specs.Steps.{run, start}
+use Rattle.steps.specs.Steps.{run, firstState}
 use Rattle.steps.specs.Numbers.{decode}
 use Rattle.steps.specs.Outcome.{wholeNumbers}
 use Rattle.step_run.specs.Parts.{state, tell}
@@ -29,7 +29,7 @@ follow-requires c κs = search needs
 
 -- the steps were followed from the cells that a run starts from
 followed : (c : tie.After-follow) → let s = c .before .before .before .before .before .before .before .before .args in
-    tell (c .follow .result .number) (state (c .follow .last .1 .1 .0) (c .follow .last .1 .1 .1 .0) (c .follow .result .count)) ≡ run wholeNumbers (s .n) (decode (s .steps .now)) (start wholeNumbers (s .x .now))
+    tell (c .follow .result .number) (state (c .follow .last .1 .1 .0) (c .follow .last .1 .1 .1 .0) (c .follow .result .count)) ≡ run wholeNumbers (s .n) (decode (s .steps .now)) (firstState wholeNumbers (s .x .now))
 followed c =
     let s = c .before .before .before .before .before .before .before .before .args in
     let l = c .before .before .before .before .before .load in

@@ -7,7 +7,7 @@ use Prim.Native.Nat.{_/_}
 use native.Mathlib.Omega.{arith}
 use Rattle.algebra.specs.Refusals.{Refusal, numberOf}
 use Rattle.algebra.proofs.Refusals.{refused-first, passed-first}
-use Rattle.steps.specs.Steps.{StepList, whole}
+use Rattle.steps.specs.Steps.{StepList, wholeRun}
 use Rattle.steps.specs.Numbers.{listOf}
 use Rattle.steps.specs.Outcome.{Result, untouched, listTests, given, wholeNumbers, stepsOutcome}
 use Rattle.step_run.proofs.Ends.{tests-are, passed}
@@ -21,7 +21,7 @@ abbrev tests : tie.Start → List Refusal
 tests s = listTests (length (list s .steps)) (s .args .cells) (s .args .inputs) (length (list s .outs)) (length (s .args .x .now)) (length (s .args .y .now))
 
 abbrev done : tie.Start → Result
-done s = given (s .args .y .now) (whole wholeNumbers (list s) (s .args .x .now))
+done s = given (s .args .y .now) (wholeRun wholeNumbers (list s) (s .args .x .now))
 
 refusal-requires : tie.Need-refusal-requires
 refusal-requires c κs = search needs

@@ -4,7 +4,7 @@ use Rattle.step_run.proofs.Laws.{three, step-parts}
 use Rattle.steps.specs.Numbers.{cellOf, stepFrom}
 use Rattle.step_run.specs.Parts.{readsTwo, combined, state}
 use Rattle.steps.specs.Outcome.{fits32}
-use Rattle.steps.specs.Steps.{ran, refused, muls}
+use Rattle.steps.specs.Steps.{ran, refused, multiplies}
 use Rattle.algebra.specs.Lists.{at}
 use lib.ListN.{set, getD}
 use lib.Dec.{ltb}
@@ -75,8 +75,8 @@ returns c =
     ap (λ m. getD (s .written .now) (s .a) false && getD (s .written .now) m false) (sym m) ∙ sym (c .before .before .before .before .before .before .before .before .before .before .before .known .ensures) ∙ c .before .before .before .before .before .before .before .before .before .before .if2 .taken in
     let y = toZ-ofZ w32 (c .before .before .before .before .before .before .before .before .operand .result) (search needs) ∙ c .before .before .before .before .before .before .before .before .operand .ensures ∙ (λ i. cond (two-is (c .before .before .before .before .before .before .before .before .before .before .before .before .before .before .before .before) i) (at (s .values .now) (m i)) (toZ-ofZ w32 (s .d) (q .fits .d) i)) in
     let z = toZ-ofZ w64 (c .before .before .before .before .before .before .combine .result) (search needs) ∙ c .before .before .before .before .before .before .combine .ensures ∙ (λ i. combined (toZ-ofZ w32 (s .o) (q .fits .o) i) (toZ-ofZ w32 (at (s .values .now) (s .a)) (record { sfits = c .before .before .before .before .before .before .before .combine-arg .given }) i) (y i)) in
-    λ k. c .before .before .before .store .ensures (k + muls (stepFrom (s .o) (s .t) (s .a) (s .d)))
-    ∙ (λ i. cond (fits32 (z i)) (ran (state (set (s .values .now) (s .t) (z i)) (set (s .written .now) (s .t) true) (k + muls (stepFrom (s .o) (s .t) (s .a) (s .d))))) (refused 29))
+    λ k. c .before .before .before .store .ensures (k + multiplies (stepFrom (s .o) (s .t) (s .a) (s .d)))
+    ∙ (λ i. cond (fits32 (z i)) (ran (state (set (s .values .now) (s .t) (z i)) (set (s .written .now) (s .t) true) (k + multiplies (stepFrom (s .o) (s .t) (s .a) (s .d))))) (refused 29))
     ∙ sym (step-parts (s .o) (s .t) (s .a) (s .d) (s .n) (s .values .now) (s .written .now) k ∙ rw (e, f))
 
 same-length-3 : tie.Need-same-length-3

@@ -48,14 +48,14 @@ returns c =
     let s = start (c .before) in
     told (c .before) ∙ sym (refused-first (areas s) (λ number place. number) 0 (thinShapeTests (s .args .shape)) tt (λ e. c .if1 .taken (told (c .before) ∙ e)))
 
-cast-area : tie.Need-cast-area
-cast-area c = search needs
+cast-elements : tie.Need-cast-elements
+cast-elements c = search needs
 
-cast-area-2 : tie.Need-cast-area-2
-cast-area-2 c = search needs
+cast-elements-2 : tie.Need-cast-elements-2
+cast-elements-2 c = search needs
 
-mul-area : tie.Need-mul-area
-mul-area c =
+mul-elements : tie.Need-mul-elements
+mul-elements c =
     let s = start (c .before .before .before) in
     let w : s .args .shape .width ≤ 4294967295 = search needs in
     let h : s .args .shape .height ≤ 4294967295 = search needs in
@@ -76,8 +76,8 @@ thin-refusal-spec =
     is-depth-requires
     refusal-by-requires
     returns
-    cast-area
-    cast-area-2
-    mul-area
+    cast-elements
+    cast-elements-2
+    mul-elements
     area-refusal-requires
     returns-2)

@@ -1,18 +1,15 @@
--- `residuals` meets its contract: the line, which nothing refuses, and then the rounding. Assumes nothing.
+-- `residuals` meets its contract: the line, and then the rounding. Assumes nothing.
 use borrow.Author.Needs.{needs}
 use native.Mathlib.Omega.{arith}
 use mathlib.Core.Path.{_≡_, ap, _∙_}
 use mathlib.Core.List.{List}
 use Prim.Native.Nat.{ℕ, _≤_}
-use borrow.Author.Tests.{eq-eqb}
 use lib.ListN.{length}
 use lib.IntN.{ℤ}
 use Rattle.algebra.specs.Lists.{at, tabulate}
 use Rattle.algebra.specs.Shift.{nearest}
 use Rattle.algebra.proofs.Lists.{tab-at, tab-length, tab-cong}
 use Rattle.meaning.specs.Line.{inverseSum, inverseLine}
-use Rattle.meaning.specs.Taken.{TakenLine}
-use Rattle.meaning.specs.Answer.{Outcome, accepted, inverseLineOutcome}
 use Rattle.meaning.proofs.Cases.{depth-cases}
 use Rattle.thin_block.specs.Thin.{thinShift}
 use Rattle.thin_block.proofs.one.residuals.Statement.{statement}
@@ -21,10 +18,6 @@ use Rattle.thin_block.proofs.one.residuals.Tie as tie
 depth : (s : tie.Start) → (8 ≤ s .args .d) × (s .args .d ≤ 12)
 depth s = depth-cases (s .args .d) (s .pre .depth)
 
--- nothing refuses the line
-done : (n kind : ℕ) (c out : List ℤ) → TakenLine n kind (length c) (length out) → inverseLineOutcome n kind c out ≡ (accepted 0, inverseLine kind n n (at c))
-done n kind c out l = rw (l .size, l .known, eq-eqb (length c) n (l .long), eq-eqb (length out) n (l .room))
-
 -- each number of it, rounded
 rounded : (n kind s : ℕ) (c l : List ℤ) → l ≡ inverseLine kind n n (at c) → tabulate (length l) (λ k. nearest s (at l k)) ≡ tabulate n (λ k. nearest s (inverseSum kind n n (at c) k))
 unfolding inverseLine
@@ -32,8 +25,8 @@ rounded n kind s c l e =
     ap (λ (m : ℕ). tabulate m (λ k. nearest s (at l k))) (ap length e ∙ tab-length n (inverseSum kind n n (at c)))
     ∙ tab-cong n _ _ (λ k h. ap (nearest s) (ap (λ (l : List ℤ). at l k) e ∙ tab-at n (inverseSum kind n n (at c)) k h))
 
-inverse-product-requires : tie.Need-inverse-product-requires
-inverse-product-requires c κs = search needs
+full-requires : tie.Need-full-requires
+full-requires c κs = c .before .pre .line
 
 sub-round-each : tie.Need-sub-round-each
 sub-round-each c = omega (arith, depth (c .before .before .before))
@@ -50,8 +43,8 @@ returns c =
     let s = I .before .before in
     let a = s .args in
     c .before .round-each .ensures
-    ∙ rounded (a .n) (a .kind) (thinShift (a .d)) (a .c .now) _ (ap (λ (o : Outcome). o .1) (I .inverse-product .ensures ∙ done (a .n) (a .kind) (a .c .now) (a .out .now) (s .pre .line)))
+    ∙ rounded (a .n) (a .kind) (thinShift (a .d)) (a .c .now) _ (I .full .ensures)
 
 pub residuals-spec : {M : Type 1} → statement M
 residuals-spec =
-    tie.close (tie.spec inverse-product-requires sub-round-each round-each-requires same-length returns)
+    tie.close (tie.spec full-requires sub-round-each round-each-requires same-length returns)

@@ -37,10 +37,10 @@ rounded-fits s z p h =
     fits-in tt (within (nearest s z) (nearest-in s z 1073741824 p (omega (arith, m))))
 
 -- the number at this place is as it was
-abbrev element : tie.After-round-last-arg Inv-loop μ-loop → MV w32
+abbrev element : tie.After-nearest-arg Inv-loop μ-loop → MV w32
 element c =
     let L = c .before .before in
-    arg {w = w32} {x = at (L .loop .out) (L .loop .k)} (record { sfits = c .round-last-arg .given })
+    arg {w = w32} {x = at (L .loop .out) (L .loop .k)} (record { sfits = c .nearest-arg .given })
 
 same : (c : tie.At-loop Inv-loop μ-loop) → at (c .loop .out) (c .loop .k) ≡ at (c .before .args .out .now) (c .loop .k)
 same c = c .loop .inv .1 .after (c .loop .k) (omega arith)
@@ -48,29 +48,29 @@ same c = c .loop .inv .1 .after (c .loop .k) (omega arith)
 loop-holds : tie.Need-loop-holds Inv-loop μ-loop
 loop-holds c = (omega arith, fill-none 0 _ _)
 
-mul-round-last : tie.Need-mul-round-last Inv-loop μ-loop
-mul-round-last c = search needs
+mul-nearest : tie.Need-mul-nearest Inv-loop μ-loop
+mul-nearest c = search needs
 
-slice-copy-out-round-last : tie.Need-slice-copy-out-round-last Inv-loop μ-loop
-slice-copy-out-round-last c = search needs
+slice-copy-out-nearest : tie.Need-slice-copy-out-nearest Inv-loop μ-loop
+slice-copy-out-nearest c = search needs
 
-cast-round-last : tie.Need-cast-round-last Inv-loop μ-loop
-cast-round-last c = cast-fits w64 (element c) tt
+cast-nearest : tie.Need-cast-nearest Inv-loop μ-loop
+cast-nearest c = cast-fits w64 (element c) tt
 
-round-last-requires : tie.Need-round-last-requires Inv-loop μ-loop
-round-last-requires c κs =
+nearest-requires : tie.Need-nearest-requires Inv-loop μ-loop
+nearest-requires c κs =
     let s = c .before .before .before in
     (subst (λ (z : ℤ). natAbs z ≤ 1000000000000000000) (sym (val (cast w64 (element c) tt))) (omega (arith, element c .is .abs)), s .pre)
 
 -- the number rounded, which fits 32 bits
-value : (c : tie.After-round-last Inv-loop μ-loop) → let L = c .before .before .before in let s = L .before .args in
-    toZ w64 (ofZ w64 (c .round-last .result)) ≡ nearest (s .s) (at (s .out .now) (L .loop .k))
+value : (c : tie.After-nearest Inv-loop μ-loop) → let L = c .before .before .before in let s = L .before .args in
+    toZ w64 (ofZ w64 (c .nearest .result)) ≡ nearest (s .s) (at (s .out .now) (L .loop .k))
 value c =
     let A = c .before in
     let L = A .before .before in
-    toZ-ofZ w64 (c .round-last .result) (search needs) ∙ c .round-last .ensures ∙ ap (nearest (L .before .args .s)) (val (cast w64 (element A) tt) ∙ same L)
+    toZ-ofZ w64 (c .nearest .result) (search needs) ∙ c .nearest .ensures ∙ ap (nearest (L .before .args .s)) (val (cast w64 (element A) tt) ∙ same L)
 
-fits : (c : tie.After-round-last Inv-loop μ-loop) → let L = c .before .before .before in let s = L .before .args in SFits w32 (nearest (s .s) (at (s .out .now) (L .loop .k)))
+fits : (c : tie.After-nearest Inv-loop μ-loop) → let L = c .before .before .before in let s = L .before .args in SFits w32 (nearest (s .s) (at (s .out .now) (L .loop .k)))
 fits c =
     let A = c .before in
     let L = A .before .before in
@@ -98,7 +98,7 @@ loop-again c =
     let L = I .before in
     let s = L .before .args in
     let z = nearest (s .s) (at (s .out .now) (L .loop .k)) in
-    let word : Is w64 (ofZ w64 (c .round-last .result)) z (natAbs z) = record { val = value c; abs = le-refl (natAbs z) } in
+    let word : Is w64 (ofZ w64 (c .nearest .result)) z (natAbs z) = record { val = value c; abs = le-refl (natAbs z) } in
     (omega (arith, long L, I .loop-test .taken), fill-first _ (omega (arith, long L, I .loop-test .taken)) (L .loop .inv .1) (castV! word (fits c) .val))
 
 same-length : tie.Need-same-length Inv-loop μ-loop
@@ -116,10 +116,10 @@ round-each-spec =
     Inv-loop
     μ-loop
     loop-holds
-    mul-round-last
-    slice-copy-out-round-last
-    cast-round-last
-    round-last-requires
+    mul-nearest
+    slice-copy-out-nearest
+    cast-nearest
+    nearest-requires
     cast-out
     mul-t11
     slice-set-from-out

@@ -13,7 +13,7 @@ use Rattle.algebra.specs.Refusals.{firstOf}
 use Rattle.meaning.specs.Plan.{Plan, rangeOf, reach, longPlan}
 use Rattle.meaning.specs.Inverse.{firstOutside, outsideTest}
 use Rattle.meaning.specs.Long.{firstBeyond, beyondTest}
-use Rattle.meaning.proofs.Accepted.{area-in, few}
+use Rattle.meaning.proofs.AcceptedCalls.{elements-in, few}
 use Rattle.meaning.proofs.KeptPart.{columns-kept, rows-kept}
 use Rattle.meaning.proofs.LongCall.{none-beyond}
 use Rattle.meaning.proofs.LongRules.{reach-in}
@@ -98,7 +98,7 @@ returns-2 c =
 mul-if3 : tie.Need-mul-if3
 mul-if3 c =
     let s = c .before .before .before .before .before .before in
-    omega (arith, area-in (s .args .shape) (s .pre .taken))
+    omega (arith, elements-in (s .args .shape) (s .pre .taken))
 
 told-requires : tie.Need-told-requires
 told-requires c κs =

@@ -14,8 +14,8 @@ use Rattle.meaning.specs.Inverse.{middle}
 use Rattle.why.proofs.arith.between.Statement.{statement}
 use Rattle.why.proofs.arith.between.Tie as tie
 
-round7-requires : tie.Need-round7-requires
-round7-requires c κs = subst (λ (z : ℤ). natAbs z ≤ 1000000000000000000) (sym (toZ-ofZ w64 (c .args .e) (c .fits .e))) (omega (arith, c .pre .0))
+rounded-requires : tie.Need-rounded-requires
+rounded-requires c κs = subst (λ (z : ℤ). natAbs z ≤ 1000000000000000000) (sym (toZ-ofZ w64 (c .args .e) (c .fits .e))) (omega (arith, c .pre .0))
 
 clipped-requires : tie.Need-clipped-requires
 clipped-requires c κs = c .before .pre .1
@@ -25,7 +25,7 @@ is c =
     let R = c .before in
     let s = R .before in
     c .clipped .ensures
-    ∙ ap (clip (rangeOf (s .args .reach))) (toZ-ofZ w64 (R .round7 .result) (search needs) ∙ R .round7 .ensures ∙ ap (nearest 7) (toZ-ofZ w64 (s .args .e) (s .fits .e)))
+    ∙ ap (clip (rangeOf (s .args .reach))) (toZ-ofZ w64 (R .rounded .result) (search needs) ∙ R .rounded .ensures ∙ ap (nearest 7) (toZ-ofZ w64 (s .args .e) (s .fits .e)))
 
 abbrev m : tie.After-clipped → MV w32
 m c = arg {w = w32} {x = c .clipped .result} (record { sfits = c .clipped .ok })
@@ -39,4 +39,4 @@ returns c =
     (val v ∙ is c, subst (λ (z : ℤ). natAbs z ≤ 2147483648) (sym (val v)) (v .is .abs))
 
 pub between-spec : {M : Type 1} → statement M
-between-spec = tie.close (tie.spec round7-requires clipped-requires cast-result returns)
+between-spec = tie.close (tie.spec rounded-requires clipped-requires cast-result returns)

@@ -34,21 +34,21 @@ cast-result c = search needs
 shl-result : tie.Need-shl-result
 shl-result c = search needs
 
-round-last-requires : tie.Need-round-last-requires
-round-last-requires c κs =
+nearest-requires : tie.Need-nearest-requires
+nearest-requires c κs =
     (subst (λ (z : ℤ). natAbs z ≤ 1000000000000000000) (sym (toZ-ofZ w64 (c .args .r) (c .fits .r))) (omega (arith, c .pre .0)), (c .pre .1 .0, omega (arith, c .pre .1 .1)))
 
-is : (c : tie.After-round-last) → let s = c .before in c .round-last .result ≡ nearest (s .args .s) (s .args .r)
-is c = let s = c .before in c .round-last .ensures ∙ ap (nearest (s .args .s)) (toZ-ofZ w64 (s .args .r) (s .fits .r))
+is : (c : tie.After-nearest) → let s = c .before in c .nearest .result ≡ nearest (s .args .s) (s .args .r)
+is c = let s = c .before in c .nearest .ensures ∙ ap (nearest (s .args .s)) (toZ-ofZ w64 (s .args .r) (s .fits .r))
 
 -- the residual is no larger than the row sum
 small : (c : tie.Start) → natAbs (nearest (c .args .s) (c .args .r)) ≤ 2147483648
 small c = nearest-in (c .args .s) (c .args .r) 2147483648 (c .pre .1 .0) (omega (arith, c .pre .0, mul-le-mul-right 2147483648 (pow-pos (c .args .s))))
 
-abbrev z : tie.After-round-last → MV w64
-z c = arg≤ {w = w64} {x = c .round-last .result} (record { sfits = c .round-last .ok }) (subst (λ (z : ℤ). natAbs z ≤ 2147483648) (sym (is c)) (small (c .before)))
+abbrev z : tie.After-nearest → MV w64
+z c = arg≤ {w = w64} {x = c .nearest .result} (record { sfits = c .nearest .ok }) (subst (λ (z : ℤ). natAbs z ≤ 2147483648) (sym (is c)) (small (c .before)))
 
-abbrev r : tie.After-round-last → MV w64
+abbrev r : tie.After-nearest → MV w64
 r c = arg≤ (c .before .fits .r) (c .before .pre .0)
 
 mul-result : tie.Need-mul-result
@@ -71,7 +71,7 @@ last-rounding-spec =
     (tie.spec
     cast-result
     shl-result
-    round-last-requires
+    nearest-requires
     mul-result
     sub-result
     mul-result-2

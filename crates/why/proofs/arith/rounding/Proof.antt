@@ -12,16 +12,16 @@ use Rattle.why.proofs.Rounded.{rounded-in}
 use Rattle.why.proofs.arith.rounding.Statement.{statement}
 use Rattle.why.proofs.arith.rounding.Tie as tie
 
-round7-requires : tie.Need-round7-requires
-round7-requires c κs = subst (λ (z : ℤ). natAbs z ≤ 1000000000000000000) (sym (toZ-ofZ w64 (c .args .e) (c .fits .e))) (omega (arith, c .pre))
+rounded-requires : tie.Need-rounded-requires
+rounded-requires c κs = subst (λ (z : ℤ). natAbs z ≤ 1000000000000000000) (sym (toZ-ofZ w64 (c .args .e) (c .fits .e))) (omega (arith, c .pre))
 
-is : (c : tie.After-round7) → c .round7 .result ≡ rounded (c .before .args .e)
-is c = c .round7 .ensures ∙ ap (nearest 7) (toZ-ofZ w64 (c .before .args .e) (c .before .fits .e))
+is : (c : tie.After-rounded) → c .rounded .result ≡ rounded (c .before .args .e)
+is c = c .rounded .ensures ∙ ap (nearest 7) (toZ-ofZ w64 (c .before .args .e) (c .before .fits .e))
 
-abbrev r : tie.After-round7 → MV w64
-r c = arg≤ {w = w64} {x = c .round7 .result} (record { sfits = c .round7 .ok }) (subst (λ (z : ℤ). natAbs z ≤ 16777216) (sym (is c)) (rounded-in (c .before .args .e) (c .before .pre)))
+abbrev r : tie.After-rounded → MV w64
+r c = arg≤ {w = w64} {x = c .rounded .result} (record { sfits = c .rounded .ok }) (subst (λ (z : ℤ). natAbs z ≤ 16777216) (sym (is c)) (rounded-in (c .before .args .e) (c .before .pre)))
 
-abbrev e : tie.After-round7 → MV w64
+abbrev e : tie.After-rounded → MV w64
 e c = arg≤ (c .before .fits .e) (c .before .pre)
 
 mul-result : tie.Need-mul-result
@@ -33,8 +33,8 @@ sub-result c = sub-fits (mul (lit w64 128) (r c) tt) (e c) tt
 returns : tie.Need-returns
 returns c =
     let m = sub (mul (lit w64 128) (r c) tt) (e c) tt in
-    let q : natAbs (pos 128 *ℤ c .round7 .result -ℤ c .before .args .e) ≤ 4294967296 = m .is .abs in
+    let q : natAbs (pos 128 *ℤ c .rounded .result -ℤ c .before .args .e) ≤ 4294967296 = m .is .abs in
     (val m ∙ ap (λ (z : ℤ). pos 128 *ℤ z -ℤ c .before .args .e) (is c), subst (λ (z : ℤ). natAbs z ≤ 549755813888) (sym (val m)) (omega arith))
 
 pub rounding-spec : {M : Type 1} → statement M
-rounding-spec = tie.close (tie.spec round7-requires mul-result sub-result returns)
+rounding-spec = tie.close (tie.spec rounded-requires mul-result sub-result returns)

@@ -59,18 +59,18 @@ line-taken n kind input output e = taken-of (no-number (lineTests n kind input o
 -- ---- blocks
 -- none has more than 1,024 numbers
 module _ {deep : Bool} (sh : Shape) where
-  pub area-in : TakenBy (isSize (sh .width)) (isSize (sh .height)) deep sh → sh .width * sh .height ≤ 1024
-  area-in t = mul-le-mul (size-in (sh .width) (t .width)) (size-in (sh .height) (t .height))
+  pub elements-in : TakenBy (isSize (sh .width)) (isSize (sh .height)) deep sh → sh .width * sh .height ≤ 1024
+  elements-in t = mul-le-mul (size-in (sh .width) (t .width)) (size-in (sh .height) (t .height))
 
   pub few : {input output : List ℤ} → TakenBlockBy deep sh input output → length input ≤ 1024
-  few t = omega (arith, t .long, area-in (t .taken))
+  few t = omega (arith, t .long, elements-in (t .taken))
 
 module _ (sh : Shape) (input output : List ℤ) where
-  abbrev area : ℕ
-  area = sh .width * sh .height
+  abbrev elements : ℕ
+  elements = sh .width * sh .height
 
   abbrev lengths : List Refusal
-  lengths = lengthTests area (length input) (length output)
+  lengths = lengthTests elements (length input) (length output)
 
   -- 1 to 5, 20, 6 and 7, and then more
   module _ (extended : Bool) where
@@ -78,7 +78,7 @@ module _ (sh : Shape) (input output : List ℤ) where
     block-clear ts c =
         let first = clear-split (longShapeTests extended sh) (lengths ++ ts) c in
         let then = clear-split lengths ts (first .1) in
-        let both = lengths-clear area (length input) (length output) (then .0) in
+        let both = lengths-clear elements (length input) (length output) (then .0) in
         (record { taken = shape-clear (isSize (sh .width)) (isSize (sh .height)) (isLongDepth extended (sh .depth)) sh (first .0); long = both .0; room = both .1 }, then .1)
 
     pub long-block-taken : numberOf (longShapeTests extended sh ++ lengths) ≡ 0 → TakenLongBlock extended sh input output
@@ -108,7 +108,7 @@ module _ (sh : Shape) (input output : List ℤ) where
       → inverseOutcome sh input output ≡ (accepted (rails (planOf sh) input), inverseBlock (planOf sh) input)
   inverse-done (a, e) =
       let s = a .taken in
-      rw (s .width, s .height, s .horizontal, s .vertical, s .depth, s .kept, eq-eqb (length input) area (a .long), eq-eqb (length output) area (a .room), e)
+      rw (s .width, s .height, s .horizontal, s .vertical, s .depth, s .kept, eq-eqb (length input) elements (a .long), eq-eqb (length output) elements (a .room), e)
 
 -- ---- 7 never applies to an output that is as long as it has to be wherever the tests before 7 pass
 module _ {A : Type 0} (refused : ℕ → ℕ → A) (done : A) (wide high deep : Bool) (sh : Shape) (n input output : ℕ) (same : TakenBy wide high deep sh → input ≡ n → output ≡ n) where

@@ -1,11 +1,11 @@
--- `hunt::hunt` meets its contract. Assumes nothing.
+-- `hunt::first_outside` meets its contract. Assumes nothing.
 use borrow.Author.Needs.{needs}
 use native.Mathlib.Omega.{arith}
 use mathlib.Core.Path.{sym}
 use Rattle.meaning.specs.Plan.{planOf}
 use Rattle.layout.proofs.Inside.{none-outside}
-use Rattle.inverse_hunt.proofs.hunt.hunt.Statement.{statement}
-use Rattle.inverse_hunt.proofs.hunt.hunt.Tie as tie
+use Rattle.inverse_hunt.proofs.hunt.first_outside.Statement.{statement}
+use Rattle.inverse_hunt.proofs.hunt.first_outside.Tie as tie
 
 kept-rows-requires : tie.Need-kept-rows-requires
 kept-rows-requires c κs = search needs
@@ -31,7 +31,7 @@ returns-3 c =
     sym (none-outside (planOf (s .args .shape)) (s .args .c .now) (s .pre .0 .0) (s .pre .1)
     (omega (arith, c .before .kept-columns .ensures, c .if2 .left)) (omega (arith, c .before .before .before .kept-rows .ensures, c .before .before .if1 .left)))
 
-pub hunt-spec : {M : Type 1} → statement M
-hunt-spec =
+pub first-outside-spec : {M : Type 1} → statement M
+first-outside-spec =
     tie.close
     (tie.spec kept-rows-requires searched-requires returns kept-columns-requires searched-requires-2 returns-2 returns-3)

@@ -1,4 +1,4 @@
--- `round_last` meets its contract. Assumes nothing.
+-- `nearest` meets its contract. Assumes nothing.
 use borrow.Author.Needs.{needs}
 use mathlib.Core.Path.{_≡_, ap, _∙_}
 use Prim.Native.Nat.{_*_, _-_, _%_, _^_, _≤_}
@@ -10,8 +10,8 @@ use mir.Syntax.{w64}
 use mir.Val.{toZ}
 use mir.ValLaws.{toZ-ofZ}
 use Rattle.algebra.proofs.Machine.{MV, arg≤, add, shr, add-fits, val}
-use Rattle.long_stages.proofs.arith.round_last.Statement.{statement}
-use Rattle.long_stages.proofs.arith.round_last.Tie as tie
+use Rattle.long_stages.proofs.arith.nearest.Statement.{statement}
+use Rattle.long_stages.proofs.arith.nearest.Tie as tie
 
 -- 2^(s-1), at most 2^31
 half : (c : tie.Start) → 2 ^ (c .args .s - 1) ≤ 2147483648
@@ -47,7 +47,7 @@ shr-result c = search needs
 returns : tie.Need-returns
 returns c = val (shr (add (arg≤ (c .fits .z) (c .pre .0)) (added c) tt) (2 ^ c .args .s) tt)
 
-pub round-last-spec : {M : Type 1} → statement M
-round-last-spec =
+pub nearest-spec : {M : Type 1} → statement M
+nearest-spec =
     tie.close
     (tie.spec sub-result cast-result shl-result add-result cast-result-2 shr-result returns)

@@ -1,11 +1,11 @@
--- `level` meets its contract. Assumes nothing.
+-- `sample_of` meets its contract. Assumes nothing.
 use mathlib.Core.Path.{refl}
 use mir.Syntax.{w32}
 use Rattle.algebra.proofs.Machine.{MV, arg≤, lit, add, add-fits, val}
-use Rattle.picture_samples.proofs.Levels.{inside}
+use Rattle.picture_samples.proofs.SampleSizes.{inside}
 use native.Mathlib.Omega.{arith}
-use Rattle.picture_samples.proofs.put.level.Statement.{statement}
-use Rattle.picture_samples.proofs.put.level.Tie as tie
+use Rattle.picture_samples.proofs.put.sample_of.Statement.{statement}
+use Rattle.picture_samples.proofs.put.sample_of.Tie as tie
 
 abbrev z : tie.Start → MV w32
 z c = arg≤ (c .fits .z) (inside (c .args .z) (c .pre) .size)
@@ -22,5 +22,5 @@ cast-result c = let i = inside (c .args .z) (c .pre) in rw (val (sum c)) (i .who
 returns : tie.Need-returns
 returns c = let i = inside (c .args .z) (c .pre) in rw (val (sum c)) (refl, i .low)
 
-pub level-spec : {M : Type 1} → statement M
-level-spec = tie.close (tie.spec add-result cast-result returns)
+pub sample-of-spec : {M : Type 1} → statement M
+sample-of-spec = tie.close (tie.spec add-result cast-result returns)

@@ -12,12 +12,12 @@ use Rattle.algebra.proofs.Order.{subℕ-cases}
 use Rattle.meaning.specs.Plan.{shortRange}
 use Rattle.meaning.specs.Long.{beyond}
 use Rattle.meaning.proofs.Cases.{neither}
-use Rattle.picture_samples.specs.Samples.{level, residualOf}
+use Rattle.picture_samples.specs.Samples.{sampleOf, residualOf}
 
 pub record Inside (z : ℤ) : Type 0 where
   pub size : natAbs z ≤ 32768
   pub whole : T (nonNeg (z +ℤ pos 32768))
-  pub low : level z < 65536
+  pub low : sampleOf z < 65536
 
 pub inside : (z : ℤ) → beyond shortRange z ≡ false → Inside z
 unfolding shortRange
@@ -32,9 +32,9 @@ inside (negsuc n) e =
       low = subℕ-cases 32768 (suc n) (λ z. natAbs z < 65536) (λ l. absurd (omega arith)) (λ l. omega arith);
     }
 
-pub sample-back : (z : ℤ) → beyond shortRange z ≡ false → residualOf (level z / 256 * 256 + level z % 256) ≡ z
+pub sample-back : (z : ℤ) → beyond shortRange z ≡ false → residualOf (sampleOf z / 256 * 256 + sampleOf z % 256) ≡ z
 unfolding residualOf
 sample-back z e =
-    ap (λ (n : ℕ). pos n -ℤ pos 32768) (div-add-mod' (level z) 256)
+    ap (λ (n : ℕ). pos n -ℤ pos 32768) (div-add-mod' (sampleOf z) 256)
     ∙ ap (λ (y : ℤ). y -ℤ pos 32768) (pos-natAbs (z +ℤ pos 32768) (inside z e .whole))
     ∙ +ℤ-negℤ-cancel z (pos 32768)
