@@ -4,7 +4,7 @@
 --                        the row
 --   near-unaltered:      the same, where the clip altered nothing in the block
 --   near-block:          the same of every number of the block, where its rail count is 0
--- and over an accepted call, in the words of the scope, s being 20 − d:
+-- and over an accepted call, in the words of document 01, s being 20 − d:
 --   demand3:             of an accepted call with rail count 0, for every residual of the block that it hands back:
 --                        |2^(27−d) · residual − exact| ≤ 64 · (A + 2^(20−d))
 --   demand3-unaltered:   the same of an accepted call in which the clip altered nothing
