@@ -4,6 +4,7 @@ import re
 import shutil
 import subprocess
 import sys
+from pathlib import Path
 
 # Where pmullw and pmulhw make the two halves of eight products, both come up, so each counts as four.
 LANES = {"pmullw": 4, "pmulhw": 4, "pmulhuw": 4, "pmaddwd": 8, "pmuludq": 2, "pmulld": 4}
@@ -16,6 +17,25 @@ def listing(program, *words):
         if ran.returncode == 0:
             return ran.stdout.splitlines()
     sys.exit("bench: there is no objdump here that reads " + program)
+
+
+def archive_of(words):
+    """The archive that the words begin with, or the repository's own; and the other words."""
+    if words and Path(words[0]).is_file():
+        return words[0], words[1:]
+    return "target/staticlib/libhoengtila.a", words
+
+
+def functions(archive, *words):
+    """Name to the lines of its code."""
+    found, name = {}, None
+    for line in listing(archive, *words):
+        if head := re.match(r"[0-9a-f]+ <(.*)>:$", line):
+            name = head[1]
+            found[name] = []
+        elif name:
+            found[name].append(line)
+    return found
 
 
 def disassembled(program):
