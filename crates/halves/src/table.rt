@@ -1,5 +1,5 @@
-// The odd halves of kind 0: the first half of the odd rows of 8, 16 and 32 points, two rows zipped, as the product by pairs reads
-// them. Their rule is one computed test each (proofs/Stored).
+// Made by crates/tables/make; do not edit. The odd halves of kind 0: the first half of the odd rows of 8, 16 and 32 points, two rows
+// zipped, as the product by pairs reads them. Their rule is one computed test each (proofs/Stored).
 ghost use Rattle.halves.specs.Halves.{odd};
 ghost use Rattle.halves.specs.Lines.{Half};
 
