@@ -1,4 +1,4 @@
-// The weights as data. weights has those of DST-VII, whole and row by row; zipped has those of every kind in the order in which
+// The weights as data. Those of DST-VII are in weights, whole and row by row; zipped has those of every kind in the order in which
 // lines read them, and stage puts these into rooms of one length for the stages of a block and for lines of 32 points. A `const` array is
 // built anew at each use, so those of up to 16 points are handed out by value and lent from there, and those of 32 are written into a
 // lent room. Read specs/Table, then the functions of this file, whose proofs have the checker test the fold rule over the whole
