@@ -1,9 +1,9 @@
 /* Hoengtila: DCT-II, DST-VII and DCT-VIII of VVC (H.266), forward and inverse, for C and C++ callers.
  *
  * Every function takes any numbers and any lengths. What the caller owes: each pointer points to as many elements as the length
- * after it says, `totals` to 578, and `shapes` and `answers` of hoengtila_block_row to 64 shapes and 64 answers, whatever `count` is;
- * none is null, not even one whose length is 0, through which nothing is read or written; and what a call writes overlaps nothing else
- * that it is handed, no input and no other output.
+ * after it says, and may be null where that is 0, as nothing is read or written through it then. A pointer without a length is never
+ * null: `totals` points to 578 numbers, and `shapes` and `answers` of hoengtila_block_row to 64 shapes and 64 answers, whatever `count`
+ * is. And what a call writes overlaps nothing else that it is handed, no input and no other output.
  *
  * A call that is turned down hands back one of the numbers below, the first that applies in the order that stands beside the
  * function. Its outputs hold what they held and the other numbers that it hands back are 0, where nothing else is said; but 8, 9
