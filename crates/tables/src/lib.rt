@@ -1,9 +1,8 @@
 // The weights as data. Those of DST-VII are in weights, whole and row by row; zipped has those of every kind in the order in which
-// lines read them, and stage puts these into rooms of one length for the stages of a block and for lines of 32 points. A `const` array is
-// built anew at each use, so those of up to 16 points are handed out by value and lent from there, and those of 32 are written into a
-// lent room. Read specs/Table, then the functions of this file, whose proofs have the checker test the fold rule over the whole
-// table (proofs/Stored); specs/Term with zipped, specs/Stage with stage; of proofs/, Unique. crates/tables/make writes weights and zipped.
-pub mod stage;
+// lines read them, which `stage_weights` puts into rooms of one length. A `const` array is built anew at each use, so those of up to
+// 16 points are handed out by value and lent from there, and those of 32 are written into a lent room. Read specs/Table, then the
+// functions of this file, whose proofs have the checker test the fold rule over the whole table (proofs/Stored); specs/Term with
+// zipped; of proofs/, Unique. crates/tables/make writes weights and zipped.
 mod weights;
 pub mod zipped;
 

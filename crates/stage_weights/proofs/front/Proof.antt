@@ -9,8 +9,8 @@ use mir.Syntax.{w16}
 use mir.ValLaws.{toZ-ofZ}
 use Rattle.algebra.specs.Lists.{at}
 use Rattle.algebra.proofs.Lists.{Filled, fill-none, fill-first}
-use Rattle.tables.proofs.stage.front.Statement.{statement}
-use Rattle.tables.proofs.stage.front.Tie as tie
+use Rattle.stage_weights.proofs.front.Statement.{statement}
+use Rattle.stage_weights.proofs.front.Tie as tie
 
 abbrev Inv-loop : tie.InvT-loop
 Inv-loop t most u₀ k₀ u k = (k ≤ most) × Filled 0 k u u₀ (at t)

@@ -4,10 +4,10 @@ use mathlib.Core.Path.{_≡_, sym, subst}
 use native.Mathlib.Omega.{arith}
 use Prim.Native.Nat.{ℕ}
 use lib.ListN.{length}
-use Rattle.tables.specs.Stage.{Weights}
-use Rattle.tables.proofs.Rooms.{is-thirty-two, is-few, front, in-room}
-use Rattle.tables.proofs.stage.put_128.Statement.{statement}
-use Rattle.tables.proofs.stage.put_128.Tie as tie
+use Rattle.stage_weights.specs.Stage.{Weights}
+use Rattle.stage_weights.proofs.Rooms.{is-thirty-two, is-few, front, in-room}
+use Rattle.stage_weights.proofs.put_128.Statement.{statement}
+use Rattle.stage_weights.proofs.put_128.Tie as tie
 
 put-32-requires : tie.Need-put-32-requires
 put-32-requires c κs = search needs

@@ -1,15 +1,16 @@
-// The weights of a stage of a block: the order of its size in a room that every size shares, so that the code of a stage stands
-// once. A room of 128 does for small blocks and for small parts of large ones; one of 1024 has all.
-use crate::zipped::put_32;
-use crate::zipped::zipped_4;
-use crate::zipped::zipped_8;
-use crate::zipped::zipped_16;
+// Internal: the weights of a stage of a block, in a room that every size shares, so that the code of a stage stands once; lines of
+// 32 points take them too. It asks that the size was tested. A room of 128 does for small blocks and for small parts of large ones;
+// one of 1024 has all. Read specs/Stage; of proofs/, Rooms.
+use tables::zipped::put_32;
+use tables::zipped::zipped_4;
+use tables::zipped::zipped_8;
+use tables::zipped::zipped_16;
 ghost use mathlib.Core.Path.{_≡_};
 ghost use mathlib.Core.Bool.{true};
 ghost use Prim.Native.Nat.{_≤_, min};
 ghost use lib.ListN.{length};
 ghost use Rattle.meaning.specs.Shape.{isSize};
-ghost use Rattle.tables.specs.Stage.{Front, Weights};
+ghost use Rattle.stage_weights.specs.Stage.{Front, Weights};
 
 // As many numbers of t as there is room for. Their number is a literal at each call, so that they are copied from where the
 // constants stand: of one that is not known the table is laid out on the stack first (docs/DECISIONS.md).

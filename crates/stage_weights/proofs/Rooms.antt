@@ -9,9 +9,9 @@ use lib.IntN.{ℤ}
 use Rattle.meaning.specs.Shape.{isSize}
 use Rattle.meaning.proofs.Cases.{size-cases, thirty-two}
 use Rattle.product.specs.Product.{spot, Laid}
 use Rattle.tables.specs.Term.{term}
-use Rattle.tables.specs.Stage.{Front, Weights}
+use Rattle.stage_weights.specs.Stage.{Front, Weights}
 use Rattle.tables.proofs.Pairs.{place-held}
 
 -- a size of up to 8 that is not 4
 pub is-eight : (n : ℕ) → isSize n ≡ true → (n ≡ 4 → ⊥) → n ≤ 8 → n ≡ 8

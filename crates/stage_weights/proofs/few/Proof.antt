@@ -3,10 +3,10 @@ use borrow.Author.Needs.{needs}
 use mathlib.Core.Path.{_≡_, sym, subst}
 use Prim.Native.Nat.{ℕ}
 use lib.ListN.{length}
-use Rattle.tables.specs.Stage.{Weights}
-use Rattle.tables.proofs.Rooms.{is-eight, front}
-use Rattle.tables.proofs.stage.few.Statement.{statement}
-use Rattle.tables.proofs.stage.few.Tie as tie
+use Rattle.stage_weights.specs.Stage.{Weights}
+use Rattle.stage_weights.proofs.Rooms.{is-eight, front}
+use Rattle.stage_weights.proofs.few.Statement.{statement}
+use Rattle.stage_weights.proofs.few.Tie as tie
 
 zipped-4-requires : tie.Need-zipped-4-requires
 zipped-4-requires c κs = search needs
