@@ -105,6 +105,7 @@ printed-turn k file c = refl
 abbrev text : Given (List ℕ)
 text = record { none = []; adds = λ t l. t .text ++ l; from = printedFrom; by-none = printed-none; by-turn = printed-turn; at-end = λ c. refl }
 
+-- the turn that ends the run says the number, whatever would follow
 again : (b : Bool) (n m : ℕ) → cond b n m ≡ cond b n (cond b 0 m)
 again true n m = refl
 again false n m = refl
