@@ -1,6 +1,6 @@
 // Lines: the weights one by one, and lines of 4, 8, 16 and 32 points, over any numbers and any buffers. `forward` and `inverse` go
 // the fast path, `forward_product` and `inverse_product` the full product; the two of a direction have one contract. Read specs/Line,
-// then proofs/Agreement and proofs/Unique. The work behind them stands in `folded`, `halves` and `engine`.
+// then proofs/Agreement and proofs/Unique. The work behind them stands in `folded`, `dct2_line` and `engine`.
 use engine::eight;
 use engine::full;
 use meaning::Answer;
@@ -50,7 +50,7 @@ fn fast_forward(n: u32, kind: u32, x: &[i16], y: &mut [i32])
     ensures { λ _. ⌜ now (y .exit) ≡ lineOf true kind n (at (now (x .entry))) ⌝ }
 {
     if kind == 0 {
-        halves::forward::forward(n as usize, x, y);
+        dct2_line::forward::forward(n as usize, x, y);
     } else if n == 8 {
         eight(kind, true, x, y);
     } else {
@@ -63,7 +63,7 @@ fn fast_inverse(n: u32, kind: u32, x: &[i16], y: &mut [i32])
     ensures { λ _. ⌜ now (y .exit) ≡ lineOf false kind n (at (now (x .entry))) ⌝ }
 {
     if kind == 0 {
-        halves::inverse::inverse(n as usize, x, y);
+        dct2_line::inverse::inverse(n as usize, x, y);
     } else if n == 8 {
         eight(kind, false, x, y);
     } else {
