@@ -86,7 +86,7 @@ hoengtila_shape hoengtila_shape_of(uint32_t width, uint32_t height, uint32_t hor
 /* With W(i, j) for hoengtila_weight(kind, n, i, j), the forward gives y[i], the sum over j of W(i, j) * x[j], and the inverse y[j], the
  * sum over i of W(i, j) * x[i]. The first two take the fast path, the others the full product of n * n multiplications; they give the
  * same. The fast path of DST-VII and DCT-VIII shares products between weights: 10, 136 and 664 multiplications at 4, 16 and 32 points;
- * at 8 nothing is shared, and it is the product. That of DCT-II goes by even and odd halves: 16, 32, 96 and 352 at 4, 8, 16 and 32.
+ * at 8 nothing is shared, and it is the product. That of DCT-II goes by even and odd halves: 8, 24, 88 and 344 at 4, 8, 16 and 32.
  * What the fast path saves is multiplications, and not always time: on x86-64 the product is the quicker one at 16 and 32 points of
  * DST-VII and DCT-VIII (docs/PERFORMANCE.md has the times).
  * Refusals, in this order: 1, 3, 6, 7. 6 and 7: a buffer that has not n numbers. */
