@@ -1,6 +1,6 @@
 /* The driver.
  *   bench compare        every implementation on many blocks; ends with status 1 at the first difference
- *   bench list WORD..    the cases and implementations whose names hold all of the words, one to a line
+ *   bench list WORD..    the cases and implementations whose names have all of the words, one to a line
  *   bench time WORD..    their times in nanoseconds: the least of many rounds, in which the implementations take turns
  *   bench count WORD..   runs each of them once, inside `counted`, for a tool that counts instructions
  *   bench twice WORD..   runs each of them twice, for a tool that counts those of a whole run: the difference is one call */
@@ -24,10 +24,20 @@ static double time_of(const bench_case *c, int i, long calls) {
     return (now_ns() - start) / (double)calls;
 }
 
-/* Whether a name holds every word. */
+/* Whether a word is one of those that a name is made of. */
+static int has_word(const char *name, const char *word) {
+    size_t length = strlen(word);
+    while (strncmp(name, word, length) || (name[length] && name[length] != ' ')) {
+        const char *space = strchr(name, ' ');
+        if (!space) return 0;
+        name = space + 1;
+    }
+    return 1;
+}
+
 static int wanted(const char *name, int words, char **word) {
     for (int k = 0; k < words; k++)
-        if (!strstr(name, word[k])) return 0;
+        if (!has_word(name, word[k])) return 0;
     return 1;
 }
 
@@ -45,19 +55,19 @@ static void time_case(const bench_case *c, int words, char **word) {
     double least[IMPLEMENTATIONS];
     char name[64];
     int some = 0;
-    for (int i = 0; i < implementations_of(c); i++) some |= wanted(case_name(c, i, name), words, word);
+    for (int i = 0; i < IMPLEMENTATIONS; i++) some |= has_case(i, c) && wanted(case_name(c, i, name), words, word);
     if (!some) return;
     fill_case(c);
     long calls = calls_of(c);
     for (int i = 0; i < IMPLEMENTATIONS; i++) least[i] = 1e18;
     for (int round = 0; round < ROUNDS; round++)
-        for (int i = 0; i < implementations_of(c); i++) {
-            if (!c->line && !has_shape(i, c->forward, c->shape)) continue;
+        for (int i = 0; i < IMPLEMENTATIONS; i++) {
+            if (!has_case(i, c)) continue;
             double t = time_of(c, i, calls);
             if (t < least[i]) least[i] = t;
         }
-    for (int i = 0; i < implementations_of(c); i++)
-        if (c->line || has_shape(i, c->forward, c->shape)) printf("ns %s %.1f\n", case_name(c, i, name), least[i]);
+    for (int i = 0; i < IMPLEMENTATIONS; i++)
+        if (has_case(i, c)) printf("ns %s %.1f\n", case_name(c, i, name), least[i]);
 }
 
 __attribute__((noinline)) void counted(const bench_case *c, int i) {
@@ -78,8 +88,7 @@ static int mode_of(const char *word) {
 
 static void each(int mode, const bench_case *c, int i, int words, char **word) {
     char name[64];
-    if (!c->line && !has_shape(i, c->forward, c->shape)) return;
-    if (!wanted(case_name(c, i, name), words, word)) return;
+    if (!has_case(i, c) || !wanted(case_name(c, i, name), words, word)) return;
     if (mode == LIST) {
         puts(name);
         return;
@@ -98,7 +107,7 @@ int main(int words, char **word) {
     if (mode == COMPARE) return compare();
     for (int k = 0; k < count; k++) {
         if (mode == TIME) time_case(&cases[k], words - 2, word + 2);
-        else for (int i = 0; i < implementations_of(&cases[k]); i++) each(mode, &cases[k], i, words - 2, word + 2);
+        else for (int i = 0; i < IMPLEMENTATIONS; i++) each(mode, &cases[k], i, words - 2, word + 2);
     }
     return 0;
 }

@@ -4,6 +4,17 @@
 
 #include "hoengtila.h"
 
+#define ALWAYS static inline __attribute__((always_inline))
+
+/* gcc unrolls a loop of 16 or less before it looks for vectors, and then finds fewer; it keeps a loop of 8 as one vector */
+#ifdef __clang__
+#define ROLLED
+#define UNROLLED _Pragma("clang loop unroll(full)")
+#else
+#define ROLLED _Pragma("GCC unroll 1")
+#define UNROLLED _Pragma("GCC unroll 32")
+#endif
+
 enum { DCT_II = 0, DST_VII = 1, DCT_VIII = 2 };
 enum { LONGEST = 32, KEPT = 16, LARGEST = LONGEST * LONGEST };
 
@@ -14,6 +25,9 @@ typedef void forward_block(hoengtila_shape shape, const int16_t *residuals, int1
 
 inverse_block reference_inverse, triple_inverse, rows_inverse, folded_inverse, butterfly_inverse, halves_inverse;
 forward_block reference_forward, triple_forward, rows_forward, folded_forward, butterfly_forward, halves_forward;
+
+/* Coefficients of kind 0 to residuals in place; outside of the shape's columns and rows they are 0. */
+void decoder_inverse(hoengtila_shape shape, int32_t *numbers);
 
 /* Each baseline makes its tables of the weights once. */
 void reference_prepare(void), triple_prepare(void), rows_prepare(void), folded_prepare(void), halves_prepare(void);

@@ -34,9 +34,16 @@ static void long_inverse(hoengtila_shape s, const int16_t *numbers, int32_t *res
     run_long(s, residuals);
 }
 
-static const char *const block_names[] = {"library", "reference", "triple", "rows", "folded", "butterfly", "halves", "long"};
-static inverse_block *const inverses[] = {0, reference_inverse, triple_inverse, rows_inverse, folded_inverse, butterfly_inverse, halves_inverse, long_inverse};
-static forward_block *const forwards[] = {0, reference_forward, triple_forward, rows_forward, folded_forward, butterfly_forward, halves_forward, 0};
+/* What the decoder works on is 32-bit numbers, which it overwrites. Where it is timed they are copied before each call; `copy` is
+ * the copy alone, which the tables take off (`run_case`). */
+static void copied_inverse(hoengtila_shape s, const int16_t *numbers, int32_t *residuals) {
+    for (uint32_t k = 0; k < s.width * s.height; k++) residuals[k] = numbers[k];
+    decoder_inverse(s, residuals);
+}
+
+static const char *const block_names[] = {"library", "reference", "triple", "rows", "folded", "butterfly", "halves", "long", "decoder", "copy"};
+static inverse_block *const inverses[] = {0, reference_inverse, triple_inverse, rows_inverse, folded_inverse, butterfly_inverse, halves_inverse, long_inverse, copied_inverse, 0};
+static forward_block *const forwards[] = {0, reference_forward, triple_forward, rows_forward, folded_forward, butterfly_forward, halves_forward, 0, 0, 0};
 static const char *const row_names[] = {"one-call", "64-calls"};
 static const char *const line_names[] = {"fast", "product"};
 static line_call *const inverse_lines[] = {hoengtila_line_inverse, hoengtila_line_inverse_product};
@@ -63,64 +70,98 @@ static hoengtila_shape keeping(hoengtila_shape s, uint32_t columns, uint32_t row
     return s;
 }
 
+static const uint32_t sizes[][2] = {{4, 4}, {8, 8}, {16, 16}, {32, 32}, {32, 8}};
+
 static int make_blocks(bench_case *cases, int forward) {
-    static const uint32_t sizes[][2] = {{4, 4}, {8, 8}, {16, 16}, {32, 32}, {32, 8}};
     static const char *const fills[] = {"dense", "corner", "one"};
-    static const char *const dct2_fills[] = {"dct2-dense", "dct2-corner", "dct2-one"};
     int count = 0;
     for (int s = 0; s < 5; s++)
         for (int f = 0; f < 3; f++)
-            cases[count++] = (bench_case){0, forward, shape_of(sizes[s][0], sizes[s][1], DST_VII), fills[f], 0};
-    cases[count++] = (bench_case){0, forward, keeping(shape_of(32, 32, DST_VII), 4, 4), "keeps-4x4", 0};
-    cases[count++] = (bench_case){0, forward, shape_of(16, 16, DCT_VIII), "dct8", 0};
+            cases[count++] = (bench_case){.forward = forward, .shape = shape_of(sizes[s][0], sizes[s][1], DST_VII), .fill = fills[f]};
+    cases[count++] = (bench_case){.forward = forward, .shape = keeping(shape_of(32, 32, DST_VII), 4, 4), .fill = "keeps-4x4"};
+    cases[count++] = (bench_case){.forward = forward, .shape = shape_of(16, 16, DCT_VIII), .fill = "dct8"};
+    return count;
+}
+
+static int make_forward_dct2(bench_case *cases) {
+    static const char *const fills[] = {"dct2-dense", "dct2-corner", "dct2-one"};
+    int count = 0;
     for (int s = 0; s < 5; s++)
         for (int f = 0; f < 3; f++)
-            cases[count++] = (bench_case){0, forward, shape_of(sizes[s][0], sizes[s][1], DCT_II), dct2_fills[f], 0};
+            cases[count++] = (bench_case){.forward = 1, .shape = shape_of(sizes[s][0], sizes[s][1], DCT_II), .fill = fills[f]};
+    return count;
+}
+
+static bench_case live_case(uint32_t width, uint32_t height, int live) {
+    const char *fill = live == 1 ? "one" : live == 4 ? "corner" : live == 8 ? "live-8" : live == 16 ? "live-16" : "dense";
+    return (bench_case){.shape = shape_of(width, height, DCT_II), .fill = fill, .live = live};
+}
+
+/* Inverse blocks of kind 0: width, height and the live part; 32 is dense. */
+static int make_live(bench_case *cases) {
+    static const uint8_t parts[][3] = {
+        {4, 4, 32}, {4, 4, 1}, {8, 4, 32}, {8, 4, 4}, {8, 4, 1}, {4, 8, 32}, {4, 8, 4}, {4, 8, 1}, {8, 8, 32}, {8, 8, 4}, {8, 8, 1},
+        {16, 4, 32}, {16, 4, 4}, {16, 4, 1}, {4, 16, 32}, {4, 16, 4}, {4, 16, 1}, {16, 8, 32}, {16, 8, 4}, {8, 16, 32}, {8, 16, 4},
+        {16, 16, 32}, {16, 16, 8}, {16, 16, 4}, {16, 16, 1}, {32, 4, 32}, {4, 32, 32},
+        {32, 8, 32}, {32, 8, 4}, {32, 8, 1}, {8, 32, 32}, {8, 32, 4}, {8, 32, 1}, {32, 16, 32}, {16, 32, 32},
+        {32, 32, 32}, {32, 32, 16}, {32, 32, 8}, {32, 32, 4}, {32, 32, 1},
+    };
+    int count = 0;
+    for (size_t k = 0; k < sizeof parts / sizeof *parts; k++) cases[count++] = live_case(parts[k][0], parts[k][1], parts[k][2]);
     return count;
 }
 
 static int make_lines(bench_case *cases, int forward) {
     int count = 0;
     for (uint32_t n = 4; n <= LONGEST; n *= 2)
-        cases[count++] = (bench_case){1, forward, shape_of(n, 1, DST_VII), "dense", 0};
+        cases[count++] = (bench_case){.line = 1, .forward = forward, .shape = shape_of(n, 1, DST_VII), .fill = "dense"};
     for (uint32_t n = 4; n <= LONGEST; n *= 2)
-        cases[count++] = (bench_case){1, forward, shape_of(n, 1, DCT_II), "dct2-dense", 0};
+        cases[count++] = (bench_case){.line = 1, .forward = forward, .shape = shape_of(n, 1, DCT_II), .fill = "dct2-dense"};
     return count;
 }
 
 static int make_rows(bench_case *cases) {
-    cases[0] = (bench_case){0, 0, shape_of(4, 4, DST_VII), "dense", 1};
-    cases[1] = (bench_case){0, 0, shape_of(8, 8, DST_VII), "dense", 1};
+    cases[0] = (bench_case){.shape = shape_of(4, 4, DST_VII), .fill = "dense", .row = 1};
+    cases[1] = (bench_case){.shape = shape_of(8, 8, DST_VII), .fill = "dense", .row = 1};
     return 2;
 }
 
 int make_cases(bench_case *cases) {
     int count = 0;
     for (int forward = 0; forward < 2; forward++) count += make_blocks(cases + count, forward);
+    count += make_forward_dct2(cases + count);
     for (int forward = 0; forward < 2; forward++) count += make_lines(cases + count, forward);
     count += make_rows(cases + count);
+    count += make_live(cases + count);
     return count;
 }
-
-int implementations_of(const bench_case *c) { return c->line || c->row ? 2 : IMPLEMENTATIONS; }
 
 static int keeps_the_most(hoengtila_shape s) {
     hoengtila_shape most = hoengtila_shape_of(s.width, s.height, s.horizontal, s.vertical, s.depth);
     return s.columns == most.columns && s.rows == most.rows;
 }
 
-/* The library and the reference have every shape, and the call of long numbers every inverse one; of the others the halves have
- * kind 0 alone, the rest kinds 1 and 2, and all keep the most. */
+/* The library and the reference have every shape, the call of long numbers every inverse one, and the decoder every inverse one of
+ * kind 0; of the others the halves have kind 0 alone, the rest kinds 1 and 2, and all keep the most. */
 int has_shape(int i, int forward, hoengtila_shape s) {
-    if (i < 2) return 1;
-    if (inverses[i] == long_inverse) return !forward;
-    if (!keeps_the_most(s)) return 0;
-    return inverses[i] == halves_inverse ? s.horizontal == DCT_II && s.vertical == DCT_II : s.horizontal != DCT_II && s.vertical != DCT_II;
+    int dct2 = s.horizontal == DCT_II && s.vertical == DCT_II;
+    if (i == LIBRARY || i == REFERENCE) return 1;
+    if (i == LONG) return !forward;
+    if (i == DECODER) return !forward && dct2;
+    if (i == COPY || !keeps_the_most(s)) return 0;
+    return i == HALVES ? dct2 : s.horizontal != DCT_II && s.vertical != DCT_II;
+}
+
+int has_case(int i, const bench_case *c) {
+    if (c->line || c->row) return i < 2;
+    if (c->live) return i == LIBRARY || i == HALVES || i == DECODER || i == COPY;
+    return has_shape(i, c->forward, c->shape);
 }
 
 const char *case_name(const bench_case *c, int i, char *name) {
     const char *direction = c->forward ? "forward" : "inverse";
     if (c->row) sprintf(name, "%s-row %ux%u %s %s", direction, c->shape.width, c->shape.height, c->fill, row_names[i]);
+    else if (c->live) sprintf(name, "dct2 %ux%u %s %s", c->shape.width, c->shape.height, c->fill, block_names[i]);
     else if (c->line) sprintf(name, "%s-line %u %s %s", direction, c->shape.width, c->fill, line_names[i]);
     else sprintf(name, "%s %ux%u %s %s", direction, c->shape.width, c->shape.height, c->fill, block_names[i]);
     return name;
@@ -128,6 +169,7 @@ const char *case_name(const bench_case *c, int i, char *name) {
 
 /* "dense", and "keeps": every number that may be other than 0 is; "corner": the first four columns and rows; "one": the first. */
 static int filled(const bench_case *c, uint32_t x, uint32_t y) {
+    if (c->live) return (int)x < c->live && (int)y < c->live;
     if (strstr(c->fill, "one")) return x == 0 && y == 0;
     if (strstr(c->fill, "corner")) return x < 4 && y < 4;
     return c->forward || c->line || ((int)x < columns_of(c->shape) && (int)y < rows_of(c->shape));
@@ -158,11 +200,19 @@ static void run_library(const bench_case *c) {
     else hoengtila_block_inverse(c->shape, input, elements, sums, elements);
 }
 
+/* The decoder is told the live part, which the others find or do without. */
+static void run_decoder(const bench_case *c, int decodes) {
+    uint32_t w = c->shape.width, h = c->shape.height, live = (uint32_t)c->live;
+    memcpy(sums, wide, sizeof *sums * w * h);
+    if (decodes) decoder_inverse(keeping(c->shape, live < w ? live : w, live < h ? live : h), sums);
+}
+
 void run_case(const bench_case *c, int i) {
     if (c->row) run_row(c, i);
     else if (c->line) run_line(c, i);
-    else if (i == 0) run_library(c);
+    else if (i == LIBRARY) run_library(c);
     else if (c->forward) forwards[i](c->shape, input, coefficients);
-    else if (inverses[i] == long_inverse) run_long(c->shape, sums);
+    else if (i == LONG) run_long(c->shape, sums);
+    else if (i == DECODER || i == COPY) run_decoder(c, i == DECODER);
     else inverses[i](c->shape, input, sums);
 }

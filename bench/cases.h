@@ -4,7 +4,8 @@
 
 #include "bench.h"
 
-enum { CASES = 96, IMPLEMENTATIONS = 8, ROW = 64 };
+enum { CASES = 128, ROW = 64 };
+enum { LIBRARY, REFERENCE, TRIPLE, ROWS, FOLDED, BUTTERFLY, HALVES, LONG, DECODER, COPY, IMPLEMENTATIONS };
 
 typedef struct {
     int line; /* a line of width points, by the fast path and by the full product; otherwise a block */
@@ -12,18 +13,19 @@ typedef struct {
     hoengtila_shape shape;
     const char *fill;
     int row; /* 64 inverse blocks of this shape, in one call and in 64 */
+    int live; /* an inverse block of kind 0, of which the first so many columns and rows are live; otherwise 0 */
 } bench_case;
 
 void prepare(void);
-/* by number; 0 is the library itself */
 const char *implementation_name(int i);
 inverse_block *inverse_of(int i);
 forward_block *forward_of(int i);
 
 int make_cases(bench_case *cases);
-int implementations_of(const bench_case *c);
 /* whether an implementation has a direction, the kinds of a shape, and its kept part */
 int has_shape(int i, int forward, hoengtila_shape s);
+/* whether it runs a case */
+int has_case(int i, const bench_case *c);
 /* "inverse 16x16 dense library": what is run, its size, what it is run on, and who runs it */
 const char *case_name(const bench_case *c, int i, char *name);
 void fill_case(const bench_case *c);

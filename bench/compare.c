@@ -112,12 +112,38 @@ static int compare_size(uint32_t w, uint32_t h) {
     return 0;
 }
 
+/* Whether the library gives what stands in the second output. */
+static int library_gives(hoengtila_shape s) {
+    size_t elements = (size_t)s.width * s.height;
+    memset(output32[0], 0x55, sizeof output32[0]);
+    return hoengtila_block_inverse(s, input, elements, output32[0], elements).number == 0 && !memcmp(output32[0], output32[1], elements * sizeof **output32);
+}
+
+/* A block with the live part of the shape: the decoder, which is told that part, and the library, told it and told the most. */
+static int compare_live_part(hoengtila_shape s) {
+    fill(s, 32767, 1, (int)(next_random() % BLOCKS_OF_A_SHAPE));
+    for (uint32_t k = 0; k < s.width * s.height; k++) output32[1][k] = input[k];
+    decoder_inverse(s, output32[1]);
+    return !library_gives(s) || !library_gives(hoengtila_shape_of(s.width, s.height, DCT_II, DCT_II, s.depth));
+}
+
+/* Every live part of a size of kind 0 at every depth. */
+static int compare_live(uint32_t w, uint32_t h) {
+    for (uint32_t depth = 8; depth <= 12; depth++)
+        for (uint32_t k = 0; k < w * h; k++, blocks++) {
+            hoengtila_shape s = hoengtila_shape_of(w, h, DCT_II, DCT_II, depth);
+            s.columns = 1 + k % w, s.rows = 1 + k / w;
+            if (compare_live_part(s)) return differ(s, "live", DECODER);
+        }
+    return 0;
+}
+
 int compare(void) {
     seed_random(7);
     for (uint32_t w = 4; w <= LONGEST; w *= 2) {
         if (compare_lines(w, DCT_II) || compare_lines(w, DST_VII) || compare_lines(w, DCT_VIII)) return 1;
         for (uint32_t h = 4; h <= LONGEST; h *= 2)
-            if (compare_size(w, h)) return 1;
+            if (compare_size(w, h) || compare_live(w, h)) return 1;
     }
     printf("bench: the library and the baselines give the same on %d blocks\n", blocks);
     return 0;

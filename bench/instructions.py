@@ -4,18 +4,48 @@ import re
 import shutil
 import subprocess
 import sys
+from pathlib import Path
 
 # Where pmullw and pmulhw make the two halves of eight products, both come up, so each counts as four.
 LANES = {"pmullw": 4, "pmulhw": 4, "pmulhuw": 4, "pmaddwd": 8, "pmuludq": 2, "pmulld": 4}
 
 
-def listing(program, *words):
+def objdump(program, *words):
     """An objdump reads the programs of its own machine, and often no others."""
     for tool in filter(shutil.which, ("objdump", "x86_64-linux-gnu-objdump")):
-        ran = subprocess.run([tool, "-d", "--no-show-raw-insn", *words, program], capture_output=True, text=True)
+        ran = subprocess.run([tool, *words, program], capture_output=True, text=True)
         if ran.returncode == 0:
             return ran.stdout.splitlines()
     sys.exit("bench: there is no objdump here that reads " + program)
+
+
+def listing(program, *words):
+    return objdump(program, "-d", "--no-show-raw-insn", *words)
+
+
+def archive_of(words):
+    """The archive that the words begin with, or the repository's own; and the other words."""
+    if words and Path(words[0]).is_file():
+        return words[0], words[1:]
+    return "target/staticlib/libhoengtila.a", words
+
+
+def functions(archive, *words):
+    """Name to the lines of its code."""
+    found, name = {}, None
+    for line in listing(archive, *words):
+        if head := re.match(r"[0-9a-f]+ <(.*)>:$", line):
+            name = head[1]
+            found[name] = []
+        elif name:
+            found[name].append(line)
+    return found
+
+
+def code(archive):
+    """The bytes of its sections of code, of which each function has one."""
+    sections = (line.split() for line in objdump(archive, "-h"))
+    return sum(int(words[2], 16) for words in sections if len(words) > 2 and words[1].startswith(".text"))
 
 
 def disassembled(program):

@@ -10,17 +10,6 @@
 
 #include <string.h>
 
-#define ALWAYS static inline __attribute__((always_inline))
-
-/* gcc unrolls a loop of 16 or less before it looks for vectors, and then finds fewer; it keeps a loop of 8 as one vector */
-#ifdef __clang__
-#define ROLLED
-#define UNROLLED
-#else
-#define ROLLED _Pragma("GCC unroll 1")
-#define UNROLLED _Pragma("GCC unroll 32")
-#endif
-
 ALWAYS void add_eight(int32_t *restrict sums, int16_t v, const int16_t *restrict row) {
     ROLLED for (int j = 0; j < 8; j++) sums[j] += v * row[j];
 }

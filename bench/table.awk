@@ -4,7 +4,7 @@
 $1 == "skipped" { skipped += $6; next }
 {
     name = $2 " " $3 " " $4
-    if (!(name in known)) { known[name] = 1; line[name] = $2 ~ /-(line|row)$/; order[++names] = name }
+    if (!(name in known)) { known[name] = 1; group[name] = $2 == "dct2" ? "live" : $2 ~ /-(line|row)$/ ? "line" : "block"; order[++names] = name }
     value[$1, name, $5] = $6
 }
 
@@ -21,15 +21,18 @@ function best(m, name,    k, who, least) {
 
 function ratio(a, b) { return b ? sprintf("%.2f", a / b) : "-" }
 function number(m, v) { return m == "ns" ? sprintf("%.1f", v) : v }
+function shown(m, name, who) { return has(m, name, who) ? number(m, value[m, name, who]) : "-" }
 
-function blocks(m,    k, j, name, library) {
+function blocks(m,    k, j, name, head, library) {
+    for (k = 1; k <= names; k++) head += group[order[k]] == "block" && has(m, order[k], "library")
+    if (!head) return
     printf "\n%-22s %10s", m, "library"
     for (j = 1; j <= BASELINES; j++) printf " %10s", baseline[j]
     printf " %14s %14s %10s %12s\n", "reference/lib.", "lib./best of C", "long", "long/library"
-    for (k = 1; k <= names; k++) if (!line[name = order[k]] && has(m, name, "library")) {
+    for (k = 1; k <= names; k++) if (group[name = order[k]] == "block" && has(m, name, "library")) {
         library = value[m, name, "library"]
         printf "%-22s %10s", name, number(m, library)
-        for (j = 1; j <= BASELINES; j++) printf " %10s", has(m, name, baseline[j]) ? number(m, value[m, name, baseline[j]]) : "-"
+        for (j = 1; j <= BASELINES; j++) printf " %10s", shown(m, name, baseline[j])
         printf " %14s %14s", ratio(value[m, name, "reference"], library), ratio(library, best(m, name))
         if (has(m, name, "long")) printf " %10s %12s", number(m, value[m, name, "long"]), ratio(value[m, name, "long"], library)
         printf "\n"
@@ -37,7 +40,7 @@ function blocks(m,    k, j, name, library) {
 }
 
 function lines(m,    k, name, head, fast, product) {
-    for (k = 1; k <= names; k++) if (line[name = order[k]] && has(m, name, "fast")) {
+    for (k = 1; k <= names; k++) if (group[name = order[k]] == "line" && has(m, name, "fast")) {
         if (!head++) printf "\n%-22s %10s %10s %14s\n", m, "fast", "product", "product/fast"
         fast = value[m, name, "fast"]; product = value[m, name, "product"]
         printf "%-22s %10s %10s %14s\n", name, number(m, fast), number(m, product), ratio(product, fast)
@@ -45,18 +48,34 @@ function lines(m,    k, name, head, fast, product) {
 }
 
 function rows(m,    k, name, head, one, calls) {
-    for (k = 1; k <= names; k++) if (line[name = order[k]] && has(m, name, "one-call")) {
+    for (k = 1; k <= names; k++) if (group[name = order[k]] == "line" && has(m, name, "one-call")) {
         if (!head++) printf "\n%-22s %10s %10s %14s\n", m, "one call", "64 calls", "64 calls/one"
         one = value[m, name, "one-call"]; calls = value[m, name, "64-calls"]
         printf "%-22s %10s %10s %14s\n", name, number(m, one), number(m, calls), ratio(calls, one)
     }
 }
 
+# Inverse blocks of kind 0. The decoder's numbers are without the copy that stands before each of its calls.
+function live(m,    k, name, head, decoder, share, part, least, where) {
+    for (k = 1; k <= names; k++) if (group[name = order[k]] == "live" && has(m, name, "library") && has(m, name, "decoder") && has(m, name, "copy")) {
+        if (!head++) printf "\n%-22s %10s %10s %10s %10s %16s\n", m, "library", "decoder", "copy", "halves", "decoder/library"
+        decoder = value[m, name, "decoder"] - value[m, name, "copy"]
+        share = decoder / value[m, name, "library"]
+        printf "%-22s %10s %10s %10s %10s %16.2f\n", name, shown(m, name, "library"), number(m, decoder), shown(m, name, "copy"), shown(m, name, "halves"), share
+        part = name ~ / one$/ ? "one" : "the others"
+        if (!(part in least) || share < least[part]) { least[part] = share; where[part] = name }
+    }
+    if (m == "products") return
+    if ("one" in least) printf "%-22s %60.2f  %s\n", "least of one", least["one"], where["one"]
+    if ("the others" in least) printf "%-22s %60.2f  %s\n", "least of the others", least["the others"], where["the others"]
+}
+
+function amount(m, name, who) { return who == "best of C" ? best(m, name) : has(m, name, who) ? value[m, name, who] : 0 }
+
 # The ratio of two numbers of a case, which is to be at least or at most so much.
 function aim(m, name, over, under, bound, limit,    a, b) {
-    if (!has(m, name, "library") || !has(m, name, "reference")) return
-    a = over == "best of C" ? best(m, name) : value[m, name, over]
-    b = under == "best of C" ? best(m, name) : value[m, name, under]
+    a = amount(m, name, over); b = amount(m, name, under)
+    if (!a || !b) return
     printf "%-8s %-22s %-20s %5.2f, %s %.2f\n", (bound == "at least" ? a / b >= limit : a / b <= limit) ? "reached" : "short",
         name, over "/" under, a / b, bound, limit
 }
@@ -74,8 +93,8 @@ function aims(m,    k, f) {
     for (k = 1; k <= 2; k++) aim(m, "inverse " large[k] " dense", "library", "best of C", "at most", 1.4)
     for (f = 2; f <= 3; f++) for (k = 1; k <= 3; k++) aim(m, "inverse " large[k] " " fill[f], "reference", "library", "at least", 4)
     for (k = 1; k <= 2; k++) for (f = 1; f <= 3; f++) aim(m, "inverse " small[k] " " fill[f], "reference", "library", "at least", 1)
-    for (k = 1; k <= 2; k++) aim(m, "inverse " small[k] " dct2-dense", "halves", "library", "at least", 1)
-    for (k = 1; k <= 2; k++) aim(m, "inverse " large[k] " dct2-dense", "halves", "library", "at least", k)
+    for (k = 1; k <= 2; k++) aim(m, "dct2 " small[k] " dense", "halves", "library", "at least", 1)
+    for (k = 1; k <= 2; k++) aim(m, "dct2 " large[k] " dense", "halves", "library", "at least", k)
     less(m, "inverse")
     less(m, "forward")
 }
@@ -85,7 +104,7 @@ END {
     split("16x16 32x32 32x8", large)
     split("4x4 8x8", small)
     split("dense corner one", fill)
-    for (k = 1; k <= measures; k++) if (measure[k] != "skipped") { blocks(measure[k]); lines(measure[k]); rows(measure[k]) }
+    for (k = 1; k <= measures; k++) if (measure[k] != "skipped") { blocks(measure[k]); lines(measure[k]); rows(measure[k]); live(measure[k]) }
     if (skipped) print "\n" skipped " instructions were left out of the cycles, since llvm-mca does not know them"
     if ("ns" in seen) aims("ns")
     else if ("cycles" in seen) aims("cycles")

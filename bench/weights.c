@@ -1,7 +1,6 @@
 /* The weights: kinds 1 and 2 by document 01's fold rule from the first rows, kind 0 by H.266's numbers of its odd rows. */
 #include "bench.h"
-
-#include <stdlib.h>
+#include "odd_rows.h"
 
 /* first_4, first_8, first_16 and first_32, made of bench/first_rows */
 #include "first_rows.h"
@@ -15,17 +14,11 @@ static int dst_weight(int n, int i, int j) {
     return m == 0 ? 0 : sign * first_row(n)[m - 1];
 }
 
-/* the first weights of the odd rows of 2, 4, 8, 16 and 32 points, one after the other: those of n from n / 2 - 1 on */
-static const int odd_rows[] = {64, 83, 36, 89, 75, 50, 18, 90, 87, 80, 70, 57, 43, 25, 9, 90,
-                               90, 88, 85, 82, 78, 73, 67, 61, 54, 46, 38, 31, 22, 13, 4};
-
 /* an even row is a row of half the points and then the same backwards */
 static int dct_weight(int n, int i, int j) {
     if (n == 1) return 64;
     if (i % 2 == 0) return dct_weight(n / 2, i / 2, j < n - 1 - j ? j : n - 1 - j);
-    int turn = i * (2 * j + 1) % (4 * n), near = turn < 4 * n - turn ? turn : 4 * n - turn;
-    int number = odd_rows[n / 2 - 1 + (near < 2 * n - near ? near : 2 * n - near) / 2];
-    return near > n ? -number : number;
+    return odd_weight(n, i, j);
 }
 
 int weight(int kind, int n, int i, int j) {

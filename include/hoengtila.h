@@ -1,9 +1,9 @@
 /* Hoengtila: DCT-II, DST-VII and DCT-VIII of VVC (H.266), forward and inverse, for C and C++ callers.
  *
  * Every function takes any numbers and any lengths. What the caller owes: each pointer points to as many elements as the length
- * after it says, `totals` to 578, and `shapes` and `answers` of hoengtila_block_row to 64 shapes and 64 answers, whatever `count` is;
- * none is null, not even one whose length is 0, through which nothing is read or written; and what a call writes overlaps nothing else
- * that it is handed, no input and no other output.
+ * after it says, and may be null where that is 0, as nothing is read or written through it then. A pointer without a length is never
+ * null: `totals` points to 578 numbers, and `shapes` and `answers` of hoengtila_block_row to 64 shapes and 64 answers, whatever `count`
+ * is. And what a call writes overlaps nothing else that it is handed, no input and no other output.
  *
  * A call that is turned down hands back one of the numbers below, the first that applies in the order that stands beside the
  * function. Its outputs hold what they held and the other numbers that it hands back are 0, where nothing else is said; but 8, 9
@@ -86,7 +86,9 @@ hoengtila_shape hoengtila_shape_of(uint32_t width, uint32_t height, uint32_t hor
 /* With W(i, j) for hoengtila_weight(kind, n, i, j), the forward gives y[i], the sum over j of W(i, j) * x[j], and the inverse y[j], the
  * sum over i of W(i, j) * x[i]. The first two take the fast path, the others the full product of n * n multiplications; they give the
  * same. The fast path of DST-VII and DCT-VIII shares products between weights: 10, 136 and 664 multiplications at 4, 16 and 32 points;
- * at 8 nothing is shared, and it is the product. That of DCT-II goes by even and odd halves: 16, 32, 96 and 352 at 4, 8, 16 and 32.
+ * at 8 nothing is shared, and it is the product. That of DCT-II goes by even and odd halves: 8, 24, 88 and 344 at 4, 8, 16 and 32.
+ * What the fast path saves is multiplications, and not always time: on x86-64 the product is the quicker one at 16 and 32 points of
+ * DST-VII and DCT-VIII (docs/PERFORMANCE.md has the times).
  * Refusals, in this order: 1, 3, 6, 7. 6 and 7: a buffer that has not n numbers. */
 hoengtila_answer hoengtila_line_forward(uint32_t n, uint32_t kind, const int16_t *x, size_t x_len, int32_t *y, size_t y_len);
 hoengtila_answer hoengtila_line_inverse(uint32_t n, uint32_t kind, const int16_t *x, size_t x_len, int32_t *y, size_t y_len);

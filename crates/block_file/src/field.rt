@@ -2,7 +2,9 @@
 use crate::cursor::Cursor;
 use meaning::Shape;
 ghost use mathlib.Core.Path.{_≡_};
+ghost use mathlib.Core.Bool.{cond};
 ghost use Prim.Native.Nat.{_+_, _≤_, _<_};
+ghost use lib.Dec.{ltb};
 ghost use lib.ListN.{length};
 ghost use Rattle.block_file.specs.Field.{byteAt, lengthAt, shapeAt, headerNumber, fieldNumber, nothing, shapeBehind, fieldAt};
 ghost use Rattle.block_file.specs.Cursor.{foundAt};
@@ -108,6 +110,17 @@ fn shape_behind(file: &[u8], at: usize, shape: Shape) -> Shape
     shape
 }
 
+// "10 header or body cut short": whether the file ends before a place.
+fn cut_number(file: &[u8], end: usize) -> u32
+    ensures { λ r. ⌜ r ≡ cond (ltb (length (now (file .entry))) end) 10 0 ⌝ }
+{
+    if file.len() < end {
+        return 10;
+    }
+    0
+}
+
+// What the header decides is told before a body that is cut short.
 fn field_number(file: &[u8], at: usize, shape: Shape) -> u32
     requires { ⌜ (at < length (now file)) × (length (now file) ≤ 65536) ⌝ }
     ensures { λ r. ⌜ r ≡ fieldNumber (now (file .entry)) at shape ⌝ }
@@ -116,12 +129,13 @@ fn field_number(file: &[u8], at: usize, shape: Shape) -> u32
         return 10;
     }
     let bytes = length_at(file, at);
-    let number = header_number(file[at], bytes, shape);
-    if number != 0 {
-        return number;
+    let header = header_number(file[at], bytes, shape);
+    let body = cut_number(file, at + 3 + bytes);
+    if header != 0 {
+        return header;
     }
-    if file.len() < at + 3 + bytes {
-        return 10;
+    if body != 0 {
+        return body;
     }
     shape_behind(file, at, shape).refusal()
 }

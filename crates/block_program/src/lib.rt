@@ -7,7 +7,6 @@ use block_input::say_unread;
 use block_input::say_unwritten;
 ghost use mathlib.Core.Path.{_≡_};
 ghost use lib.ListN.{length};
-ghost use Rattle.block_program.specs.Refused.{refusedText};
 
 // How a program ends: the file ran to its end, a refusal ended it, it could not be read, its answer could not be written.
 pub const ENDED: u32 = 0;
@@ -25,20 +24,6 @@ fn text_buffer() -> [u8; 524288]
     [0; 524288]
 }
 
-// Whether a refusal ended the run: no other line of a run has the letter R (82).
-fn refused(text: &[u8]) -> bool
-    ensures { λ r. ⌜ r ≡ refusedText (now (text .entry)) ⌝ }
-{
-    let mut i = 0;
-    while i < text.len() {
-        if text[i] == 82 {
-            return true;
-        }
-        i += 1;
-    }
-    false
-}
-
 // Runs the block file that stands on `input`, and writes what it prints to `output`. A file of which a part could not be read
 // prints nothing.
 pub fn answer(input: i32, output: i32) -> u32 {
@@ -49,12 +34,12 @@ pub fn answer(input: i32, output: i32) -> u32 {
         return UNREAD;
     }
     let mut text = text_buffer();
-    let length = block_run::run::run(&file[..count], &mut text);
-    let printed = &text[..length];
-    if !io::write_all(output, printed) {
+    let done = block_run::run::run(&file[..count], &mut text);
+    let length = done.length;
+    if !io::write_all(output, &text[..length]) {
         return UNWRITTEN;
     }
-    if refused(printed) {
+    if done.number != 0 {
         return REFUSED;
     }
     ENDED

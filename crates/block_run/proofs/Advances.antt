@@ -30,7 +30,7 @@ use Rattle.block_file.proofs.Found.{found-cases}
 block-next : (a : Answer) (text : List ℕ) (offset : ℕ) (n : Cursor) → blockTurn a text offset n .next ≡ n
 block-next a text offset n = go (eqb (a .number) 0)
   where
-    go : (b : Bool) → cond b (record { text = text; ends = false; next = n }) (refusedTurn (a .number) offset n) .next ≡ n
+    go : (b : Bool) → cond b (record { text = text; ends = false; number = 0; next = n }) (refusedTurn (a .number) offset n) .next ≡ n
     go true = refl
     go false = refl
 
@@ -102,7 +102,7 @@ module _ (file : List ℕ) (c : Cursor) where
       cond (not (eqb (st .number) 0)) (refusedTurn (st .number) (c .at) (st .next))
       (cond (eqb (st .tag) 2) (inverseTurn (c .shape) (numbers (bytesOf file c)) (c .at) (st .next))
       (cond (eqb (st .tag) 3) (forwardTurn (c .shape) (numbers (bytesOf file c)) (c .at) (st .next))
-      (record { text = []; ends = eqb (st .tag) 0; next = st .next })))
+      (record { text = []; ends = eqb (st .tag) 0; number = 0; next = st .next })))
 
   by-advance : (st : Advance) → st ≡ advanceOf file c → ofAdvance st ≡ turnAt file c
   unfolding turnAt
@@ -118,5 +118,5 @@ module _ (file : List ℕ) (c : Cursor) where
     pub turn-forward : st .number ≡ 0 → st .tag ≡ 3 → forwardTurn (c .shape) (numbers (bytesOf file c)) (c .at) (st .next) ≡ turnAt file c
     turn-forward h t = sym (rw (eq-eqb (st .number) 0 h, t)) ∙ by-advance st e
 
-    pub turn-silent : st .number ≡ 0 → (st .tag ≡ 2 → ⊥) → (st .tag ≡ 3 → ⊥) → record { text = []; ends = eqb (st .tag) 0; next = st .next } ≡ turnAt file c
+    pub turn-silent : st .number ≡ 0 → (st .tag ≡ 2 → ⊥) → (st .tag ≡ 3 → ⊥) → record { text = []; ends = eqb (st .tag) 0; number = 0; next = st .next } ≡ turnAt file c
     turn-silent h b d = sym (rw (eq-eqb (st .number) 0 h, ne-eqb (st .tag) 2 b, ne-eqb (st .tag) 3 d)) ∙ by-advance st e

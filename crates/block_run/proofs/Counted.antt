@@ -5,12 +5,13 @@ use Prim.Native.Nat.{ℕ, _≤_}
 use native.Mathlib.Omega.{arith}
 use lib.ListN.{length, take, drop, length-append}
 use lib.Seq.{length-take-le}
+use Rattle.block_run.specs.declared.run.RunDone.{RunDone}
 use Rattle.block_run.specs.Run.{printed, runOutcome}
 
-pub run-counts : (file text text′ : List ℕ) (r : ℕ) → _≡_ {A = ℕ × List ℕ} (r, text′) (runOutcome file text) → (r ≤ length text′) × (r ≡ length (take r text′))
+pub run-counts : (file text text′ : List ℕ) (r : RunDone) → _≡_ {A = RunDone × List ℕ} (r, text′) (runOutcome file text) → (r .length ≤ length text′) × (r .length ≡ length (take (r .length) text′))
 run-counts file text text′ r e =
     let all = printed file in
-    let n : r ≡ length all = ap (λ (x : ℕ × List ℕ). x .0) e in
-    let l : length text′ ≡ length (all ++ drop (length all) text) = ap (λ (x : ℕ × List ℕ). length (x .1)) e in
-    let h : r ≤ length text′ = omega (arith, n, l ∙ length-append all (drop (length all) text)) in
-    (h, sym (length-take-le r text′ h))
+    let n : r .length ≡ length all = ap (λ (x : RunDone × List ℕ). x .0 .length) e in
+    let l : length text′ ≡ length (all ++ drop (length all) text) = ap (λ (x : RunDone × List ℕ). length (x .1)) e in
+    let h : r .length ≤ length text′ = omega (arith, n, l ∙ length-append all (drop (length all) text)) in
+    (h, sym (length-take-le (r .length) text′ h))

@@ -5,18 +5,18 @@ use mathlib.Core.List.{List, [], _∷_, map}
 use Prim.Native.Nat.{ℕ}
 use Rattle.meaning.proofs.Numbers as calls
 use Rattle.meaning.proofs.Numbers.{_and_}
-use Rattle.block_run.specs.Run.{printed}
-use Rattle.block_run.proofs.Printed.{wholeCase, wholeText, whole-case}
+use Rattle.block_run.specs.Run.{printed, refusal}
+use Rattle.block_run.proofs.Printed.{wholeCase, wholeText, whole-case, whole-ends}
 
 pub data Item : Type 0 where
   -- an item of lines or blocks
   call : calls.Item → Item
-  -- a file and its text
+  -- a file that no refusal ends, and its text
   prints : List ℕ → List ℕ → Item
 
 abbrev pub Says : Item → Type 0
 Says (call i) = calls.Says i
-Says (prints file text) = printed file ≡ text
+Says (prints file text) = (printed file ≡ text) × (refusal file ≡ 0)
 
 abbrev pub items : List Item
 items = prints wholeCase wholeText ∷ map call calls.items
@@ -32,4 +32,6 @@ calls-hold [] calls.none = none
 calls-hold (i ∷ is) (p and h) = p also calls-hold is h
 
 pub items-hold : Hold items
-items-hold = whole-case also calls-hold calls.items calls.items-hold
+items-hold =
+    let whole : Says (prints wholeCase wholeText) = (whole-case, whole-ends) in
+    whole also calls-hold calls.items calls.items-hold

@@ -1,7 +1,8 @@
--- Files whose text is known. Assumes nothing.
+-- Files whose text and number are known. Assumes nothing.
 use mathlib.Core.Path.{_≡_, refl}
 use mathlib.Core.List.{List, [], _∷_}
 use Prim.Native.Nat.{ℕ}
+use lib.ListN.{take}
 use Rattle.algebra.specs.Sum.{sum, sumℕ}
 use Rattle.algebra.specs.Lists.{tabulate, block}
 use Rattle.algebra.specs.First.{firstAt}
@@ -14,7 +15,7 @@ use Rattle.block_file.specs.Field.{shapeNumber, fieldNumber, fieldAt}
 use Rattle.block_file.specs.Cursor.{foundAt}
 use Rattle.block_numbers.specs.Numbers.{signed16}
 use Rattle.block_text.specs.Text.{digits, decimal, line}
-use Rattle.block_run.specs.Run.{turnAt, printedFrom, printed}
+use Rattle.block_run.specs.Run.{turnAt, printedFrom, refusalFrom, printed, refusal}
 
 -- "Whole case, in hex: 01 00 05 04 04 01 01 0A 02 00 20 00 40 and thirty bytes 00"
 abbrev pub wholeCase : List ℕ
@@ -27,6 +28,15 @@ wholeText = 73 ∷ 32 ∷ 52 ∷ 32 ∷ 52 ∷ 32 ∷ 48 ∷ 32 ∷ 48 ∷ 32 �
 pub whole-case : printed wholeCase ≡ wholeText
 unfolding printed printedFrom turnAt foundAt fieldAt fieldNumber shapeNumber signed16 digits decimal line isSize isKind isDepth mostKept keeps shortRange first fold S C weight inverseSum columnSum middleAt rails rowSum residual inverseBlock sum sumℕ tabulate block firstAt
 whole-case = refl
+
+pub whole-ends : refusal wholeCase ≡ 0
+unfolding refusal refusalFrom turnAt foundAt fieldAt fieldNumber shapeNumber signed16 isSize isKind isDepth mostKept keeps shortRange first fold S C weight inverseSum columnSum middleAt rails rowSum residual inverseBlock sum sumℕ tabulate block firstAt
+whole-ends = refl
+
+-- without its last byte: "10 header or body cut short"
+pub cut-ends : refusal (take 42 wholeCase) ≡ 10
+unfolding refusal refusalFrom turnAt foundAt fieldAt fieldNumber shapeNumber isSize isKind isDepth mostKept keeps
+cut-ends = refl
 
 -- "An empty file prints nothing"
 pub empty : printed [] ≡ []

@@ -28,13 +28,13 @@ pub same-turn : {t u : Turn} {m at : ℕ} {o o₁ : List ℕ} {d : TurnDone} →
 same-turn {m = m} {at = at} {o = o} {o₁ = o₁} {d = d} e a = subst (λ (t : Turn). Does t m at o o₁ d) e a
 
 pub at-most : {t : Turn} {m n at : ℕ} {o o₁ : List ℕ} {d : TurnDone} → Does t m at o o₁ d → m ≤ n → Does t n at o o₁ d
-at-most a h = record { wrote = within (a .wrote) h; ends = a .ends; next = a .next }
+at-most a h = record { wrote = within (a .wrote) h; ends = a .ends; number = a .number; next = a .next }
 
 -- a block that 8 or 9 refuses, and one that was run
 pub block-refused : (a : Answer) (text : List ℕ) (offset : ℕ) (n : Cursor) → (a .number ≡ 0 → ⊥) → refusedTurn (a .number) offset n ≡ blockTurn a text offset n
 block-refused a text offset n h = rw (ne-eqb (a .number) 0 h)
 
-pub block-made : (a : Answer) (text : List ℕ) (offset : ℕ) (n : Cursor) → a .number ≡ 0 → record { text = text; ends = false; next = n } ≡ blockTurn a text offset n
+pub block-made : (a : Answer) (text : List ℕ) (offset : ℕ) (n : Cursor) → a .number ≡ 0 → record { text = text; ends = false; number = 0; next = n } ≡ blockTurn a text offset n
 block-made a text offset n h = rw (eq-eqb (a .number) 0 h)
 
 -- ---- what a call of the inverse or of the forward makes of a turn: z is what its output held
@@ -48,13 +48,13 @@ module _ (sh : Shape) (c z : List ℤ) (offset : ℕ) (n : Cursor) (a : Answer) 
   pub inverse-refused : _≡_ {A = Outcome} (a, l) (inverseOutcome sh c z) → (a .number ≡ 0 → ⊥) → refusedTurn (a .number) offset n ≡ inverseTurn sh c offset n
   inverse-refused e h = block-refused a (inverseText (sh .width) (sh .height) (a .rails) l) offset n h ∙ ap inverseOf (e ∙ ap (inverseOutcome sh c) b)
 
-  pub inverse-made : _≡_ {A = Outcome} (a, l) (inverseOutcome sh c z) → a .number ≡ 0 → record { text = inverseText (sh .width) (sh .height) (a .rails) l; ends = false; next = n } ≡ inverseTurn sh c offset n
+  pub inverse-made : _≡_ {A = Outcome} (a, l) (inverseOutcome sh c z) → a .number ≡ 0 → record { text = inverseText (sh .width) (sh .height) (a .rails) l; ends = false; number = 0; next = n } ≡ inverseTurn sh c offset n
   inverse-made e h = block-made a (inverseText (sh .width) (sh .height) (a .rails) l) offset n h ∙ ap inverseOf (e ∙ ap (inverseOutcome sh c) b)
 
   pub forward-refused : _≡_ {A = Outcome} (a, l) (forwardOutcome sh c z) → (a .number ≡ 0 → ⊥) → refusedTurn (a .number) offset n ≡ forwardTurn sh c offset n
   forward-refused e h = block-refused a (forwardText (sh .width) (sh .height) l) offset n h ∙ ap forwardOf (e ∙ ap (forwardOutcome sh c) b)
 
-  pub forward-made : _≡_ {A = Outcome} (a, l) (forwardOutcome sh c z) → a .number ≡ 0 → record { text = forwardText (sh .width) (sh .height) l; ends = false; next = n } ≡ forwardTurn sh c offset n
+  pub forward-made : _≡_ {A = Outcome} (a, l) (forwardOutcome sh c z) → a .number ≡ 0 → record { text = forwardText (sh .width) (sh .height) l; ends = false; number = 0; next = n } ≡ forwardTurn sh c offset n
   forward-made e h = block-made a (forwardText (sh .width) (sh .height) l) offset n h ∙ ap forwardOf (e ∙ ap (forwardOutcome sh c) b)
 
 -- ---- half of a body's bytes is the count of the block's numbers

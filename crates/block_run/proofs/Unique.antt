@@ -4,8 +4,9 @@ use mathlib.Core.Path.{_≡_}
 use mathlib.Core.List.{List}
 use Prim.Native.Nat.{ℕ}
 use Rattle.algebra.proofs.Unique.{one}
+use Rattle.block_run.specs.declared.run.RunDone.{RunDone}
 use Rattle.block_run.specs.Run.{runOutcome}
 
--- the length, and every byte of the buffer
-pub one-run : (file text : List ℕ) {x y : ℕ × List ℕ} → x ≡ runOutcome file text → y ≡ runOutcome file text → x ≡ y
+-- the length, the number, and every byte of the buffer
+pub one-run : (file text : List ℕ) {x y : RunDone × List ℕ} → x ≡ runOutcome file text → y ≡ runOutcome file text → x ≡ y
 one-run file text p q = one p q

@@ -20,6 +20,7 @@ pub record Fits (shape : Shape) (body : List ℕ) : Type 0 where
 pub record Does (turn : Turn) (most at : ℕ) (out out′ : List ℕ) (done : TurnDone) : Type 0 where
   pub wrote : Wrote (turn .text) most at out out′ (done .at)
   pub ends : done .ends ≡ turn .ends
+  pub number : done .number ≡ turn .number
   pub next : done .next ≡ turn .next
 
 -- a turn that does not end the run moves on within a file that is not too long, and prints at most seven bytes for each byte

@@ -1,4 +1,4 @@
--- Document 01, "The block file and its program": what a file prints, field by field.
+-- Document 01, "The block file and its program": what a file prints, field by field, and the number of the refusal that ends it.
 use mathlib.Core.Bool.{Bool, true, false, cond, not}
 use mathlib.Core.List.{List, [], _++_}
 use Prim.Native.Nat.{ℕ, zero, suc, _*_}
@@ -14,11 +14,13 @@ use Rattle.block_file.specs.declared.cursor.Cursor.{Cursor}
 use Rattle.block_file.specs.Cursor.{fileStart, advanceOf, bytesOf}
 use Rattle.block_numbers.specs.Numbers.{numbers}
 use Rattle.block_text.specs.Text.{inverseText, forwardText, refusalText}
+use Rattle.block_run.specs.declared.run.RunDone.{RunDone}
 
--- what a field prints, whether the run ends with it, and the cursor behind it
+-- what a field prints, whether the run ends with it, the number of its refusal or 0, and the cursor behind it
 pub record Turn : Type 0 where
   pub text : List ℕ
   pub ends : Bool
+  pub number : ℕ
   pub next : Cursor
 
 -- what the output of a block holds before it is run: w*h numbers
@@ -27,12 +29,12 @@ blank shape = tabulate (shape .width * shape .height) (λ k. pos 0)
 
 -- "The first refusal ends the run": "R number offset"
 abbrev pub refusedTurn : ℕ → ℕ → Cursor → Turn
-refusedTurn number offset next = record { text = refusalText number offset; ends = true; next = next }
+refusedTurn number offset next = record { text = refusalText number offset; ends = true; number = number; next = next }
 
 -- a block that was run, and its line: 8 or 9 refuses it
 abbrev pub blockTurn : Answer → List ℕ → ℕ → Cursor → Turn
 blockTurn answer text offset next =
-    cond (eqb (answer .number) 0) (record { text = text; ends = false; next = next }) (refusedTurn (answer .number) offset next)
+    cond (eqb (answer .number) 0) (record { text = text; ends = false; number = 0; next = next }) (refusedTurn (answer .number) offset next)
 
 -- "Tag 02: coefficients, 2 bytes each: run the inverse"
 abbrev pub inverseTurn : Shape → List ℤ → ℕ → Cursor → Turn
@@ -54,7 +56,7 @@ turnAt file cursor =
     cond (not (eqb (advance .number) 0)) (refusedTurn (advance .number) (cursor .at) (advance .next))
     (cond (eqb (advance .tag) 2) (inverseTurn (cursor .shape) (numbers (bytesOf file cursor)) (cursor .at) (advance .next))
     (cond (eqb (advance .tag) 3) (forwardTurn (cursor .shape) (numbers (bytesOf file cursor)) (cursor .at) (advance .next))
-    (record { text = []; ends = eqb (advance .tag) 0; next = advance .next })))
+    (record { text = []; ends = eqb (advance .tag) 0; number = 0; next = advance .next })))
 
 -- at most k fields from a cursor on: "lines printed before it stand"
 unfoldable pub printedFrom : ℕ → List ℕ → Cursor → List ℕ
@@ -63,10 +65,20 @@ printedFrom (suc k) file cursor =
     let turn = turnAt file cursor in
     turn .text ++ cond (turn .ends) [] (printedFrom k file (turn .next))
 
--- a file has no more fields than bytes (proofs/Fuel: any larger number prints the same). "An empty file prints nothing"
+-- "The first refusal ends the run": its number, and 0 where none does
+unfoldable pub refusalFrom : ℕ → List ℕ → Cursor → ℕ
+refusalFrom zero file cursor = 0
+refusalFrom (suc k) file cursor =
+    let turn = turnAt file cursor in
+    cond (turn .ends) (turn .number) (refusalFrom k file (turn .next))
+
+-- a file has no more fields than bytes (proofs/Fuel: any larger number gives the same). "An empty file prints nothing"
 unfoldable pub printed : List ℕ → List ℕ
 printed file = printedFrom (length file) file fileStart
 
+unfoldable pub refusal : List ℕ → ℕ
+refusal file = refusalFrom (length file) file fileStart
+
 -- what the run hands back, and what its buffer holds then: "lines printed" and, behind them, what it held
-abbrev pub runOutcome : List ℕ → List ℕ → ℕ × List ℕ
-runOutcome file text = (length (printed file), over (printed file) text)
+abbrev pub runOutcome : List ℕ → List ℕ → RunDone × List ℕ
+runOutcome file text = (record { length = length (printed file); number = refusal file }, over (printed file) text)

@@ -15,11 +15,19 @@ ghost use Rattle.block_numbers.specs.Numbers.{numbers};
 ghost use Rattle.block_run.specs.Run.{blank, refusedTurn, inverseTurn, forwardTurn, turnAt, runOutcome};
 ghost use Rattle.block_run.specs.Does.{Fits, Does, Follows};
 
-// What a turn hands back: the place behind its text, whether the run ends with it, and the next cursor.
+// What a turn hands back: the place behind its text, whether the run ends with it, the number of its refusal or 0, and the next
+// cursor.
 struct TurnDone {
     at: usize,
     ends: bool,
+    number: u32,
     next: Cursor,
+}
+
+/// What a run hands back: the length of its text, and the number of the refusal that ended it or 0.
+pub struct RunDone {
+    pub length: usize,
+    pub number: u32,
 }
 
 // "The first refusal ends the run".
@@ -31,6 +39,7 @@ fn refused(number: u32, offset: usize, next: Cursor, text: &mut [u8], at: usize)
     TurnDone {
         at: end,
         ends: true,
+        number,
         next,
     }
 }
@@ -60,6 +69,7 @@ fn inverse_line(
     TurnDone {
         at: end,
         ends: false,
+        number: 0,
         next,
     }
 }
@@ -88,6 +98,7 @@ fn forward_line(
     TurnDone {
         at: end,
         ends: false,
+        number: 0,
         next,
     }
 }
@@ -183,22 +194,25 @@ fn turn(file: &[u8], cursor: Cursor, text: &mut [u8], at: usize) -> TurnDone
     TurnDone {
         at,
         ends: tag == 0,
+        number: 0,
         next,
     }
 }
 
-/// Puts what the file prints at the start of `text`, and returns its length. Any bytes.
-pub fn run(file: &[u8], text: &mut [u8; 524288]) -> usize
-    ensures { λ r. ⌜ _≡_ {A = ℕ × List ℕ} (r, now (text .exit)) (runOutcome (now (file .entry)) (now (text .entry))) ⌝ }
+/// Puts what the file prints at the start of `text`. Any bytes.
+pub fn run(file: &[u8], text: &mut [u8; 524288]) -> RunDone
+    ensures { λ r. ⌜ _≡_ {A = RunDone × List ℕ} (r, now (text .exit)) (runOutcome (now (file .entry)) (now (text .entry))) ⌝ }
 {
     let mut cursor = Cursor::new();
     let mut at = 0;
+    let mut number = 0;
     let mut on = true;
     while on {
         let done = turn(file, cursor, text, at);
         at = done.at;
+        number = done.number;
         on = !done.ends;
         cursor = done.next;
     }
-    at
+    RunDone { length: at, number }
 }

@@ -2,7 +2,7 @@
 // functions ask that sizes and lengths were tested before, so they have a `requires`; every function that a user calls stands in
 // `line` and has none. Read specs/Lines.
 use product::line;
-use tables::stage::put_1024;
+use stage_weights::put_1024;
 use tables::zipped::zipped_4;
 use tables::zipped::zipped_8;
 use tables::zipped::zipped_16;

@@ -25,7 +25,14 @@ pub fn plus(a: i32, b: i32) -> i32
     a + b
 }
 
-// In 32 bits, where -32768 has a negative too.
+// Two inputs, or one and the negative of another: 16 bits would not hold every sum.
+pub fn two_inputs(first: i32, second: i32) -> i32
+    requires { ⌜ (natAbs first ≤ 32768) × (natAbs second ≤ 32768) ⌝ }
+    ensures { λ r. ⌜ r ≡ first +ℤ second ⌝ }
+{
+    first + second
+}
+
 pub fn negated(a: i32) -> i32
     requires { ⌜ natAbs a ≤ 1000000000 ⌝ }
     ensures { λ r. ⌜ r ≡ negℤ a ⌝ }
@@ -38,4 +45,15 @@ pub fn sign(less: bool, a: i32) -> i32
     ensures { λ r. ⌜ r ≡ signed less a ⌝ }
 {
     if less { negated(a) } else { a }
+}
+
+// An input with its sign changed where asked: in 32 bits, where -32768 has a negative too.
+pub fn sign_of_input(less: bool, input: i16) -> i32
+    ensures { λ r. ⌜ (r ≡ signed less input) × (natAbs r ≤ 32768) ⌝ }
+{
+    if less {
+        0 - (input as i32)
+    } else {
+        input as i32
+    }
 }

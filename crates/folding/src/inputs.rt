@@ -2,6 +2,7 @@
 // place g in every row of the class.
 use crate::arith::plus;
 use crate::arith::sign;
+use crate::arith::two_inputs;
 use crate::places::nearer;
 use crate::places::taken;
 ghost use mathlib.Core.Path.{_≡_};
@@ -23,7 +24,7 @@ fn leading_input(x: &[i16], n: usize, p: usize, q: usize, back: bool, g: usize) 
         return own;
     }
     let last = taken(x, n, back, p / 2 * q + (nearer(r, q) - 1));
-    plus(own, sign(g / q + 1 < p / 2, last))
+    two_inputs(own, sign(g / q + 1 < p / 2, last))
 }
 
 // Features 2 and 3: two of each whole stretch of q places, and one of the last.
@@ -36,7 +37,7 @@ fn periodic_input(x: &[i16], n: usize, q: usize, back: bool, g: usize) -> i32
     while k < n / q {
         let first = taken(x, n, back, k * q + g);
         let second = taken(x, n, back, k * q + q - 2 - g);
-        sum = plus(sum, sign(k % 2 == 1, plus(first, second)));
+        sum = plus(sum, sign(k % 2 == 1, two_inputs(first, second)));
         k += 1;
     }
     plus(sum, sign(k % 2 == 1, taken(x, n, back, k * q + g)))

@@ -1,7 +1,6 @@
 // Inverse, the sums of the first places of a class, from the inputs where they stand.
 use crate::arith::mac;
-use crate::arith::sign;
-use crate::arith::wide;
+use crate::arith::sign_of_input;
 use crate::places::stored;
 ghost use Prim.Native.Nat.{_+_, _<_};
 ghost use Rattle.folding.specs.Lines.{used};
@@ -12,7 +11,7 @@ pub fn row(w: &[i16], n: usize, i: usize, m: usize, x: &[i16], change: bool, a: 
     requires { ⌜ (i < n) × Adding n m i (now w) (now x) (now a) ⌝ }
     ensures { λ _. ⌜ Added n m i (used change (now (x .entry)) i) (now (a .entry)) (now (a .exit)) × Adding n m (i + 1) (now (w .entry)) (now (x .entry)) (now (a .exit)) ⌝ }
 {
-    let v = sign(change & (i % 2 == 1), wide(x[i]));
+    let v = sign_of_input(change & (i % 2 == 1), x[i]);
     let mut g = 0;
     while g < m {
         a[g] = mac(a[g], stored(w, n, i, g), v);

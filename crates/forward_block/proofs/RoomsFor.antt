@@ -12,7 +12,7 @@ use Rattle.meaning.specs.Shape.{isSize}
 use Rattle.meaning.specs.Taken.{Taken}
 use Rattle.meaning.proofs.Cases.{size-cases, size-in}
 use Rattle.meaning.proofs.KeptPart.{columns-kept}
-use Rattle.tables.specs.Stage.{Weights}
+use Rattle.stage_weights.specs.Stage.{Weights}
 use Rattle.forward_block.specs.Stage.{Outputs, Rooms}
 
 -- how much room the weights of all inputs in n outputs take

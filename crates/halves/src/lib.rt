@@ -1,7 +1,3 @@
-// Internal: lines of kind 0 by their even and odd halves, for calls that were tested, so with a `requires`. Read specs/Halves; of
-// proofs/, ByHalves, which has the split once over the size, and Halved, that every size's weights are such; then inverse and forward,
-// with specs/Lines. table has the weights of the odd halves, arith sums in 32 bits.
-pub mod arith;
-pub mod forward;
-pub mod inverse;
-pub mod table;
+// The law of halves for kind 0: a line of n points is a line of half of them over the even inputs or the sums from both ends, and a
+// product over the odd ones. There is no code here. Read specs/Halves; of proofs/, ByHalves, which has the split once over the size,
+// and Halved, that every size's weights are such. The lines that go by it stand in `dct2_line`.

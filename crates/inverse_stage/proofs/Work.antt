@@ -26,7 +26,7 @@ use Rattle.meaning.proofs.Cases.{size-cases, size-in}
 use Rattle.meaning.proofs.Sizes.{weightSize}
 use Rattle.product.specs.Product.{Laid, lineSum, shifted, Rounding, Lines}
 use Rattle.product.proofs.Laid.{laid-less, block-laid, lines-given, lines-are, half-is, half-rounds}
-use Rattle.tables.specs.Stage.{Weights}
+use Rattle.stage_weights.specs.Stage.{Weights}
 use Rattle.layout.specs.Zip.{Rows}
 use Rattle.layout.proofs.Zipping.{size-even, rows-given}
 use Rattle.inverse_stage.specs.Given.{GivenStages, Room}

@@ -1,6 +1,6 @@
 -- What the lines ask for, from what a call has passed. Assumes nothing.
-use mathlib.Core.Path.{_≡_, refl, subst}
-use mathlib.Core.Bool.{true, _&&_}
+use mathlib.Core.Path.{_≡_, refl, sym, subst}
+use mathlib.Core.Bool.{true, false, _&&_, false≢true}
 use mathlib.Core.List.{List}
 use Prim.Native.Nat.{ℕ}
 use borrow.Author.Tests.{ltb-true}
@@ -27,16 +27,20 @@ place kind n i j e =
 pub halves-given : {n kind a b : ℕ} → TakenLine n kind a b → kind ≡ 0 → TakenLine n 0 a b
 halves-given {n} {kind} {a} {b} p e = subst (λ (k : ℕ). TakenLine n k a b) e p
 
--- the product of 8 points
-pub eight : {n kind a b : ℕ} → TakenLine n kind a b → n ≡ 8 → TakenLine 8 kind a b
-eight {n} {kind} {a} {b} p e = subst (λ (m : ℕ). TakenLine m kind a b) e p
-
--- the folded lines, of the other kinds and sizes
-pub folded-given : {n kind : ℕ} {x y : List ℤ} → TakenLine n kind (length x) (length y) → (kind ≡ 0 → ⊥) → (n ≡ 8 → ⊥) → Folded.GivenLine n kind x y
-folded-given {n} {kind} p k d =
+-- the folded lines, of the other kinds at the sizes with shared weights
+pub folded-given : {n kind : ℕ} {x y : List ℤ} → TakenLine n kind (length x) (length y) → (kind ≡ 0 → ⊥) → isShared n ≡ true → Folded.GivenLine n kind x y
+folded-given {n} {kind} p k s =
     record {
-      size = size-cases (λ n. (n ≡ 8 → ⊥) → isShared n ≡ true) (λ d. refl) (λ d. absurd (d refl)) (λ d. refl) (λ d. refl) n (p .size) d;
+      size = s;
       known = kind-cases (λ k. (k ≡ 0 → ⊥) → isFolded k ≡ true) (λ k. refl) (λ k. refl) (λ k. absurd (k refl)) kind (p .known) k;
       inputs = p .long;
       outputs = p .room;
     }
+
+-- the product of 8 points, the one size without
+pub without : {n kind a b : ℕ} → TakenLine n kind a b → isShared n ≡ false → n ≡ 8
+without {n} p s =
+    size-cases (λ n. isShared n ≡ false → n ≡ 8) (λ s. absurd (false≢true (sym s))) (λ s. refl) (λ s. absurd (false≢true (sym s))) (λ s. absurd (false≢true (sym s))) n (p .size) s
+
+pub eight : {n kind a b : ℕ} → TakenLine n kind a b → isShared n ≡ false → TakenLine 8 kind a b
+eight {n} {kind} {a} {b} p s = subst (λ (m : ℕ). TakenLine m kind a b) (without p s) p

@@ -1,6 +1,6 @@
 // Lines: the weights one by one, and lines of 4, 8, 16 and 32 points, over any numbers and any buffers. `forward` and `inverse` go
 // the fast path, `forward_product` and `inverse_product` the full product; the two of a direction have one contract. Read specs/Line,
-// then proofs/Agreement and proofs/Unique. The work behind them stands in `folded`, `halves` and `engine`.
+// then proofs/Agreement and proofs/Unique. The work behind them stands in `folded`, `dct2_line` and `engine`.
 use engine::eight;
 use engine::full;
 use meaning::Answer;
@@ -14,8 +14,10 @@ ghost use mathlib.Core.Bool.{true, false};
 ghost use lib.ListN.{length};
 ghost use Rattle.algebra.specs.Lists.{at};
 ghost use Rattle.algebra.specs.Refusals.{numberOf};
+ghost use Rattle.meaning.specs.Shape.{isSize};
 ghost use Rattle.meaning.specs.Answer.{Outcome, lineTests, forwardLineOutcome, inverseLineOutcome};
 ghost use Rattle.engine.specs.Lines.{lineOf};
+ghost use Rattle.folding.specs.Lines.{isShared};
 ghost use Rattle.line.specs.Line.{isPlace, weightOrZero, lineOutcome};
 
 fn is_place(kind: u32, n: u32, i: u32, j: u32) -> bool
@@ -43,18 +45,26 @@ pub fn weight(kind: u32, n: u32, i: u32, j: u32) -> i32
     engine::weight(n as usize, kind, i as usize, j as usize)
 }
 
-// A line that was accepted, by its folds, or of kind 0 by its halves. At 8 points of the other kinds nothing is shared, and the
-// product is the only path. The directions are apart, so that neither has the other's numbers on its stack.
+// The sizes with shared weights, of kinds 1 and 2: all but 8.
+fn is_shared(n: u32) -> bool
+    requires { ⌜ isSize n ≡ true ⌝ }
+    ensures { λ r. ⌜ r ≡ isShared n ⌝ }
+{
+    n != 8
+}
+
+// A line that was accepted, by its folds, or of kind 0 by its halves. Where nothing is shared the product is the only path. The
+// directions are apart, so that neither has the other's numbers on its stack.
 fn fast_forward(n: u32, kind: u32, x: &[i16], y: &mut [i32])
     requires { ⌜ numberOf (lineTests n kind (length (now x)) (length (now y))) ≡ 0 ⌝ }
     ensures { λ _. ⌜ now (y .exit) ≡ lineOf true kind n (at (now (x .entry))) ⌝ }
 {
     if kind == 0 {
-        halves::forward::forward(n as usize, x, y);
-    } else if n == 8 {
-        eight(kind, true, x, y);
-    } else {
+        dct2_line::forward::forward(n as usize, x, y);
+    } else if is_shared(n) {
         folded::forward::forward(n as usize, kind, x, y);
+    } else {
+        eight(kind, true, x, y);
     }
 }
 
@@ -63,11 +73,11 @@ fn fast_inverse(n: u32, kind: u32, x: &[i16], y: &mut [i32])
     ensures { λ _. ⌜ now (y .exit) ≡ lineOf false kind n (at (now (x .entry))) ⌝ }
 {
     if kind == 0 {
-        halves::inverse::inverse(n as usize, x, y);
-    } else if n == 8 {
-        eight(kind, false, x, y);
-    } else {
+        dct2_line::inverse::inverse(n as usize, x, y);
+    } else if is_shared(n) {
         folded::inverse::inverse(n as usize, kind, x, y);
+    } else {
+        eight(kind, false, x, y);
     }
 }
 

@@ -26,7 +26,7 @@ use Rattle.meaning.proofs.LongRules.{reach-in, last-in, around}
 use Rattle.meaning.proofs.LongSizes.{long-residual-fits}
 use Rattle.product.specs.Product.{spot, Laid}
 use Rattle.product.proofs.Summing.{odd-place}
-use Rattle.tables.specs.Stage.{Weights}
+use Rattle.stage_weights.specs.Stage.{Weights}
 use Rattle.layout.proofs.Alive as alive
 use Rattle.long_stages.specs.Sums.{dotted}
 use Rattle.long_stages.specs.Work.{columnAt, railOf, Down, rowAt, Along, GivenLong}

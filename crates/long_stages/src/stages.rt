@@ -7,7 +7,7 @@ use crate::rules::last_shift;
 use crate::rules::reach_of;
 use crate::sums::dot;
 use meaning::Shape;
-use tables::stage::put_1024;
+use stage_weights::put_1024;
 ghost use mathlib.Core.Path.{_≡_};
 ghost use mathlib.Core.List.{_++_};
 ghost use Prim.Native.Nat.{_+_, _*_, _≤_, _<_};

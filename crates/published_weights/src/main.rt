@@ -102,12 +102,12 @@ fn decoder_dct() {
 
 fn matrices() {
     let d4 = numbers::DCT_4;
-    compare(b"H.266, DCT-II of 4 points", 0, 4, &d4);
+    compare(b"FFmpeg 7.1.5, DCT-II of 4 points", 0, 4, &d4);
     let d8 = numbers::DCT_8;
-    compare(b"H.266, DCT-II of 8 points", 0, 8, &d8);
+    compare(b"FFmpeg 7.1.5, DCT-II of 8 points", 0, 8, &d8);
     let d16 = numbers::DCT_16;
     compare_odd(
-        b"H.266, DCT-II of 16 points, first half of the odd rows",
+        b"FFmpeg 7.1.5, DCT-II of 16 points, first half of the odd rows",
         16,
         8,
         &d16,
@@ -117,28 +117,28 @@ fn matrices() {
 fn odd_rows() {
     let o4 = numbers::ODD_4;
     compare_odd(
-        b"H.266, DCT-II of 4 points, odd rows' first weights",
+        b"FFmpeg 7.1.5, DCT-II of 4 points, odd rows' first weights",
         4,
         1,
         &o4,
     );
     let o8 = numbers::ODD_8;
     compare_odd(
-        b"H.266, DCT-II of 8 points, odd rows' first weights",
+        b"FFmpeg 7.1.5, DCT-II of 8 points, odd rows' first weights",
         8,
         1,
         &o8,
     );
     let o16 = numbers::ODD_16;
     compare_odd(
-        b"H.266, DCT-II of 16 points, odd rows' first weights",
+        b"FFmpeg 7.1.5, DCT-II of 16 points, odd rows' first weights",
         16,
         1,
         &o16,
     );
     let o32 = numbers::ODD_32;
     compare_odd(
-        b"H.266, DCT-II of 32 points, odd rows' first weights",
+        b"FFmpeg 7.1.5, DCT-II of 32 points, odd rows' first weights",
         32,
         1,
         &o32,

@@ -214,7 +214,7 @@ pub const EQUATION_12: [i32; 32] = [
     90,
 ];
 
-// H.266, clause 8.7.4: the DCT-II matrices of 4 and of 8 points, the first half of the odd rows of 16 points, and the first
+// FFmpeg 7.1.5: the DCT-II matrices of 4 and of 8 points, the first half of the odd rows of 16 points, and the first
 // weights of the odd rows of 4, 8, 16 and 32 points.
 pub const DCT_4: [i32; 16] = [
     64,

@@ -1,3 +1,4 @@
+pub mod Cases
 pub mod Forms
 pub mod Count
 pub mod Inside

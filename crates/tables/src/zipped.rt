@@ -1,5 +1,5 @@
-// Made by crates/tables/make: the weights in the order in which lines read them, those of inputs 2k and 2k + 1 in output j side
-// by side at 2 * j + k * 2n. A `const` array is built anew at each use, so each is handed out by value and lent from there.
+// Made by crates/tables/make; do not edit. The weights in the order in which lines read them, those of inputs 2k and 2k + 1 in output j
+// side by side at 2 * j + k * 2n. A `const` array is built anew at each use, so each is handed out by value and lent from there.
 // What kind and direction take is chosen here and nowhere else. Read specs/Term; proofs/zipped has the rule over each table, by one
 // computed test.
 ghost use mathlib.Core.Path.{_≡_};

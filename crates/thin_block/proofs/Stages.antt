@@ -14,7 +14,7 @@ use Rattle.meaning.specs.declared.Shape.{Shape}
 use Rattle.meaning.specs.Shape.{isLongDepth}
 use Rattle.meaning.specs.Plan.{shortRange, rangeOf, reach, planOf}
 use Rattle.meaning.specs.Inverse.{middle, middleAt, rails, inverseBlock}
-use Rattle.tables.specs.Stage.{Weights}
+use Rattle.stage_weights.specs.Stage.{Weights}
 use Rattle.layout.proofs.Zipping.{size-even}
 use Rattle.long_stages.specs.Work.{columnAt, railOf, Down, rowAt, Along, GivenLong}
 use Rattle.long_stages.proofs.Whole.{columns-given, rails-read, middles-read, rows-given, block-read}

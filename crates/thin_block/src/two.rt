@@ -6,7 +6,7 @@ use long_stages::stages::middles;
 use long_stages::stages::residuals;
 use long_stages::wide::widen;
 use meaning::Shape;
-use tables::stage::put_1024;
+use stage_weights::put_1024;
 ghost use mathlib.Core.Path.{_≡_};
 ghost use Rattle.algebra.specs.Lists.{block};
 ghost use Rattle.meaning.specs.Plan.{planOf};

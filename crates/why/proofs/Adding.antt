@@ -81,7 +81,7 @@ module _ (shape between : List Refusal) (p : Plan) (c out : List ℤ) (place : �
       let w : 0 < p .width = some (p .width) below in
       ap (λ (r : Parts). r .clippings) told
       ∙ clippings-none p c (place % p .width) (place / p .width)
-      (λ i hi. no-rails p c rails-none i (place / p .width) hi (div-lt-iff-lt-mul w .1 (omega (arith, below, mul-comm (p .width) (p .height)))))
+      (λ i hi used. no-rails p c rails-none i (place / p .width) hi (div-lt-iff-lt-mul w .1 (omega (arith, below, mul-comm (p .width) (p .height)))))
     where
       some : (w : ℕ) → place < w * p .height → 0 < w
       some zero l = absurd (omega (arith, zero-mul (p .height)))

@@ -23,7 +23,7 @@ use Rattle.meaning.proofs.PlanSizes.{down-sizes, along-sizes, columnSum-size, r
 use Rattle.meaning.proofs.LongRules.{reach-in, around}
 use Rattle.meaning.proofs.LongSizes.{long-sized}
 use Rattle.product.specs.Product.{spot, Laid}
-use Rattle.tables.specs.Stage.{Weights}
+use Rattle.stage_weights.specs.Stage.{Weights}
 use Rattle.layout.proofs.Alive as alive
 use Rattle.long_stages.specs.Sums.{Dot}
 use Rattle.long_stages.specs.Work.{columnAt, GivenLong}

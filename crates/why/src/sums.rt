@@ -6,7 +6,7 @@ use crate::arith::rounding;
 use long_stages::rules::reach_of;
 use long_stages::sums::dot;
 use meaning::Shape;
-use tables::stage::put_1024;
+use stage_weights::put_1024;
 ghost use mathlib.Core.Path.{_≡_};
 ghost use Prim.Native.Nat.{_<_};
 ghost use Rattle.meaning.specs.Plan.{longPlan};

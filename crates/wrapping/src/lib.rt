@@ -1,6 +1,7 @@
 // Sums that wrap on the way (document 02, Wish 9): a second, plain engine for lines, with adders of 32 bits that wrap, products in a
-// given order and any starting number. Read specs/Order, Wrapped and Outcome; of proofs/, Adder, whose `ends-on` is the argument,
-// and SameLine. Numbers as bits stand in word, the order's test in places, the sums in running.
+// given order and any starting number. Read specs/Order, Wrapped and Outcome; of proofs/, OwnProducts, whose `wraps-to` says that such
+// an adder ends on the line's sums, Adder, whose `ends-on` is the argument, and SameLine. Numbers as bits stand in word, the order's
+// test in places, the sums in running.
 mod places;
 mod running;
 mod word;

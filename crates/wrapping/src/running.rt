@@ -2,7 +2,7 @@
 // other. One table is taken for a line and lent from there.
 use crate::word::product;
 use crate::word::signed;
-use tables::stage::put_1024;
+use stage_weights::put_1024;
 use tables::zipped::zipped_4;
 use tables::zipped::zipped_8;
 use tables::zipped::zipped_16;

@@ -159,26 +159,36 @@ fn orders_of_rows() {
     c.close(&[0, 6, 7, 16]);
 }
 
-/// A list of one step, which multiplies; or of 2,049 of them.
+/// A list of two steps, or of 2,050, over one input. The first step multiplies it into cell 1, the second subtracts that cell and meets
+/// 28, if the cell `to` that it writes is outside, 17 and 29.
+///
+/// 17 and 29 are told apart by such a step alone, one that takes -2^31 from a cell that was not written: the library has 0 there, so
+/// the result would be 2^31. Of any other step that reads such a cell the result would be 0, what the other cell holds, or that with
+/// its sign changed, which fits 32 bits: 29 cannot apply beside 17, and which of the two is looked for first cannot be seen.
+fn list(set: &Set, to: i32, cells: u32) -> RunCall {
+    let steps = [
+        [3, 1, 0, set.pick(29, -1 << 30, 1)],
+        [1, to, set.pick(17, 2, 0), 1],
+    ];
+    RunCall {
+        inputs: 1,
+        cells,
+        steps: steps.concat().repeat(set.pick(18, 1025, 1)),
+        outs: vec![1],
+        x: vec![2; set.pick(6, 2, 1)],
+        held: held(set, 1),
+    }
+}
+
 #[test]
 fn orders_of_steps() {
     let mut c = Comparison::open("lists of steps, refused in the header's order");
     each_set("steps_run", |set| {
-        let step = [
-            3,
-            set.pick(28, 2, 1),
-            set.pick(17, 1, 0),
-            set.pick(29, i32::MAX, 2),
-        ];
-        let call = RunCall {
-            inputs: 1,
-            cells: 2,
-            steps: step.repeat(set.pick(18, 2049, 1)),
-            outs: vec![1],
-            x: vec![2; set.pick(6, 2, 1)],
-            held: held(set, 1),
-        };
-        c.outcome(&call).number()
+        c.outcome(&list(set, set.pick(28, 3, 1), 3)).number()
+    });
+    // 28 of more inputs than cells, which is looked for before any step
+    each_set("steps_run", |set| {
+        c.outcome(&list(set, 1, set.pick(28, 0, 3))).number()
     });
     each_set("steps_list", |set| {
         let call = ListCall {

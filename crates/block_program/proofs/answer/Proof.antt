@@ -31,17 +31,14 @@ run-requires c κs = search needs
 array-share-prefix-text : tie.Need-array-share-prefix-text
 array-share-prefix-text c = run-counts _ _ _ (c .run .result) (c .run .ensures) .0
 
-slice-aggregate-printed : tie.Need-slice-aggregate-printed
-slice-aggregate-printed c = run-counts _ _ _ (c .before .run .result) (c .before .run .ensures) .1
+slice-aggregate-write-all : tie.Need-slice-aggregate-write-all
+slice-aggregate-write-all c = run-counts _ _ _ (c .before .run .result) (c .before .run .ensures) .1
 
 write-all-requires : tie.Need-write-all-requires
 write-all-requires c κs = search needs
 
 returns-2 : tie.Need-returns-2
 returns-2 c = search needs
-
-refused-requires : tie.Need-refused-requires
-refused-requires c κs = search needs
 
 returns-3 : tie.Need-returns-3
 returns-3 c = search needs
@@ -62,9 +59,8 @@ answer-spec =
     slice-aggregate-run
     run-requires
     array-share-prefix-text
-    slice-aggregate-printed
+    slice-aggregate-write-all
     write-all-requires
     returns-2
-    refused-requires
     returns-3
     returns-4)

@@ -3,7 +3,7 @@ use native.Mathlib.Omega.{arith}
 use borrow.Author.Needs.{needs}
 use mathlib.Core.Path.{_≡_, refl, sym}
 use Rattle.meaning.proofs.Cases.{thirty-two}
-use Rattle.tables.proofs.Rooms.{all-32}
+use Rattle.stage_weights.proofs.Rooms.{all-32}
 use Rattle.engine.proofs.WholeLine.{whole-given, whole-line}
 use Rattle.engine.proofs.full.Statement.{statement}
 use Rattle.engine.proofs.full.Tie as tie

@@ -5,7 +5,7 @@ use mathlib.Core.Bool.{false}
 use mir.Syntax.{w32}
 use mir.ValLaws.{toZ-ofZ}
 use Rattle.meaning.proofs.Cases.{thirty-two}
-use Rattle.tables.proofs.Rooms.{all-32}
+use Rattle.stage_weights.proofs.Rooms.{all-32}
 use Rattle.engine.proofs.WholeLine.{weight-is}
 use Rattle.engine.proofs.weight.Statement.{statement}
 use Rattle.engine.proofs.weight.Tie as tie

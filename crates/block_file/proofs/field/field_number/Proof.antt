@@ -1,9 +1,9 @@
 -- `field_number` meets its contract. Assumes nothing.
-use mathlib.Core.Bool.{cond}
-use mathlib.Core.Path.{_≡_, sym, ap, _∙_}
-use Prim.Native.Nat.{ℕ, _+_, _≤_, _<_}
+use mathlib.Core.Bool.{Bool, true, false, cond}
+use mathlib.Core.Path.{_≡_, refl, sym, ap, _∙_}
+use Prim.Native.Nat.{ℕ, _+_, _≤_}
 use native.Mathlib.Omega.{arith}
-use borrow.Author.Tests.{eq-eqb, ne-eqb, lt-ltb, le-ltb}
+use borrow.Author.Tests.{eq-eqb, ne-eqb, lt-ltb, le-ltb, ltb-false}
 use borrow.Author.Needs.{needs}
 use lib.Dec.{eqb, ltb}
 use lib.ListN.{length}
@@ -33,20 +33,40 @@ known c =
     let s = c .before .before .before .before .before .args in
     c .header-number .ensures ∙ ap (λ (n : ℕ). headerNumber (byteAt (now (s .file)) (s .at)) n (s .shape)) (c .before .before .length-at .ensures .0)
 
+-- whether the body is cut short
+abbrev isCut : tie.Start → Bool
+isCut s = ltb (length (now (s .args .file))) (s .args .at + 3 + lengthAt (now (s .args .file)) (s .args .at))
+
+known-cut : (c : tie.After-cut-number) → c .cut-number .result ≡ cond (isCut (c .before .before .before .before .before .before)) 10 0
+known-cut c =
+    let s = c .before .before .before .before .before .before .args in
+    c .cut-number .ensures ∙ ap (λ (n : ℕ). cond (ltb (length (now (s .file))) (s .at + 3 + n)) 10 0) (c .before .before .before .length-at .ensures .0)
+
+abbrev ten : Bool → ℕ → ℕ
+ten b k = cond b 10 k
+
+cut : (b : Bool) (k : ℕ) → (ten b 0 ≡ 0 → ⊥) → ten b 0 ≡ ten b k
+cut true k h = refl
+cut false k h = absurd (h refl)
+
+uncut : (b : Bool) → ten b 0 ≡ 0 → b ≡ false
+uncut true e = absurd (omega (arith, e))
+uncut false e = refl
+
 -- each test that is passed leaves the others
 past1 : (c : tie.Else1) → Is (c .before .before) (cond (eqb (header (c .before .before)) 0) (body (c .before .before)) (header (c .before .before)))
 past1 c =
     let s = c .before .before .args in
     in-order (now (s .file)) (s .at) (s .shape) ∙ rw (le-ltb (length (now (s .file))) (s .at + 3) (c .if1 .left))
 
-past2 : (c : tie.Else2) → Is (c .before .before .before .before .before .before) (body (c .before .before .before .before .before .before))
-past2 c = past1 (c .before .before .before .before) ∙ rw (eq-eqb _ 0 (sym (known (c .before)) ∙ c .if2 .left))
+past2 : (c : tie.Else2) → Is (c .before .before .before .before .before .before .before) (body (c .before .before .before .before .before .before .before))
+past2 c = past1 (c .before .before .before .before .before) ∙ rw (eq-eqb _ 0 (sym (known (c .before .before)) ∙ c .if2 .left))
 
-past3 : (c : tie.Else3) → Is (c .before .before .before .before .before .before .before) (behind (c .before .before .before .before .before .before .before))
-past3 c =
-    let s = c .before .before .before .before .before .before .before .args in
-    let h : s .at + 3 + lengthAt (now (s .file)) (s .at) ≤ length (now (s .file)) = omega (arith, c .before .before .before .before .length-at .ensures .0, c .if3 .left) in
-    past2 (c .before) ∙ rw (le-ltb _ _ h)
+whole : (c : tie.Else3) → isCut (c .before .before .before .before .before .before .before .before) ≡ false
+whole c = uncut _ (sym (known-cut (c .before .before)) ∙ c .if3 .left)
+
+past3 : (c : tie.Else3) → Is (c .before .before .before .before .before .before .before .before) (behind (c .before .before .before .before .before .before .before .before))
+past3 c = past2 (c .before) ∙ rw (whole c)
 
 add-if1 : tie.Need-add-if1
 add-if1 c = search needs
@@ -65,28 +85,32 @@ shared-slice-read-header-number c = search needs
 header-number-requires : tie.Need-header-number-requires
 header-number-requires c κs = search needs
 
+add-cut-number : tie.Need-add-cut-number
+add-cut-number c = search needs
+
+add-cut-number-2 : tie.Need-add-cut-number-2
+add-cut-number-2 c = search needs
+
+cut-number-requires : tie.Need-cut-number-requires
+cut-number-requires c κs = search needs
+
 returns-2 : tie.Need-returns-2
 returns-2 c =
-    let e = known (c .before) in
-    rw (past1 (c .before .before .before .before), ne-eqb _ 0 (λ p. c .if2 .taken (e ∙ p))) e
-
-add-if3 : tie.Need-add-if3
-add-if3 c = search needs
-
-add-if3-2 : tie.Need-add-if3-2
-add-if3-2 c = search needs
+    let e = known (c .before .before) in
+    rw (past1 (c .before .before .before .before .before), ne-eqb _ 0 (λ p. c .if2 .taken (e ∙ p))) e
 
 returns-3 : tie.Need-returns-3
 returns-3 c =
-    let s = c .before .before .before .before .before .before .before .args in
-    let h : length (now (s .file)) < s .at + 3 + lengthAt (now (s .file)) (s .at) = omega (arith, c .before .before .before .before .length-at .ensures .0, c .if3 .taken) in
-    rw (past2 (c .before), lt-ltb _ _ h)
+    let s = c .before .before .before .before .before .before .before .before in
+    let e = known-cut (c .before .before) in
+    rw (past2 (c .before)) (e ∙ cut (isCut s) (behind s) (λ p. c .if3 .taken (e ∙ p)))
 
 shape-behind-requires : tie.Need-shape-behind-requires
 shape-behind-requires c κs =
-    let s = c .before .before .before .before .before .before .before .args in
-    let none = sym (c .before .before .header-number .ensures) ∙ c .before .if2 .left in
-    (omega arith, (λ t. omega (arith, header-five _ _ (s .shape) none t, c .if3 .left), λ t. omega (arith, header-two _ _ (s .shape) none t, c .if3 .left)))
+    let s = c .before .before .before .before .before .before .before .before .args in
+    let none = sym (known (c .before .before .before)) ∙ c .before .if2 .left in
+    let h : s .at + 3 + lengthAt (now (s .file)) (s .at) ≤ length (now (s .file)) = ltb-false _ _ (whole c) in
+    (omega arith, (λ t. omega (arith, header-five _ _ (s .shape) none t, h), λ t. omega (arith, header-two _ _ (s .shape) none t, h)))
 
 refusal-requires : tie.Need-refusal-requires
 refusal-requires c κs = search needs
@@ -103,9 +127,10 @@ field-number-spec =
     length-at-requires
     shared-slice-read-header-number
     header-number-requires
+    add-cut-number
+    add-cut-number-2
+    cut-number-requires
     returns-2
-    add-if3
-    add-if3-2
     returns-3
     shape-behind-requires
     refusal-requires

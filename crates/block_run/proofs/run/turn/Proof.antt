@@ -105,7 +105,7 @@ returns-4 c =
     let k = s .args .cursor in
     let e = st .ensures in
     let n : st .result .next .at ≡ foundAt file k .next .at = ap (λ (x : Advance). x .next .at) e in
-    (same-turn (turn-silent file k (st .result) e (c .before .before .if1 .left) (c .before .if2 .left) (c .if3 .left)) (record { wrote = nothing _ _ _; ends = refl; next = refl }), λ h. let r = read-on file k (λ z. false≢true (sym h ∙ eq-eqb (st .result .tag) 0 (ap (λ (x : Advance). x .tag) e ∙ z))) in (omega (arith, n, r .0), omega (arith, n, r .1), omega (arith, n, r .0)))
+    (same-turn (turn-silent file k (st .result) e (c .before .before .if1 .left) (c .before .if2 .left) (c .if3 .left)) (record { wrote = nothing _ _ _; ends = refl; number = refl; next = refl }), λ h. let r = read-on file k (λ z. false≢true (sym h ∙ eq-eqb (st .result .tag) 0 (ap (λ (x : Advance). x .tag) e ∙ z))) in (omega (arith, n, r .0), omega (arith, n, r .1), omega (arith, n, r .0)))
 
 pub turn-spec : {M : Type 1} → statement M
 turn-spec =

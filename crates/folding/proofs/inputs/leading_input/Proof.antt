@@ -91,8 +91,8 @@ changed : (c : tie.After-sign) → let s = c .before .before .before .before .be
     Reads (c .sign .result) (signed (less s) (reading (s .args .back) (s .args .n) (s .args .x .now) (half (s .args .p) * s .args .q + (c .before .before .nearer .result - 1)))) 32768
 changed c = reads-sign (last (c .before)) (less (c .before .before .before .before .before)) (c .sign .ensures) (omega arith)
 
-plus-requires : tie.Need-plus-requires
-plus-requires c κs = (safe (own (c .before .before .before .before)) (omega arith), safe (changed c) (omega arith))
+two-inputs-requires : tie.Need-two-inputs-requires
+two-inputs-requires c κs = (is-small (own (c .before .before .before .before)), is-small (changed c))
 
 returns-2 : tie.Need-returns-2
 returns-2 c =
@@ -100,7 +100,7 @@ returns-2 c =
     let s = t .before .args in
     let x = reading (s .back) (s .n) (s .x .now) in
     let k = half (s .p) * s .q in
-    let r = reads-sum (own t) (changed (c .before)) (c .plus .ensures) (omega arith) in (
+    let r = reads-sum (own t) (changed (c .before)) (c .two-inputs .ensures) (omega arith) in (
       r .is
           ∙ ap (λ (z : ℤ). x (s .g) +ℤ z)
           (ap (λ (j : ℕ). signed (less (t .before)) (x (k + (j - 1)))) (c .before .before .before .nearer .ensures) ∙ sym (lone-part (less (t .before)) x _))
@@ -124,5 +124,5 @@ leading-input-spec =
     div-sign
     add-sign
     sign-requires
-    plus-requires
+    two-inputs-requires
     returns-2)

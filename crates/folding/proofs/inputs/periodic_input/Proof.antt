@@ -68,12 +68,12 @@ second : (c : tie.After-taken2 Inv-loop μ-loop) → let s = c .before .before .
     Reads (c .taken2 .result) (X s (c .before .before .before .loop .k * s .args .q + s .args .q - 2 - s .args .g)) 32768
 second c = reads 32768 (c .taken2 .ensures .0) (c .taken2 .ensures .1) (omega arith)
 
-plus-requires : tie.Need-plus-requires Inv-loop μ-loop
-plus-requires c κs = (safe (first (c .before)) (omega arith), safe (second c) (omega arith))
+two-inputs-requires : tie.Need-two-inputs-requires Inv-loop μ-loop
+two-inputs-requires c κs = (is-small (first (c .before)), is-small (second c))
 
-two : (c : tie.After-plus Inv-loop μ-loop) → let s = c .before .before .before .before .before in let o = c .before .before .before .before .loop .k * s .args .q in
-    Reads (c .plus .result) (X s (o + s .args .g) +ℤ X s (o + s .args .q - 2 - s .args .g)) 65536
-two c = reads-sum (first (c .before .before)) (second (c .before)) (c .plus .ensures) (omega arith)
+two : (c : tie.After-two-inputs Inv-loop μ-loop) → let s = c .before .before .before .before .before in let o = c .before .before .before .before .loop .k * s .args .q in
+    Reads (c .two-inputs .result) (X s (o + s .args .g) +ℤ X s (o + s .args .q - 2 - s .args .g)) 65536
+two c = reads-sum (first (c .before .before)) (second (c .before)) (c .two-inputs .ensures) (omega arith)
 
 sign-requires : tie.Need-sign-requires Inv-loop μ-loop
 sign-requires c κs = safe (two c) (omega arith)
@@ -97,8 +97,8 @@ sofar c =
 sum-safe : (c : tie.At-loop Inv-loop μ-loop) → natAbs (toZ w32 (c .loop .sum)) ≤ 1000000000
 sum-safe c = omega (arith, ap natAbs (sofar c .0), sofar c .1)
 
-plus-requires-2 : tie.Need-plus-requires-2 Inv-loop μ-loop
-plus-requires-2 c κs = (sum-safe (c .before .before .before .before .before), safe (changed c) (omega arith))
+plus-requires : tie.Need-plus-requires Inv-loop μ-loop
+plus-requires c κs = (sum-safe (c .before .before .before .before .before), safe (changed c) (omega arith))
 
 add-k : tie.Need-add-k Inv-loop μ-loop
 add-k c = omega (arith, c .before .before .before .before .before .loop-test .taken, c .before .before .before .before .before .before .before .pre .1 .1 .number)
@@ -115,7 +115,7 @@ loop-again c =
     let e = stretch-next (X s) (s .args .q) (s .args .g) k in (
       omega (arith, L .loop-test .taken),
       (
-        ap (ofZ w32) (c .plus2 .ensures ∙ (λ t. sofar (L .before) .0 t +ℤ v .is t) ∙ sym e),
+        ap (ofZ w32) (c .plus .ensures ∙ (λ t. sofar (L .before) .0 t +ℤ v .is t) ∙ sym e),
         subst (λ (z : ℤ). natAbs z ≤ (k + 1) * 65536) (sym e) (omega (arith, abs-add (so s k) (signed (isOdd k) (X s (k * s .args .q + s .args .g) +ℤ X s (k * s .args .q + s .args .q - 2 - s .args .g))), L .before .loop .inv .1 .1, v .size)),
       ),
     )
@@ -147,8 +147,8 @@ last : (c : tie.After-sign2 Inv-loop μ-loop) → let s = c .before .before .bef
     Reads (c .sign2 .result) (signed (isOdd k) (X s (k * s .args .q + s .args .g))) 32768
 last c = reads-sign (third (c .before)) (isOdd (c .before .before .before .loop .k)) (c .sign2 .ensures) (omega arith)
 
-plus-requires-3 : tie.Need-plus-requires-3 Inv-loop μ-loop
-plus-requires-3 c κs = (sum-safe (c .before .before .before), safe (last c) (omega arith))
+plus-requires-2 : tie.Need-plus-requires-2 Inv-loop μ-loop
+plus-requires-2 c κs = (sum-safe (c .before .before .before), safe (last c) (omega arith))
 
 returns : tie.Need-returns Inv-loop μ-loop
 returns c =
@@ -157,7 +157,7 @@ returns c =
     let k = E .before .loop .k in
     let v = last (c .before) in
     let z = signed (isOdd k) (X s (k * s .args .q + s .args .g)) in
-    let e : c .plus3 .result ≡ so s k +ℤ z = c .plus3 .ensures ∙ (λ t. sofar (E .before) .0 t +ℤ v .is t) in
+    let e : c .plus2 .result ≡ so s k +ℤ z = c .plus2 .ensures ∙ (λ t. sofar (E .before) .0 t +ℤ v .is t) in
     let r = reads 425984 e (omega (arith, ap natAbs e, abs-add (so s k) z, sofar (E .before) .1, v .size)) (omega arith) in (
       r .is ∙ ap (λ (j : ℕ). so s j +ℤ signed (isOdd j) (X s (j * s .args .q + s .args .g))) (ended E) ∙ sym (stretch-last (X s) (s .args .n) (s .args .q) (s .args .g)),
       is-small r,
@@ -179,9 +179,9 @@ periodic-input-spec =
     sub-taken
     sub-taken-2
     taken-requires-2
-    plus-requires
+    two-inputs-requires
     sign-requires
-    plus-requires-2
+    plus-requires
     add-k
     loop-less
     loop-again
@@ -189,5 +189,5 @@ periodic-input-spec =
     add-taken-3
     taken-requires-3
     sign-requires-2
-    plus-requires-3
+    plus-requires-2
     returns)

@@ -4,7 +4,7 @@ use native.Mathlib.Omega.{arith}
 use mathlib.Core.Path.{_≡_, refl, sym, _∙_}
 use Rattle.meaning.proofs.Cases.{thirty-two}
 use Rattle.wrapping.proofs.StoredLine.{feed, is-line}
-use Rattle.tables.proofs.Rooms.{all-32}
+use Rattle.stage_weights.proofs.Rooms.{all-32}
 use Rattle.wrapping.proofs.running.line.Statement.{statement}
 use Rattle.wrapping.proofs.running.line.Tie as tie
 
