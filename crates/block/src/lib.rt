@@ -24,6 +24,9 @@ pub fn inverse(shape: Shape, coefficients: &[i16], residuals: &mut [i32]) -> Ans
     if place < coefficients.len() {
         return refused(8, place as u32);
     }
+    if inverse_block::kernels::by_kernels(shape, rows, columns, coefficients, residuals) {
+        return accepted(0);
+    }
     accepted(inverse_block::stages::stages(shape, rows, columns, coefficients, residuals))
 }
 

@@ -10,7 +10,7 @@ ghost use Rattle.meaning.specs.Shape.{isSize};
 ghost use Rattle.layout.specs.Live.{Clear, Live, LiveColumns, Unseen};
 
 // Whether there is something from a up to b.
-fn any(c: &[i16], a: usize, b: usize) -> bool
+pub fn any(c: &[i16], a: usize, b: usize) -> bool
     requires { ⌜ (a ≤ b) × (b ≤ length (now c)) ⌝ }
     ensures { λ r. ⌜ (r ≡ false → Clear (now (c .entry)) a b) ⌝ }
 {

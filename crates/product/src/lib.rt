@@ -15,21 +15,21 @@ ghost use Rattle.algebra.specs.Lists.{at, tabulate, block};
 ghost use Rattle.product.specs.Product.{lineSum, shifted, pairAt, Column, Rounding, Line, Lines};
 
 // a * v + b * w, exact.
-fn pair(a: i16, v: i16, b: i16, w: i16) -> i32
+pub fn pair(a: i16, v: i16, b: i16, w: i16) -> i32
     requires { ⌜ (natAbs (a *ℤ v) ≤ 2949120) × (natAbs (b *ℤ w) ≤ 2949120) ⌝ }
     ensures { λ r. ⌜ r ≡ a *ℤ v +ℤ b *ℤ w ⌝ }
 {
     (a as i32) * (v as i32) + (b as i32) * (w as i32)
 }
 
-fn plus(a: i32, b: i32) -> i32
+pub fn plus(a: i32, b: i32) -> i32
     requires { ⌜ (natAbs a ≤ 1000000000) × (natAbs b ≤ 1000000000) ⌝ }
     ensures { λ r. ⌜ r ≡ a +ℤ b ⌝ }
 {
     a + b
 }
 
-fn round(z: i32, half: i32, shift: u32) -> i32
+pub fn round(z: i32, half: i32, shift: u32) -> i32
     requires { ⌜ (natAbs z ≤ 1000000000) × Rounding half shift ⌝ }
     ensures { λ r. ⌜ r ≡ shifted half shift z ⌝ }
 {

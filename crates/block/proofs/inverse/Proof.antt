@@ -19,6 +19,7 @@ use Rattle.meaning.specs.Inverse.{rails, inverseBlock, firstOutside, inverseOut
 use Rattle.meaning.specs.Taken.{TakenBlock}
 use Rattle.meaning.proofs.AcceptedCalls.{few, block-taken}
 use Rattle.meaning.proofs.KeptPart.{columns-kept, rows-kept}
+use Rattle.inverse_stage.specs.Given.{GivenStages}
 use Rattle.layout.specs.Live.{Live}
 use Rattle.layout.specs.Part.{Part}
 use Rattle.layout.proofs.Inside.{live-part, kept-part}
@@ -108,9 +109,11 @@ returns-2 c =
     ap (λ (a : Answer). (a, s .args .residuals .now)) (c .refused2 .ensures) ∙ ap (λ (n : ℕ). refuse s 8 n) h
     ∙ sym (past (c .before .before .before .before .before) ∙ rw l)
 
-stages-requires : tie.Need-stages-requires
-stages-requires c κs =
-    let C = c .before .before .before in
+-- what both ways are given
+given : (c : tie.Else2) → let s = c .before .before .before .before .before .before in
+    GivenStages (s .args .shape) (c .before .before .before .rows .result) (c .before .before .columns .result) (s .args .coefficients .now) (s .args .residuals .now)
+given c =
+    let C = c .before .before in
     let s = C .before .before .before .before in
     let w = taken (C .before .before) in
     record {
@@ -118,23 +121,62 @@ stages-requires c κs =
       size-rows = C .before .rows .ensures .size;
       size-columns = C .columns .ensures .size;
       live = live C;
-      kept = kept-part (planOf (s .args .shape)) (s .args .coefficients .now) (w .long) (columns-kept (s .args .shape) (w .taken) .within) (rows-kept (s .args .shape) (w .taken) .within) (omega (arith, c .before .before .first-outside .ensures, c .before .if2 .left));
+      kept = kept-part (planOf (s .args .shape)) (s .args .coefficients .now) (w .long) (columns-kept (s .args .shape) (w .taken) .within) (rows-kept (s .args .shape) (w .taken) .within) (omega (arith, c .before .first-outside .ensures, c .if2 .left));
     }
+
+-- nothing is refused
+none-refused : (c : tie.Else2) → let s = c .before .before .before .before .before .before in
+    inverseOutcome (s .args .shape) (s .args .coefficients .now) (s .args .residuals .now) ≡ done s
+none-refused c =
+    let s = c .before .before .before .before .before .before in
+    let l : ltb (place s) (length (s .args .coefficients .now)) ≡ false = le-ltb (place s) (length (s .args .coefficients .now)) (omega (arith, c .before .first-outside .ensures, c .if2 .left)) in
+    past (c .before .before .before .before) ∙ rw l
+
+by-kernels-requires : tie.Need-by-kernels-requires
+by-kernels-requires c κs = given (c .before)
 
 accepted-requires : tie.Need-accepted-requires
 accepted-requires c κs = search needs
 
+kept : (c : tie.After-by-kernels) → length (c .by-kernels .last .1 .1 .1 .1 .0) ≡ length (c .before .before .before .before .before .before .before .before .args .residuals .now)
+kept c = c .by-kernels .kept .1 .1 .1 .1 .0
+
 same-length : tie.Need-same-length
-same-length c = search needs
+same-length c = kept (c .before .before .before)
 
 returns-3 : tie.Need-returns-3
 returns-3 c =
-    let s = c .before .before .before .before .before .before .before .before .before .before in
-    let h = c .before .before .before .before .before .first-outside .ensures in
-    let l : ltb (place s) (length (s .args .coefficients .now)) ≡ false = le-ltb (place s) (length (s .args .coefficients .now)) (omega (arith, h, c .before .before .before .before .if2 .left)) in
-    let e = c .before .before .stages .ensures in
-    (λ i. (c .accepted .ensures i, e .1 i)) ∙ ap (λ (n : ℕ). (accepted n, inverseBlock (planOf (s .args .shape)) (s .args .coefficients .now))) (e .0)
-    ∙ sym (past (c .before .before .before .before .before .before .before .before) ∙ rw l)
+    let K = c .before .before .before in
+    let E = K .before .before in
+    let e = K .by-kernels .ensures (c .before .if3 .taken) in
+    (λ i. (c .accepted .ensures i, e .1 i)) ∙ ap (λ (n : ℕ). (accepted n, inverseBlock (planOf (E .before .before .before .before .before .before .args .shape)) (E .before .before .before .before .before .before .args .coefficients .now))) (sym (e .0))
+    ∙ sym (none-refused E)
+
+stages-requires : tie.Need-stages-requires
+stages-requires c κs =
+    let K = c .before .before .before in
+    let g = given (K .before .before) in
+    record {
+      block = record { taken = g .block .taken; long = g .block .long; room = kept K ∙ g .block .room };
+      size-rows = g .size-rows;
+      size-columns = g .size-columns;
+      live = g .live;
+      kept = g .kept;
+    }
+
+accepted-requires-2 : tie.Need-accepted-requires-2
+accepted-requires-2 c κs = search needs
+
+same-length-2 : tie.Need-same-length-2
+same-length-2 c = c .before .before .stages .kept .1 .1 .1 .1 .0 ∙ kept (c .before .before .before .before .before .before)
+
+returns-4 : tie.Need-returns-4
+returns-4 c =
+    let S = c .before .before in
+    let E = S .before .before .before .before .before .before in
+    let e = S .stages .ensures in
+    (λ i. (c .accepted2 .ensures i, e .1 i)) ∙ ap (λ (n : ℕ). (accepted n, inverseBlock (planOf (E .before .before .before .before .before .before .args .shape)) (E .before .before .before .before .before .before .args .coefficients .now))) (e .0)
+    ∙ sym (none-refused E)
 
 pub inverse-spec : {M : Type 1} → statement M
 inverse-spec =
@@ -149,7 +191,11 @@ inverse-spec =
     cast-refused
     refused-requires-2
     returns-2
-    stages-requires
+    by-kernels-requires
     accepted-requires
     same-length
-    returns-3)
+    returns-3
+    stages-requires
+    accepted-requires-2
+    same-length-2
+    returns-4)

@@ -1,0 +1,84 @@
+// Which blocks of kind 0 both ways the kernels work, and which way they take.
+use crate::alone::alone;
+use crate::alone::flat;
+use crate::stages::stages;
+use crate::stages::strip_of;
+use inverse_stage::shift::last_shift;
+use meaning::Shape;
+ghost use mathlib.Core.Path.{_≡_};
+ghost use mathlib.Core.Bool.{true};
+ghost use Prim.Native.Nat.{ℕ, _≤_, _<_};
+ghost use Rattle.meaning.specs.Plan.{planOf};
+ghost use Rattle.meaning.specs.Inverse.{rails, inverseBlock};
+ghost use Rattle.meaning.specs.Shape.{isSize};
+ghost use Rattle.inverse_stage.specs.Given.{GivenStages};
+ghost use Rattle.kernel_picks.specs.Picks.{isKernel};
+
+// How many inputs the kernel of n points has that serves the first k of them, `count` columns or rows at a time; 0 where there is none.
+fn live_of(count: usize, n: usize, k: usize) -> usize
+    requires { ⌜ (isSize n ≡ true) × (k ≤ n) ⌝ }
+    ensures { λ r. ⌜ (0 < r → (isKernel count n r ≡ true) × (k ≤ r)) ⌝ }
+{
+    if n == 8 {
+        return 8;
+    }
+    if n == 16 {
+        return 16;
+    }
+    if count != 8 {
+        return 0;
+    }
+    if n == 4 {
+        return 4;
+    }
+    if k <= 8 {
+        return 8;
+    }
+    0
+}
+
+// Whether so little of a large block is live that the lines of the product are quicker.
+fn is_corner(w: usize, h: usize, rows: usize, columns: usize) -> bool {
+    if w < 16 {
+        return false;
+    }
+    if h < 16 {
+        return false;
+    }
+    if 4 < rows {
+        return false;
+    }
+    columns <= 4
+}
+
+// Whether the block is worked and no middle value counts. Where it is not, it may be that a middle value stands at an end of its range.
+pub fn worked(shape: Shape, rows: usize, columns: usize, c: &[i16], r: &mut [i32]) -> bool
+    requires { ⌜ GivenStages shape rows columns (now c) (now r) × ((shape .horizontal ≡ 0) × (shape .vertical ≡ 0)) ⌝ }
+    ensures { λ t. ⌜ (t ≡ true → (rails (planOf shape) (now (c .entry)) ≡ 0) × (now (r .exit) ≡ inverseBlock (planOf shape) (now (c .entry)))) ⌝ }
+{
+    let w = shape.width as usize;
+    let h = shape.height as usize;
+    let last = last_shift(shape);
+    if alone(c, w, rows) {
+        flat(last, c[0] as i32, r);
+        return true;
+    }
+    if is_corner(w, h, rows, columns) {
+        return false;
+    }
+    let high = live_of(strip_of(w), h, rows);
+    if high == 0 {
+        return false;
+    }
+    let wide = live_of(strip_of(h), w, columns);
+    if wide == 0 {
+        return false;
+    }
+    if 32 < (wide + 7) / 8 * h {
+        return false;
+    }
+    if stages(w, h, last, rows, columns, high, wide, w, c, r) {
+        return false;
+    }
+    true
+}

@@ -1,0 +1,50 @@
+-- `mirrored` meets its contract: the sum stays small. Assumes nothing.
+use borrow.Author.Needs.{needs}
+use mathlib.Core.Path.{_≡_, sym, _∙_, subst}
+use Prim.Native.Nat.{_≤_}
+use native.Mathlib.Omega.{arith}
+use lib.IntN.{ℤ, natAbs, _-ℤ_}
+use mir.Syntax.{w32}
+use mir.Val.{toZ, ofZ}
+use mir.ValLaws.{toZ-ofZ}
+use Rattle.product.specs.Product.{shifted, Rounding}
+use Rattle.dct2_four.proofs.Line.{minus-size}
+use Rattle.dct2_four.proofs.mirrored.Statement.{statement}
+use Rattle.dct2_four.proofs.mirrored.Tie as tie
+
+-- what is handed on
+module _ (s : tie.Start) where
+  even : toZ w32 (ofZ w32 (s .args .e)) ≡ s .args .e
+  even = toZ-ofZ w32 (s .args .e) (s .fits .e)
+
+  odd : toZ w32 (ofZ w32 (s .args .o)) ≡ s .args .o
+  odd = toZ-ofZ w32 (s .args .o) (s .fits .o)
+
+  rounding : toZ w32 (ofZ w32 (s .args .half)) ≡ s .args .half
+  rounding = toZ-ofZ w32 (s .args .half) (s .fits .half)
+
+minus-requires : tie.Need-minus-requires
+minus-requires c κs = (
+  subst (λ (z : ℤ). natAbs z ≤ 1000000000) (sym (even c)) (omega (arith, c .pre .0 .0)),
+  subst (λ (z : ℤ). natAbs z ≤ 1000000000) (sym (odd c)) (omega (arith, c .pre .0 .1)),
+)
+
+-- the sum
+total : (c : tie.After-minus) → toZ w32 (ofZ w32 (c .minus .result)) ≡ c .before .args .e -ℤ c .before .args .o
+total c = toZ-ofZ w32 (c .minus .result) (search needs) ∙ c .minus .ensures ∙ (λ t. even (c .before) t -ℤ odd (c .before) t)
+
+round-requires : tie.Need-round-requires
+round-requires c κs =
+    let s = c .before in (
+      subst (λ (z : ℤ). natAbs z ≤ 1000000000) (sym (total c)) (minus-size (s .args .e) (s .args .o) (s .pre .0 .0) (s .pre .0 .1)),
+      subst (λ (z : ℤ). Rounding z (s .args .shift)) (sym (rounding s)) (s .pre .1),
+    )
+
+returns : tie.Need-returns
+returns c =
+    let T = c .before in
+    let s = T .before in
+    toZ-ofZ w32 (c .round .result) (search needs) ∙ c .round .ensures ∙ (λ t. shifted (rounding s t) (s .args .shift) (total T t))
+
+pub mirrored-spec : {M : Type 1} → statement M
+mirrored-spec = tie.close (tie.spec minus-requires round-requires returns)

@@ -1,0 +1,4 @@
+pub mod Levels
+pub mod Tiles
+pub mod Across
+pub mod Stored
