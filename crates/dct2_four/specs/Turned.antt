@@ -1,4 +1,4 @@
--- Document 01, "Blocks", "Inverse": one stage over any numbers, its outputs turnedBlock.
+-- Document 01, "Blocks", "Inverse": one stage over any numbers, its outputs turned.
 use mathlib.Core.List.{List}
 use Prim.Native.Nat.{ℕ, _+_, _*_}
 use lib.IntN.{ℤ}
