@@ -1,5 +1,5 @@
-// Blocks, in both directions, over any numbers and any buffers. The work behind them stands in `inverse_hunt`, `inverse_block`,
-// `forward_hunt` and `forward_block`.
+// Blocks, in both directions, over any numbers and any buffers. The work behind them stands in `inverse_hunt`, `dct2_block`,
+// `inverse_block`, `forward_hunt` and `forward_block`.
 use meaning::Answer;
 use meaning::Shape;
 use meaning::accepted;
@@ -10,24 +10,42 @@ ghost use Rattle.meaning.specs.Answer.{Outcome};
 ghost use Rattle.meaning.specs.Forward.{forwardOutcome};
 ghost use Rattle.meaning.specs.Inverse.{inverseOutcome};
 
+// The shape, number by number. A struct or a slice that is handed on as it came the compiler copies in vectors, which wait for the
+// stores that have just written it; so `inverse` reads `coefficients[0..]`, which is the same, too.
+fn fields(shape: Shape) -> Shape
+    ensures { λ r. ⌜ r ≡ shape ⌝ }
+{
+    Shape {
+        width: shape.width,
+        height: shape.height,
+        horizontal: shape.horizontal,
+        vertical: shape.vertical,
+        depth: shape.depth,
+        columns: shape.columns,
+        rows: shape.rows,
+    }
+}
+
 /// The inverse of a block: residuals from coefficients, with the rail count. Any numbers, any buffers.
 pub fn inverse(shape: Shape, coefficients: &[i16], residuals: &mut [i32]) -> Answer
     ensures { λ r. ⌜ _≡_ {A = Outcome} (r, now (residuals .exit)) (inverseOutcome shape (now (coefficients .entry)) (now (residuals .entry))) ⌝ }
 {
-    let number = block_refusal(shape, false, coefficients.len(), residuals.len());
+    let c = &coefficients[0..];
+    let s = fields(shape);
+    let number = block_refusal(s, false, c.len(), residuals.len());
     if number != 0 {
         return refused(number, 0);
     }
-    let rows = inverse_hunt::live::rows(shape, coefficients);
-    let columns = inverse_hunt::live::columns(shape, rows, coefficients);
-    let place = inverse_hunt::hunt::first_outside(shape, columns, rows, coefficients);
-    if place < coefficients.len() {
+    let rows = inverse_hunt::live::rows(s, c);
+    let columns = inverse_hunt::live::columns(s, rows, c);
+    let place = inverse_hunt::hunt::first_outside(s, columns, rows, c);
+    if place < c.len() {
         return refused(8, place as u32);
     }
-    if inverse_block::kernels::by_kernels(shape, rows, columns, coefficients, residuals) {
+    if dct2_block::kernels::by_kernels(s, rows, columns, c, residuals) {
         return accepted(0);
     }
-    accepted(inverse_block::stages::stages(shape, rows, columns, coefficients, residuals))
+    accepted(inverse_block::stages::stages(s, rows, columns, c, residuals))
 }
 
 /// The forward block: residuals to coefficients. Refusals 1 to 5, 20, 6, 7, then 9.

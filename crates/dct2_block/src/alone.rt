@@ -11,11 +11,15 @@ ghost use Rattle.algebra.specs.Lists.{tabulate};
 ghost use Rattle.layout.specs.Live.{Clear};
 ghost use Rattle.dct2_block.specs.Alone.{flatOf};
 
-// Whether the first of some rows of w numbers is all there is. The first row is looked at by itself: there mostly is something.
+// Whether the first of some rows of w numbers is all there is. The second number is looked at by itself, and then the first row: there
+// mostly is something.
 pub fn alone(c: &[i16], w: usize, rows: usize) -> bool
-    requires { ⌜ (0 < w) × ((0 < rows) × (rows * w ≤ length (now c))) ⌝ }
+    requires { ⌜ (1 < w) × ((0 < rows) × (rows * w ≤ length (now c))) ⌝ }
     ensures { λ r. ⌜ (r ≡ true → Clear (now (c .entry)) 1 (rows * w)) ⌝ }
 {
+    if c[1] != 0 {
+        return false;
+    }
     if any(c, 1, w) {
         return false;
     }

@@ -17,7 +17,8 @@ pub fn strip_of(w: usize) -> usize
     if w < 8 { w } else { 8 }
 }
 
-// In a room of zeros. Hands back whether a middle value stands at an end of its range.
+// In a room of zeros. Hands back whether a middle value stands at an end of its range. `c[0..]` is c: where a slice is handed on as
+// it came, the compiler copies pointer and length as one vector, which waits for the two stores that have just written them.
 fn both(
     w: usize,
     h: usize,
@@ -35,7 +36,7 @@ fn both(
     ensures { λ t. ⌜ (now (r .exit) ≡ block w h (residualBy w h shift stride rows (min wide columns) (now (c .entry)))) × (t ≡ false → (x y : ℕ) → x < columns → y < h → Inner (middleOf h stride rows (now (c .entry)) x y)) ⌝ }
 {
     let e = columns * h;
-    down(c, stride, w, h, high, rows, columns, &mut m[0..e]);
+    down(&c[0..], stride, w, h, high, rows, columns, &mut m[0..e]);
     along(m, w, h, wide, strip_of(w), half(shift), shift, r);
     touched(&m[0..e])
 }

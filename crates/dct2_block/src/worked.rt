@@ -37,18 +37,15 @@ fn live_of(count: usize, n: usize, k: usize) -> usize
     0
 }
 
-// Whether so little of a large block is live that the lines of the product are quicker.
+// Whether so little of a wide block is live that the lines of the product are quicker.
 fn is_corner(w: usize, h: usize, rows: usize, columns: usize) -> bool {
     if w < 16 {
         return false;
     }
-    if h < 16 {
+    if 4 < columns {
         return false;
     }
-    if 4 < rows {
-        return false;
-    }
-    columns <= 4
+    rows <= h / 2
 }
 
 // Whether the block is worked and no middle value counts. Where it is not, it may be that a middle value stands at an end of its range.

@@ -1,4 +1,5 @@
-// The live part of a block. One of up to 8 by 8 is worked whole: looking would take as long as it saves.
+// The live part of a block. One of up to 8 by 8 is worked whole: looking would take as long as it saves. So are all columns of one that
+// has 4: fewer are not told apart.
 use layout::live::live_columns;
 use layout::live::live_rows;
 use layout::small::is_small;
@@ -25,6 +26,9 @@ pub fn columns(shape: Shape, rows: usize, c: &[i16]) -> usize
     ensures { λ r. ⌜ LiveColumns (now (c .entry)) (shape .width) rows r ⌝ }
 {
     if is_small(shape) {
+        return shape.width as usize;
+    }
+    if shape.width <= 4 {
         return shape.width as usize;
     }
     live_columns(c, shape.width as usize, rows)

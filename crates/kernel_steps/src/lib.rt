@@ -224,23 +224,7 @@ pub fn round(y: &[i32], from: usize, n: usize, half: i32, shift: u32, o: usize, 
     }
 }
 
-// A tile of 4 columns and 4 rows into the columns of r from b on.
-pub fn spread_4_4(e: &[i32; 16], b: usize, n: usize, r: &mut [i32])
-    requires { ⌜ (length (now e) ≡ 16) × ((b + 4 ≤ n) × (4 * n ≤ length (now r))) ⌝ }
-    ensures { λ _. ⌜ Spread 4 4 b n (λ j y. at (now (e .entry)) (4 * y + j)) (now (r .exit)) (now (r .entry)) ⌝ }
-{
-    let mut y = 0;
-    while y < 4 {
-        let mut j = 0;
-        while j < 4 {
-            r[y * n + b + j] = e[4 * y + j];
-            j += 1;
-        }
-        y += 1;
-    }
-}
-
-// A tile of 4 columns and 8 rows.
+// A tile of 4 columns and 8 rows into the columns of r from b on.
 pub fn spread_4_8(e: &[i32; 32], b: usize, n: usize, r: &mut [i32])
     requires { ⌜ (length (now e) ≡ 32) × ((b + 4 ≤ n) × (8 * n ≤ length (now r))) ⌝ }
     ensures { λ _. ⌜ Spread 4 8 b n (λ j y. at (now (e .entry)) (4 * y + j)) (now (r .exit)) (now (r .entry)) ⌝ }

@@ -1,3 +1,0 @@
-pub mod Line
-pub mod Turning
-pub mod Stages
