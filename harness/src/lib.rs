@@ -22,6 +22,7 @@ pub mod patterns;
 pub mod peer;
 pub mod program;
 pub mod random;
+pub mod room;
 pub mod row_call;
 pub mod step_call;
 pub mod steps;

@@ -5,7 +5,7 @@
 
 use hoengtila_harness::files::stored;
 use hoengtila_harness::model::{Cursor, Shape};
-use hoengtila_harness::program::run_on;
+use hoengtila_harness::program::written_on;
 use hoengtila_harness::random::{self, Random};
 
 const CASES: usize = 3000;
@@ -116,7 +116,7 @@ fn steps_from_any_cursor() {
         let cursor = Cursor { at, shape };
         met[cursor.advance(&file).number as usize] += 1;
         assert_eq!(
-            run_on(&command_line, &input(cursor, &file), &[]).0,
+            written_on(&command_line, &input(cursor, &file)),
             wanted(cursor, &file),
             "case {k}: {cursor:?}, {} bytes: {file:02x?}",
             file.len()

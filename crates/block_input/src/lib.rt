@@ -1,6 +1,8 @@
-// Internal: what the programs on block files share: the bytes of a file from a descriptor, and what is said on standard error. Nothing
-// can be said of the bytes that a system reads and writes: what stands here is to be read, and `tests/program` tries it. Read
-// `read_input`, then what `blocks` at the root makes a status of.
+// Internal: what the programs behind `blocks` share: the bytes of a file from a descriptor, what is said on standard error, and how a
+// program ended. Nothing can be said of the bytes that a system reads and writes: what stands here is to be read, and `tests/program`
+// tries it. Read `read_input`, then `ending`, of which `blocks` at the root makes a status.
+pub mod ending;
+
 use libc::STDERR_FILENO;
 ghost use mathlib.Core.Path.{_≡_};
 ghost use lib.ListN.{length};
@@ -44,26 +46,33 @@ pub fn read_input(fd: i32, file: &mut [u8]) -> Input
     }
 }
 
-pub fn say(words: &[u8]) {
-    io::write_all(STDERR_FILENO, words);
+// Each `say` tells whether all could be said.
+pub fn say(words: &[u8]) -> bool {
+    io::write_all(STDERR_FILENO, words)
 }
 
-pub fn say_numbers(a: u64, b: u64) {
-    io::print_decimal(STDERR_FILENO, a);
-    say(b" ");
-    io::print_decimal(STDERR_FILENO, b);
+pub fn say_numbers(a: u64, b: u64) -> bool {
+    if !io::print_decimal(STDERR_FILENO, a) {
+        return false;
+    }
+    if !say(b" ") {
+        return false;
+    }
+    io::print_decimal(STDERR_FILENO, b)
 }
 
 // "R number offset", for a refusal in the place of the answer; the caller ends the line.
-pub fn say_refused(number: u32, offset: usize) {
-    say(b"R ");
-    say_numbers(number as u64, offset as u64);
+pub fn say_refused(number: u32, offset: usize) -> bool {
+    if !say(b"R ") {
+        return false;
+    }
+    say_numbers(number as u64, offset as u64)
 }
 
-pub fn say_unread() {
-    say(b"the input could not be read\n");
-}
-
-pub fn say_unwritten() {
-    say(b"the answer could not be written\n");
+// The same as a line.
+pub fn say_refusal(number: u32, offset: usize) -> bool {
+    if !say_refused(number, offset) {
+        return false;
+    }
+    say(b"\n")
 }

@@ -1,10 +1,8 @@
 // Internal: from a descriptor to an answer, for the programs that run a block file. Nothing can be said of the bytes that a
 // system reads and writes: what `answer` and `tell` do with them is to be read, and `tests/program` tries it.
+use block_input::ending;
 use block_input::file_buffer;
 use block_input::read_input;
-use block_input::say;
-use block_input::say_unread;
-use block_input::say_unwritten;
 ghost use mathlib.Core.Path.{_≡_};
 ghost use lib.ListN.{length};
 
@@ -45,15 +43,15 @@ pub fn answer(input: i32, output: i32) -> u32 {
     ENDED
 }
 
-// Says how a program ended, where that is not the file's end; `blocks` at the root makes of it the status.
-pub fn tell(ending: u32) {
-    if ending == REFUSED {
-        say(b"a refusal ended the run\n");
+// Tells how a program ended; `blocks` at the root makes of it the status. A refusal stands in the answer.
+pub fn tell(how: u32) {
+    if how == REFUSED {
+        ending::refused(true);
+        return;
     }
-    if ending == UNREAD {
-        say_unread();
+    if how == UNREAD {
+        ending::unread(0);
+        return;
     }
-    if ending == UNWRITTEN {
-        say_unwritten();
-    }
+    ending::ran(how == ENDED);
 }

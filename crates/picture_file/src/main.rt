@@ -1,13 +1,13 @@
 // Writes the picture of a block of the block file on standard input to standard output. The block is named by the first
-// argument: its count among the data fields, the first being 1. Where there is no picture, a line on standard error says why.
+// argument: its count among the data fields, the first being 1. Where there is no picture, its ending says why, or a line on standard
+// error which refusal.
+use block_input::ending;
 use block_input::file_buffer;
 use block_input::read_input;
-use block_input::say;
-use block_input::say_refused;
-use block_input::say_unread;
-use block_input::say_unwritten;
+use block_input::say_refusal;
 use libc::STDIN_FILENO;
 use libc::STDOUT_FILENO;
+use plain_text::NO_NUMBER;
 use plain_text::number_of;
 ghost use mathlib.Core.Path.{_≡_};
 ghost use lib.ListN.{length};
@@ -25,20 +25,26 @@ fn show(file: &[u8], n: usize) {
     let number = view.number;
     let bytes = view.bytes as usize;
     if number != 0 {
-        say_refused(number, view.offset);
-        say(b"\n");
+        ending::refused(say_refusal(number, view.offset));
         return;
     }
     if bytes == 0 {
-        say(b"there is no such block\n");
+        ending::failed(b"there is no such block");
         return;
     }
     if bytes > 2063 {
         return;
     }
-    if !io::write_all(STDOUT_FILENO, &picture[..bytes]) {
-        say_unwritten();
+    ending::ran(io::write_all(STDOUT_FILENO, &picture[..bytes]));
+}
+
+fn ask(file: &[u8], word: &[u8]) {
+    let n = number_of(word);
+    if n == NO_NUMBER {
+        ending::failed(b"the block is no number");
+        return;
     }
+    show(file, n);
 }
 
 fn main() {
@@ -48,8 +54,8 @@ fn main() {
     let read = read_input(STDIN_FILENO, &mut file);
     let count = read.count;
     if read.failed {
-        say_unread();
+        ending::unread(0);
         return;
     }
-    show(&file[..count], number_of(&text[..n], 0));
+    ask(&file[..count], &text[..n]);
 }

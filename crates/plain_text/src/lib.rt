@@ -1,6 +1,5 @@
 // Internal: text for the programs whose text is not proved: what an argument spells, and text put into a buffer at a place and then
 // printed. Each `put` returns the place after what it put; past the end of the buffer nothing is put.
-use block_input::say_unwritten;
 use libc::STDOUT_FILENO;
 ghost use mathlib.Core.Path.{_≡_};
 ghost use Prim.Native.Nat.{_≤_};
@@ -48,33 +47,33 @@ pub fn text_buffer() -> [u8; 65536]
     [0; 65536]
 }
 
-// The front of a buffer on standard output, or a line on standard error.
-pub fn print(text: &[u8], end: usize) {
-    if end <= text.len() {
-        if io::write_all(STDOUT_FILENO, &text[..end]) {
-            return;
-        }
+// The front of a buffer on standard output; whether all of it was written.
+pub fn print(text: &[u8], end: usize) -> bool {
+    if end > text.len() {
+        return false;
     }
-    say_unwritten();
+    io::write_all(STDOUT_FILENO, &text[..end])
 }
 
-// The number that digits spell, up to 100,000, which is more than a file has fields or a block has places; `none` where a byte is no
-// digit, and for no bytes.
-pub fn number_of(text: &[u8], none: usize) -> usize
-    requires { ⌜ none ≤ 100000 ⌝ }
+// What stands for a word that is no number.
+pub const NO_NUMBER: usize = 100000;
+
+// The number that digits spell, below 100,000, which is more than a file has fields or a block has places; NO_NUMBER where a byte is
+// no digit, and for no bytes.
+pub fn number_of(text: &[u8]) -> usize
     ensures { λ r. ⌜ r ≤ 100000 ⌝ }
 {
     if text.len() == 0 {
-        return none;
+        return NO_NUMBER;
     }
     let mut n = 0;
     let mut i = 0;
     while i < text.len() {
         if text[i] < b'0' {
-            return none;
+            return NO_NUMBER;
         }
         if text[i] > b'9' {
-            return none;
+            return NO_NUMBER;
         }
         if n < 10000 {
             n = n * 10 + (text[i] - b'0') as usize;

@@ -1,5 +1,6 @@
 // The files, one after the other.
 use block_file::cursor::Cursor;
+use block_input::ending;
 use block_input::file_buffer;
 use block_input::read_input;
 use block_input::say;
@@ -10,6 +11,13 @@ use meaning::Shape;
 ghost use mathlib.Core.Path.{_≡_};
 ghost use Prim.Native.Nat.{_+_};
 ghost use lib.ListN.{length};
+
+// How a file ended: at its end, by a refusal, or so that no file comes after it; the ending is then told.
+pub const ENDED: u32 = 0;
+
+pub const REFUSED: u32 = 1;
+
+pub const STOPPED: u32 = 2;
 
 // Where the reading of a file stopped: the number of the refusal or 0, and the offset of the field.
 pub struct Stop {
@@ -76,33 +84,44 @@ fn add_file(totals: &mut [u64; 578], file: &[u8]) -> Stop {
     }
 }
 
-fn say_stop(number: u32, offset: usize, path: &[u8]) {
-    say_refused(number, offset);
-    say(b" ");
-    say(path);
-    say(b"\n");
+fn say_stop(number: u32, offset: usize, path: &[u8]) -> bool {
+    if !say_refused(number, offset) {
+        return false;
+    }
+    if !say(b" ") {
+        return false;
+    }
+    if !say(path) {
+        return false;
+    }
+    say(b"\n")
 }
 
-fn say_unread(path: &[u8]) {
-    say(path);
-    say(b" could not be read\n");
+// Says which refusal ended a file, where the line about progress was.
+fn refuse(number: u32, offset: usize, path: &[u8], progress: bool) -> u32 {
+    clear(progress);
+    if say_stop(number, offset, path) {
+        return REFUSED;
+    }
+    ending::unsaid();
+    STOPPED
 }
 
-// What stands on a descriptor; whether all of it could be read.
-fn take_input(totals: &mut [u64; 578], fd: i32, path: &[u8]) -> bool {
+// What stands on a descriptor, which word i names.
+fn take_input(totals: &mut [u64; 578], fd: i32, i: usize, path: &[u8], progress: bool) -> u32 {
     let mut file = file_buffer();
     let read = read_input(fd, &mut file);
     let count = read.count;
     if read.failed {
-        say_unread(path);
-        return false;
+        ending::unread(i);
+        return STOPPED;
     }
     let stop = add_file(totals, &file[..count]);
     let number = stop.number;
     if number != 0 {
-        say_stop(number, stop.offset, path);
+        return refuse(number, stop.offset, path, progress);
     }
-    true
+    ENDED
 }
 
 fn is_standard_input(path: &[u8]) -> bool {
@@ -112,27 +131,34 @@ fn is_standard_input(path: &[u8]) -> bool {
     path[0] == b'-'
 }
 
-// Takes the file that word i names, - being standard input; false where it could not be read.
-pub fn take(totals: &mut [u64; 578], i: usize) -> bool {
+// Takes the file that word i names, - being standard input.
+pub fn take(totals: &mut [u64; 578], i: usize, progress: bool) -> u32 {
     let mut space = io::buffer();
     let n = os::arg(i, &mut space);
     let path = &space[..n];
     if is_standard_input(path) {
-        return take_input(totals, STDIN_FILENO, path);
+        return take_input(totals, STDIN_FILENO, i, path, progress);
     }
     let fd = os::open_read(path);
     if fd < 0 {
-        say_unread(path);
-        return false;
+        ending::unread(i);
+        return STOPPED;
     }
-    let taken = take_input(totals, fd, path);
+    let taken = take_input(totals, fd, i, path, progress);
     libc::close(fd);
     taken
 }
 
+// Takes away the line about progress.
+pub fn clear(progress: bool) {
+    if progress {
+        io::write_all(4, b"\r\x1b[K");
+    }
+}
+
 // How many files are done, of those before the last word; nothing stays of it in the end.
 pub fn tell(done: usize, last: usize) {
-    io::write_all(4, b"\r\x1b[K");
+    clear(true);
     if done < last {
         let all = last - 1;
         if done < all {

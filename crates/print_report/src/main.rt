@@ -5,13 +5,15 @@
 mod files;
 mod table;
 
+use block_input::ending;
 use plain_text::print;
 use plain_text::text_buffer;
 
-fn print_totals(totals: [u64; 578]) {
+// Whether all was written.
+fn print_totals(totals: [u64; 578]) -> bool {
     let mut text = text_buffer();
     let end = table::put_table(totals, &mut text);
-    print(&text, end);
+    print(&text, end)
 }
 
 // Whether a word asks for progress.
@@ -24,20 +26,42 @@ fn wanted(i: usize) -> bool {
     word[0] == b'4'
 }
 
-// All files, up to one that cannot be read.
-fn take_all(totals: &mut [u64; 578], last: usize) -> bool {
-    let progress = wanted(last);
+// All files, up to one that cannot be read; whether a refusal ended one of them.
+fn take_all(totals: &mut [u64; 578], last: usize, progress: bool) -> u32 {
+    let mut how = files::ENDED;
     let mut i = 1;
     while i < last {
-        if !files::take(totals, i) {
-            return false;
+        let taken = files::take(totals, i, progress);
+        if taken == files::STOPPED {
+            return files::STOPPED;
         }
+        how = later(how, taken);
         if progress {
             files::tell(i, last);
         }
         i += 1;
     }
-    true
+    how
+}
+
+// A refusal stays.
+fn later(before: u32, now: u32) -> u32 {
+    if before == files::REFUSED {
+        return before;
+    }
+    now
+}
+
+fn end(written: bool, how: u32) {
+    if !written {
+        ending::unwritten();
+        return;
+    }
+    if how == files::REFUSED {
+        ending::refused(true);
+        return;
+    }
+    ending::ran(true);
 }
 
 fn main() {
@@ -46,7 +70,11 @@ fn main() {
     if count == 0 {
         return;
     }
-    if take_all(&mut totals, count - 1) {
-        print_totals(totals);
+    let last = count - 1;
+    let progress = wanted(last);
+    let how = take_all(&mut totals, last, progress);
+    files::clear(progress);
+    if how != files::STOPPED {
+        end(print_totals(totals), how);
     }
 }

@@ -3,78 +3,77 @@
 // the lists that the harness makes.
 mod text;
 
-use libc::STDERR_FILENO;
+use block_input::ending;
+use plain_text::NO_NUMBER;
+use plain_text::number_of;
 use plain_text::print;
 use plain_text::text_buffer;
 use step_lists::list::list;
 
-fn show(cells: u32, steps: &[i32], outs: &[i32]) {
+// Whether the list was written.
+fn show(cells: u32, steps: &[i32], outs: &[i32]) -> bool {
     let mut text = text_buffer();
     let end = text::put_list(cells, steps, outs, &mut text);
-    print(&text, end);
+    print(&text, end)
 }
 
-fn show_4() {
+fn show_4() -> bool {
     let mut steps: [i32; 72] = [0; 72];
     let mut outs: [i32; 4] = [0; 4];
     let listed = list(4, &mut steps, &mut outs);
-    show(listed.cells, &steps, &outs);
+    show(listed.cells, &steps, &outs)
 }
 
-fn show_16() {
+fn show_16() -> bool {
     let mut steps: [i32; 1108] = [0; 1108];
     let mut outs: [i32; 16] = [0; 16];
     let listed = list(16, &mut steps, &mut outs);
-    show(listed.cells, &steps, &outs);
+    show(listed.cells, &steps, &outs)
 }
 
-fn show_32() {
+fn show_32() -> bool {
     let mut steps: [i32; 5208] = [0; 5208];
     let mut outs: [i32; 32] = [0; 32];
     let listed = list(32, &mut steps, &mut outs);
-    show(listed.cells, &steps, &outs);
+    show(listed.cells, &steps, &outs)
 }
 
-// The number of points that a word names, or 0.
-fn points(word: &[u8]) -> u32 {
-    if word.len() == 1 {
-        if word[0] == b'4' {
-            return 4;
-        }
-    }
-    if word.len() == 2 {
-        if word[0] == b'1' {
-            if word[1] == b'6' {
-                return 16;
-            }
-        }
-        if word[0] == b'3' {
-            if word[1] == b'2' {
-                return 32;
-            }
-        }
-    }
-    0
-}
-
-fn print_named(word: &[u8]) {
-    let n = points(word);
+fn show_list(n: usize) -> bool {
     if n == 4 {
-        show_4();
-        return;
+        return show_4();
     }
     if n == 16 {
-        show_16();
-        return;
+        return show_16();
     }
-    if n == 32 {
-        show_32();
-        return;
+    show_32()
+}
+
+fn is_listed(n: usize) -> bool {
+    if n == 4 {
+        return true;
     }
-    io::write_all(
-        STDERR_FILENO,
-        b"there are lists of 4, 16 and 32 points alone\n",
-    );
+    if n == 16 {
+        return true;
+    }
+    n == 32
+}
+
+// Whether the list of so many points was written; where it was not, the ending is told.
+fn print_named(word: &[u8]) -> bool {
+    let n = number_of(word);
+    if n == NO_NUMBER {
+        ending::failed(b"N is no number");
+        return false;
+    }
+    if !is_listed(n) {
+        ending::failed(b"there are lists of 4, 16 and 32 points alone");
+        return false;
+    }
+    if show_list(n) {
+        return true;
+    }
+    ending::unwritten();
+    false
 }
 
 fn main() {
@@ -83,7 +82,10 @@ fn main() {
     while i < count {
         let mut word = io::buffer();
         let n = os::arg(i, &mut word);
-        print_named(&word[..n]);
+        if !print_named(&word[..n]) {
+            return;
+        }
         i += 1;
     }
+    ending::ran(true);
 }

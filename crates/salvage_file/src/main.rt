@@ -1,12 +1,11 @@
 // Writes what can be saved of the block file on standard input to standard output, and each dropped stretch to standard error: a
-// line each, its offset and its length. Where nothing is written, a line on standard error says why.
+// line each, its offset and its length. Where nothing is written, its ending says why, or a line on standard error which refusal.
+use block_input::ending;
 use block_input::file_buffer;
 use block_input::read_input;
 use block_input::say;
 use block_input::say_numbers;
-use block_input::say_refused;
-use block_input::say_unread;
-use block_input::say_unwritten;
+use block_input::say_refusal;
 use libc::STDIN_FILENO;
 use libc::STDOUT_FILENO;
 ghost use mathlib.Core.Path.{_≡_};
@@ -19,17 +18,22 @@ fn list_buffer() -> [u32; 2048]
     [0; 2048]
 }
 
-fn say_stretch(offset: u32, length: u32) {
-    say_numbers(offset as u64, length as u64);
-    say(b"\n");
+fn say_stretch(offset: u32, length: u32) -> bool {
+    if !say_numbers(offset as u64, length as u64) {
+        return false;
+    }
+    say(b"\n")
 }
 
-fn say_dropped(list: &[u32]) {
+fn say_dropped(list: &[u32]) -> bool {
     let mut i = 1;
     while i < list.len() {
-        say_stretch(list[i - 1], list[i]);
+        if !say_stretch(list[i - 1], list[i]) {
+            return false;
+        }
         i += 2;
     }
+    true
 }
 
 fn save(file: &[u8]) {
@@ -41,8 +45,7 @@ fn save(file: &[u8]) {
     let numbers = saved.stretches as usize * 2;
     if number != 0 {
         // The offset is that of the file's start: nothing is written, whichever field is the first too many.
-        say_refused(number, 0);
-        say(b"\n");
+        ending::refused(say_refusal(number, 0));
         return;
     }
     if bytes > 65537 {
@@ -52,10 +55,14 @@ fn save(file: &[u8]) {
         return;
     }
     if !io::write_all(STDOUT_FILENO, &out[..bytes]) {
-        say_unwritten();
+        ending::unwritten();
         return;
     }
-    say_dropped(&list[..numbers]);
+    if !say_dropped(&list[..numbers]) {
+        ending::unsaid();
+        return;
+    }
+    ending::ran(true);
 }
 
 fn main() {
@@ -63,7 +70,7 @@ fn main() {
     let read = read_input(STDIN_FILENO, &mut file);
     let count = read.count;
     if read.failed {
-        say_unread();
+        ending::unread(0);
         return;
     }
     save(&file[..count]);

@@ -1,5 +1,6 @@
 // Prints how far a round trip can stray: D of every place, a line for each kind and size, and the largest of them. Nothing is proved
 // of the text but that it ends: `stdout` has it. Each `put` returns the place after what it put.
+use block_input::ending;
 use plain_text::print;
 use plain_text::put;
 use plain_text::put_natural;
@@ -57,5 +58,5 @@ fn main() {
     let of_0 = put_lines(0, b"DCT-II, ", &mut text, 0);
     let of_1 = put_lines(1, b"DST-VII, ", &mut text, of_0);
     let of_2 = put_lines(2, b"DCT-VIII, ", &mut text, of_1);
-    print(&text, of_2);
+    ending::ran(print(&text, of_2));
 }

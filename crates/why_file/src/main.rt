@@ -1,15 +1,18 @@
 // Prints the parts of a residual of the block file on standard input: `why_file BLOCK PLACE`. The block is named by its count among the
-// data fields, the first being 1; the place is column + row * width. Where there are no parts, a line on standard error says why.
+// data fields, the first being 1; the place is column + row * width. Where there are no parts, its ending says why, or a line on
+// standard error which refusal.
 // Nothing is proved of the text but that it ends: `tests/why` holds what is printed to the harness's model.
 mod text;
 
+use block_input::ending;
 use block_input::file_buffer;
 use block_input::read_input;
 use block_input::say;
+use block_input::say_refusal;
 use block_input::say_refused;
-use block_input::say_unread;
 use block_why::named::named;
 use libc::STDIN_FILENO;
+use plain_text::NO_NUMBER;
 use plain_text::number_of;
 use plain_text::print;
 use why::Parts;
@@ -25,26 +28,31 @@ fn text_buffer() -> [u8; 1024]
 fn show(depth: u32, parts: Parts) {
     let mut text = text_buffer();
     let end = text::put_parts(depth, parts, &mut text);
-    print(&text, end);
+    ending::ran(print(&text, end));
 }
 
 // A refusal that has to do with a place of the block, which is given as it is to be written.
-fn say_refused_place(number: u32, offset: usize, place: &[u8]) {
-    say_refused(number, offset);
-    say(b" place ");
-    say(place);
-    say(b"\n");
+fn say_refused_place(number: u32, offset: usize, place: &[u8]) -> bool {
+    if !say_refused(number, offset) {
+        return false;
+    }
+    if !say(b" place ") {
+        return false;
+    }
+    if !say(place) {
+        return false;
+    }
+    say(b"\n")
 }
 
 // 15 with the place that was asked for, as it was written, and else the place of a coefficient.
-fn say_place(number: u32, offset: usize, place: u32, word: &[u8]) {
+fn say_place(number: u32, offset: usize, place: u32, word: &[u8]) -> bool {
     if number == 15 {
-        say_refused_place(number, offset, word);
-        return;
+        return say_refused_place(number, offset, word);
     }
     let mut digits: [u8; 20] = [0; 20];
     let count = io::decimal(place as u64, &mut digits);
-    say_refused_place(number, offset, &digits[..count]);
+    say_refused_place(number, offset, &digits[..count])
 }
 
 fn answer(file: &[u8], n: usize, place: u32, word: &[u8]) {
@@ -54,30 +62,33 @@ fn answer(file: &[u8], n: usize, place: u32, word: &[u8]) {
     let parts = reasons.parts;
     let number = parts.number;
     if tag == 3 {
-        say(b"the block is a forward, which has no such parts\n");
+        ending::failed(b"the block is a forward, which has no such parts");
         return;
     }
     if tag == 2 {
         if number != 0 {
-            say_place(number, offset, parts.place, word);
+            ending::refused(say_place(number, offset, parts.place, word));
             return;
         }
         show(reasons.depth, parts);
         return;
     }
     if number != 0 {
-        say_refused(number, offset);
-        say(b"\n");
+        ending::refused(say_refusal(number, offset));
         return;
     }
-    say(b"there is no such block\n");
+    ending::failed(b"there is no such block");
 }
 
-// The last number that is read stands for a word that is none.
-fn ask(file: &[u8], n: usize, word: &[u8]) {
-    let place = number_of(word, 100000);
-    if place == 100000 {
-        say(b"the place is no number\n");
+fn ask(file: &[u8], block: &[u8], word: &[u8]) {
+    let n = number_of(block);
+    if n == NO_NUMBER {
+        ending::failed(b"the block is no number");
+        return;
+    }
+    let place = number_of(word);
+    if place == NO_NUMBER {
+        ending::failed(b"the place is no number");
         return;
     }
     answer(file, n, place as u32, word);
@@ -92,8 +103,8 @@ fn main() {
     let read = read_input(STDIN_FILENO, &mut file);
     let count = read.count;
     if read.failed {
-        say_unread();
+        ending::unread(0);
         return;
     }
-    ask(&file[..count], number_of(&block[..b], 0), &place[..p]);
+    ask(&file[..count], &block[..b], &place[..p]);
 }

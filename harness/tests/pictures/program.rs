@@ -3,18 +3,22 @@
 use hoengtila_harness::files::{random_file, whole_case};
 use hoengtila_harness::model::file::{picked, Picked, TAG_COEFFICIENTS};
 use hoengtila_harness::model::{inverse, write_picture};
-use hoengtila_harness::program::run_on;
+use hoengtila_harness::program::{run_on, Outcome};
 use hoengtila_harness::random::seeded;
 
 /// The environment variable that gives the program's command line.
 const VARIABLE: &str = "HOENGTILA_PICTURE_PROGRAM";
 
-/// What the program writes: the picture of the n-th data field, or why there is none.
-fn wanted(file: &[u8], n: usize) -> (Vec<u8>, String) {
-    let refused = |number: i64, at: usize| (vec![], format!("R {number} {at}\n"));
+fn failed(why: &str) -> Outcome {
+    (vec![], String::new(), format!("2 {why}"))
+}
+
+/// What the program writes and says: the picture of the n-th data field, or why there is none.
+fn wanted(file: &[u8], n: usize) -> Outcome {
+    let refused = |number: i64, at: usize| (vec![], format!("R {number} {at}\n"), "1".to_string());
     let (tag, at, shape, mut residuals) = match picked(file, n) {
         Picked::Refused(number, at) => return refused(number, at),
-        Picked::Missing => return (vec![], "there is no such block\n".to_string()),
+        Picked::Missing => return failed("there is no such block"),
         Picked::Block {
             tag,
             at,
@@ -35,7 +39,7 @@ fn wanted(file: &[u8], n: usize) -> (Vec<u8>, String) {
         return refused(written.number, at);
     }
     picture.truncate(written.bytes);
-    (picture, String::new())
+    (picture, String::new(), "0".to_string())
 }
 
 #[test]
@@ -52,13 +56,20 @@ fn the_program_writes_what_the_model_does() {
             refused += usize::from(outcome.1.starts_with('R'));
         }
     }
-    for count in ["", "x", "1x", "-1", "100000", "99999999999999999999"] {
-        let said = (vec![], "there is no such block\n".to_string());
-        assert_eq!(
-            run_on(&command_line, &whole_case(), &[count]),
-            said,
-            "{count}"
-        );
+    for (count, why) in [
+        ("", "the block is no number"),
+        ("x", "the block is no number"),
+        ("1x", "the block is no number"),
+        ("-1", "the block is no number"),
+        ("0", "there is no such block"),
+        ("99999", "there is no such block"),
+        ("100000", "there is no such block"),
+        ("99999999999999999999", "there is no such block"),
+    ] {
+        let outcome = run_on(&command_line, &whole_case(), &[count]);
+        assert_eq!(outcome, failed(why), "{count}");
     }
+    let first = run_on(&command_line, &whole_case(), &["01"]);
+    assert_eq!(first, wanted(&whole_case(), 1), "a zero before it");
     println!("pictures: the program writes {pictures} pictures and refuses {refused} blocks as the model does");
 }

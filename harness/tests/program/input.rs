@@ -2,7 +2,8 @@
 
 use crate::command::{check, command, expected, failed, in_shell, run, run_pieces, UNREAD};
 use hoengtila_harness::files::stored;
-use std::fs::{self, File};
+use hoengtila_harness::room::Room;
+use std::fs::File;
 use std::process::Stdio;
 use std::time::Duration;
 
@@ -35,7 +36,8 @@ fn that_cannot_be_read() {
     let mut folder = command(&[]);
     folder.stdin(Stdio::from(File::open("/").expect("a folder opens")));
     assert_eq!(run(folder), failed(UNREAD), "a folder");
-    assert_eq!(run(command(&["/"])), failed(UNREAD), "a folder by name");
+    let named = run(command(&["/"]));
+    assert_eq!(named, failed("/ could not be read"), "a folder by name");
     let closed = in_shell("", &[], "<&-");
     assert_eq!(run(closed), failed(UNREAD), "a closed descriptor");
 }
@@ -43,14 +45,12 @@ fn that_cannot_be_read() {
 /// By its name, from another folder; by `-`; and with standard input closed, which is not needed then.
 #[test]
 fn from_a_file() {
-    let folder = std::env::temp_dir().join(format!("hoengtila-input-{}", std::process::id()));
-    fs::create_dir_all(&folder).expect("a folder can be made");
-    let path = folder.join("a file");
+    let room = Room::new(env!("CARGO_TARGET_TMPDIR"), "input");
     for name in ["whole_case", "refused_after_lines", "too_long", "empty"] {
         let whole = file(name);
-        fs::write(&path, &whole).expect("a file can be written");
+        let path = room.put("a file", &whole);
         let mut here = command(&["a file"]);
-        here.current_dir(&folder);
+        here.current_dir(room.path());
         assert_eq!(run(here), expected(&whole), "{name}, by its name");
         let name_of = path.to_str().expect("the path is text");
         let named = command(&["run", name_of]);
@@ -63,5 +63,4 @@ fn from_a_file() {
         }
         check(&whole, name);
     }
-    fs::remove_dir_all(&folder).expect("the folder can be removed");
 }

@@ -3,7 +3,8 @@
 use crate::command::{command, expected, failed, in_shell, run, Shown, UNWRITTEN};
 use hoengtila_harness::files::{data, shape};
 use hoengtila_harness::model::file::TAG_RESIDUALS;
-use std::fs::{self, File, OpenOptions};
+use hoengtila_harness::room::Room;
+use std::fs::{File, OpenOptions};
 use std::io::Read;
 use std::os::fd::AsRawFd;
 use std::os::unix::fs::OpenOptionsExt;
@@ -14,14 +15,14 @@ use std::process::Stdio;
 const O_NONBLOCK: i32 = 0o4000;
 
 /// A file with an answer that no pipe holds, in a folder of its own.
-fn long_file(name: &str) -> (PathBuf, Vec<u8>) {
+fn long_file(name: &str) -> (Room, PathBuf, Vec<u8>) {
     let mut file = shape(32, 32, 1, 1, 12);
     for _ in 0..31 {
         file.extend(data(TAG_RESIDUALS, &[-4095; 1024]));
     }
-    let path = std::env::temp_dir().join(format!("hoengtila-{name}-{}", std::process::id()));
-    fs::write(&path, &file).expect("a file can be written");
-    (path, file)
+    let room = Room::new(env!("CARGO_TARGET_TMPDIR"), name);
+    let path = room.put("long", &file);
+    (room, path, file)
 }
 
 /// What the command shows of the file where its answer goes to `output`.
@@ -33,16 +34,15 @@ fn run_to(path: &Path, output: Stdio) -> Shown {
 
 #[test]
 fn a_full_device() {
-    let (path, _) = long_file("full");
+    let (_room, path, _) = long_file("full");
     let full = File::create("/dev/full").expect("/dev/full opens");
     assert_eq!(run_to(&path, Stdio::from(full)), failed(UNWRITTEN));
-    fs::remove_file(path).expect("the file can be removed");
 }
 
 /// A pipe that takes a part and then no more.
 #[test]
 fn a_part_of_the_answer() {
-    let (path, file) = long_file("part");
+    let (_room, path, file) = long_file("part");
     let (mut reader, writer) = std::io::pipe().expect("a pipe can be made");
     let again = format!("/proc/self/fd/{}", writer.as_raw_fd());
     let mut options = OpenOptions::new();
@@ -54,37 +54,33 @@ fn a_part_of_the_answer() {
     reader.read_to_string(&mut came).expect("what came is text");
     let whole = expected(&file).out;
     assert!(came.len() < whole.len() && whole.starts_with(&came));
-    fs::remove_file(path).expect("the file can be removed");
 }
 
 #[test]
 fn nobody_reads() {
-    let (path, _) = long_file("nobody");
+    let (_room, path, _) = long_file("nobody");
     let (reader, writer) = std::io::pipe().expect("a pipe can be made");
     drop(reader);
     assert_eq!(run_to(&path, Stdio::from(writer)), failed(UNWRITTEN));
-    fs::remove_file(path).expect("the file can be removed");
 }
 
 #[test]
 fn a_closed_descriptor() {
-    let (path, _) = long_file("closed");
+    let (_room, path, _) = long_file("closed");
     let name = path.to_str().expect("the path is text");
     let closed = in_shell("", &[name], ">&-");
     assert_eq!(run(closed), failed(UNWRITTEN));
-    fs::remove_file(path).expect("the file can be removed");
 }
 
 /// A program needs 1 MB of stack; where it has less, that too is said.
 #[test]
 #[cfg(target_arch = "x86_64")]
 fn a_small_stack() {
-    let (path, file) = long_file("stack");
+    let (_room, path, file) = long_file("stack");
     let name = path.to_str().expect("the path is text");
     let enough = in_shell("ulimit -s 1024;", &[name], "");
     assert_eq!(run(enough), expected(&file));
     let little = run(in_shell("ulimit -s 400;", &[name], ""));
     assert_eq!((little.out.as_str(), little.status), ("", Some(2)));
     assert!(little.err.contains("1 MB of stack"), "{}", little.err);
-    fs::remove_file(path).expect("the file can be removed");
 }

@@ -2,7 +2,7 @@
 
 use crate::command::{command, expected, name, program, run, run_pieces};
 use hoengtila_harness::files::stored;
-use std::fs;
+use hoengtila_harness::room::Room;
 use std::os::unix::fs::symlink;
 use std::process::{Command, Stdio};
 use std::time::Duration;
@@ -61,15 +61,14 @@ fn that_ask_for_the_version() {
 /// Through links, the second beside the first, and from another folder.
 #[test]
 fn through_a_link() {
-    let folder = std::env::temp_dir().join(format!("hoengtila-link-{}", std::process::id()));
-    fs::create_dir_all(&folder).expect("a folder can be made");
+    let room = Room::new(env!("CARGO_TARGET_TMPDIR"), "link");
+    let folder = room.path();
     symlink(program(), folder.join("first")).expect("a link can be made");
     symlink("first", folder.join("second")).expect("a link can be made");
     let whole = stored().remove(0).file;
     let mut linked = Command::new(folder.join("second"));
-    linked.current_dir(&folder);
+    linked.current_dir(folder);
     linked.stdout(Stdio::piped()).stderr(Stdio::piped());
     let shown = run_pieces(linked, &[&whole], Duration::ZERO);
     assert_eq!(shown, expected(&whole));
-    fs::remove_dir_all(&folder).expect("the folder can be removed");
 }

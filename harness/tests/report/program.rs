@@ -3,9 +3,10 @@
 use hoengtila_harness::files::{data, shape};
 use hoengtila_harness::model::file::{LARGEST_FILE, TAG_COEFFICIENTS, TAG_RESIDUALS};
 use hoengtila_harness::model::report::{add_file, table, Totals, GIVEN, NUMBERS, REFUSED};
+use hoengtila_harness::program::run_on;
 use hoengtila_harness::random::{seeded, Random};
+use hoengtila_harness::room::Room;
 use std::path::{Path, PathBuf};
-use std::process::{Command, Stdio};
 
 /// The environment variable that gives the program's command line.
 const VARIABLE: &str = "HOENGTILA_REPORT_PROGRAM";
@@ -60,45 +61,33 @@ fn file(random: &mut Random) -> Vec<u8> {
 
 struct Run {
     command_line: String,
-    folder: PathBuf,
+    room: Room,
 }
 
 impl Run {
     fn new(name: &str) -> Run {
         let command_line = std::env::var(VARIABLE).expect(VARIABLE);
-        let folder =
-            std::env::temp_dir().join(format!("hoengtila-report-{name}-{}", std::process::id()));
-        std::fs::create_dir_all(&folder).expect("a folder");
-        Run {
-            command_line,
-            folder,
-        }
+        let room = Room::new(env!("CARGO_TARGET_TMPDIR"), &format!("report-{name}"));
+        Run { command_line, room }
     }
 
     fn put(&self, k: usize, bytes: &[u8]) -> PathBuf {
-        let path = self.folder.join(format!("{k}.bin"));
-        std::fs::write(&path, bytes).expect("a file");
-        path
+        self.room.put(&format!("{k}.bin"), bytes)
     }
 
-    fn found(&self, paths: &[PathBuf]) -> (String, String) {
-        let mut words = self.command_line.split_whitespace();
-        let output = Command::new(words.next().expect("a command line"))
-            .args(words)
-            .args(paths)
-            .arg("-")
-            .stdin(Stdio::null())
-            .output()
-            .expect("the program ends");
-        let text = |bytes: &[u8]| String::from_utf8_lossy(bytes).into_owned();
-        (text(&output.stdout), text(&output.stderr))
+    /// What is printed, said and told at the end.
+    fn found(&self, paths: &[PathBuf]) -> (String, String, String) {
+        let names = paths.iter().map(|path| path.to_str().expect("text"));
+        let words: Vec<&str> = names.chain(["-"]).collect();
+        let (out, said, ending) = run_on(&self.command_line, &[], &words);
+        let out = String::from_utf8(out).expect("it prints text");
+        (out, said, ending)
     }
 }
 
-impl Drop for Run {
-    fn drop(&mut self) {
-        let _ = std::fs::remove_dir_all(&self.folder);
-    }
+/// The ending of a report with these lines on standard error.
+fn ending(said: &str) -> String {
+    String::from(if said.is_empty() { "0" } else { "1" })
 }
 
 #[test]
@@ -117,7 +106,8 @@ fn the_table_of_many_blocks_is_the_models() {
     }
     assert!(totals[REFUSED] > 100);
     let wanted = table(&totals);
-    assert_eq!(run.found(&paths), (wanted.clone(), said));
+    let told = ending(&said);
+    assert_eq!(run.found(&paths), (wanted.clone(), said, told));
     paths.reverse();
     assert_eq!(run.found(&paths).0, wanted, "in another order");
     println!(
@@ -144,22 +134,19 @@ fn one_block_too_many_ends_the_report() {
         .collect();
     assert_eq!(totals[GIVEN], 65_536);
     assert!(said.starts_with("R 22 "));
-    assert_eq!(run.found(&paths), (table(&totals), said));
+    assert_eq!(run.found(&paths), (table(&totals), said, "1".to_string()));
 }
 
 #[test]
 fn no_files_and_no_blocks() {
     let run = Run::new("none");
     let empty = run.put(0, &[]);
-    let wanted = (table(&[0; NUMBERS]), String::new());
+    let wanted = (table(&[0; NUMBERS]), String::new(), "0".to_string());
     assert_eq!(run.found(&[]), wanted);
-    assert_eq!(run.found(&[empty.clone(), empty]), wanted);
-    let missing = run.folder.join("missing");
+    assert_eq!(run.found(&[empty.clone(), empty.clone()]), wanted);
+    let missing = run.room.path().join("missing");
     assert_eq!(
-        run.found(std::slice::from_ref(&missing)),
-        (
-            String::new(),
-            format!("{} could not be read\n", missing.display())
-        )
+        run.found(&[empty, missing]),
+        (String::new(), String::new(), "unread 2".to_string())
     );
 }

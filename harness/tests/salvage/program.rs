@@ -23,7 +23,8 @@ fn the_program_writes_and_says_what_the_model_does() {
     }
     for file in &files {
         let outcome = run_on(&command_line, file, &[]);
-        assert_eq!(outcome, saved_of(file), "{file:02x?}");
+        let (saved, dropped) = saved_of(file);
+        assert_eq!(outcome, (saved, dropped, "0".to_string()), "{file:02x?}");
         lines += outcome.1.lines().count();
     }
     for (file, said) in [
@@ -32,7 +33,7 @@ fn the_program_writes_and_says_what_the_model_does() {
     ] {
         assert_eq!(
             run_on(&command_line, &file, &[]),
-            (vec![], said.to_string())
+            (vec![], said.to_string(), "1".to_string())
         );
     }
     println!(

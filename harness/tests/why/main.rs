@@ -10,24 +10,30 @@ use hoengtila_harness::random::{seeded, Random};
 
 const VARIABLE: &str = "HOENGTILA_WHY_PROGRAM";
 
-/// What the program writes, and what it says where it writes nothing.
-fn wanted(file: &[u8], n: usize, place: &str) -> (String, String) {
-    let said = |line: String| (String::new(), line + "\n");
+/// What the program writes, what it says where it writes nothing, and its ending.
+type Told = (String, String, String);
+
+fn failed(why: &str) -> Told {
+    (String::new(), String::new(), format!("2 {why}"))
+}
+
+fn wanted(file: &[u8], n: usize, place: &str) -> Told {
+    let said = |line: String| (String::new(), line + "\n", "1".to_string());
     let Ok(number) = place.parse::<i64>() else {
-        return said("the place is no number".to_string());
+        return failed("the place is no number");
     };
     match picked(file, n) {
         Picked::Refused(number, at) => said(format!("R {number} {at}")),
-        Picked::Missing => said("there is no such block".to_string()),
+        Picked::Missing => failed("there is no such block"),
         Picked::Block {
             tag: TAG_RESIDUALS, ..
-        } => said("the block is a forward, which has no such parts".to_string()),
+        } => failed("the block is a forward, which has no such parts"),
         Picked::Block {
             at, shape, numbers, ..
         } => {
             let parts = why(&shape, &numbers, number);
             match parts.number {
-                0 => (text(&parts, shape.depth), String::new()),
+                0 => (text(&parts, shape.depth), String::new(), "0".to_string()),
                 15 => said(format!("R 15 {at} place {place}")),
                 number => said(format!("R {number} {at} place {}", parts.place)),
             }
@@ -60,8 +66,9 @@ fn place(random: &mut Random, file: &[u8], n: usize) -> String {
 fn the_program_prints_what_the_model_does() {
     let command_line = std::env::var(VARIABLE).expect(VARIABLE);
     let run = |file: &[u8], words: &[&str]| {
-        let (out, said) = run_on(&command_line, file, words);
-        (String::from_utf8(out).expect("it prints text"), said)
+        let (out, said, ending) = run_on(&command_line, file, words);
+        let out = String::from_utf8(out).expect("it prints text");
+        (out, said, ending)
     };
     let mut random = seeded();
     let (mut printed, mut refused, mut others) = (0, 0, 0);
@@ -72,20 +79,30 @@ fn the_program_prints_what_the_model_does() {
             let outcome = run(&file, &[&n.to_string(), &place]);
             let wanted = wanted(&file, n, &place);
             assert_eq!(outcome, wanted, "block {n}, place {place} of {file:02x?}");
-            printed += usize::from(outcome.1.is_empty());
-            refused += usize::from(outcome.1.starts_with('R'));
-            others += usize::from(outcome.1.starts_with('t'));
+            printed += usize::from(outcome.2 == "0");
+            refused += usize::from(outcome.2 == "1");
+            others += usize::from(outcome.2.starts_with('2'));
         }
     }
     assert!(printed > 50 && refused > 50 && others > 50);
 
     let file = whole_case();
-    for words in [["x", "5"], ["", "5"], ["1x", "5"], ["-1", "5"], ["2", "5"]] {
-        assert_eq!(run(&file, &words).1, "there is no such block\n");
+    for block in ["x", "", "1x", "-1"] {
+        let said = failed("the block is no number");
+        assert_eq!(run(&file, &[block, "5"]), said, "{block}");
+    }
+    for block in ["0", "2", "99999", "100001"] {
+        let said = failed("there is no such block");
+        assert_eq!(run(&file, &[block, "5"]), said, "{block}");
     }
     for place in ["", "x", "5x", "-1", "+5", " 5"] {
-        let said = "the place is no number\n".to_string();
-        assert_eq!(run(&file, &["1", place]), (String::new(), said), "{place}");
+        let said = failed("the place is no number");
+        assert_eq!(run(&file, &["1", place]), said, "{place}");
     }
+    assert_eq!(
+        run(&file, &["01", "05"]),
+        wanted(&file, 1, "5"),
+        "zeros before them"
+    );
     println!("why: the program prints the parts of {printed} residuals and refuses {refused} as the model does");
 }

@@ -17,23 +17,20 @@ shown-requires c κs = search needs
 cast-bytes : tie.Need-cast-bytes
 cast-bytes c = search needs
 
-say-refused-requires : tie.Need-say-refused-requires
-say-refused-requires c κs = search needs
+say-refusal-requires : tie.Need-say-refusal-requires
+say-refusal-requires c κs = search needs
 
-slice-aggregate-say : tie.Need-slice-aggregate-say
-slice-aggregate-say c = search needs
-
-say-requires : tie.Need-say-requires
-say-requires c κs = search needs
+refused-requires : tie.Need-refused-requires
+refused-requires c κs = search needs
 
 returns : tie.Need-returns
 returns c = search needs
 
-slice-aggregate-say-2 : tie.Need-slice-aggregate-say-2
-slice-aggregate-say-2 c = search needs
+slice-aggregate-failed : tie.Need-slice-aggregate-failed
+slice-aggregate-failed c = search needs
 
-say-requires-2 : tie.Need-say-requires-2
-say-requires-2 c κs = search needs
+failed-requires : tie.Need-failed-requires
+failed-requires c κs = search needs
 
 returns-2 : tie.Need-returns-2
 returns-2 c = search needs
@@ -50,14 +47,11 @@ slice-aggregate-write-all c = sym (length-take-le _ _ (search needs))
 write-all-requires : tie.Need-write-all-requires
 write-all-requires c κs = search needs
 
-say-unwritten-requires : tie.Need-say-unwritten-requires
-say-unwritten-requires c κs = search needs
+ran-requires : tie.Need-ran-requires
+ran-requires c κs = search needs
 
 returns-4 : tie.Need-returns-4
 returns-4 c = search needs
-
-returns-5 : tie.Need-returns-5
-returns-5 c = search needs
 
 pub show-spec : {M : Type 1} → statement M
 show-spec =
@@ -67,17 +61,15 @@ show-spec =
     slice-aggregate-shown
     shown-requires
     cast-bytes
-    say-refused-requires
-    slice-aggregate-say
-    say-requires
+    say-refusal-requires
+    refused-requires
     returns
-    slice-aggregate-say-2
-    say-requires-2
+    slice-aggregate-failed
+    failed-requires
     returns-2
     returns-3
     array-share-prefix-picture
     slice-aggregate-write-all
     write-all-requires
-    say-unwritten-requires
-    returns-4
-    returns-5)
+    ran-requires
+    returns-4)

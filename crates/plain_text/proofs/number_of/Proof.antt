@@ -8,10 +8,10 @@ use Rattle.plain_text.proofs.number_of.Statement.{statement}
 use Rattle.plain_text.proofs.number_of.Tie as tie
 
 abbrev Inv-loop : tie.InvT-loop
-Inv-loop text none n₀ i₀ n i = (i ≤ length text) × (n ≤ 100000)
+Inv-loop text n₀ i₀ n i = (i ≤ length text) × (n ≤ 100000)
 
 abbrev μ-loop : tie.MeasureT-loop
-μ-loop text none n₀ i₀ n i = length text - i
+μ-loop text n₀ i₀ n i = length text - i
 
 returns : tie.Need-returns Inv-loop μ-loop
 returns c = search needs

@@ -5,13 +5,10 @@ use Rattle.print_report.proofs.take_all.Statement.{statement}
 use Rattle.print_report.proofs.take_all.Tie as tie
 
 abbrev Inv-loop : tie.InvT-loop
-Inv-loop totals₀ last progress i₀ totals i = Unit {0}
+Inv-loop totals₀ last progress how₀ i₀ totals how i = Unit {0}
 
 abbrev μ-loop : tie.MeasureT-loop
-μ-loop totals₀ last progress i₀ totals i = last - i
-
-wanted-requires : tie.Need-wanted-requires Inv-loop μ-loop
-wanted-requires c κs = search needs
+μ-loop totals₀ last progress how₀ i₀ totals how i = last - i
 
 loop-holds : tie.Need-loop-holds Inv-loop μ-loop
 loop-holds c = search needs
@@ -21,6 +18,9 @@ take-requires c κs = search needs
 
 returns : tie.Need-returns Inv-loop μ-loop
 returns c = search needs
+
+later-requires : tie.Need-later-requires Inv-loop μ-loop
+later-requires c κs = search needs
 
 tell-requires : tie.Need-tell-requires Inv-loop μ-loop
 tell-requires c κs = search needs
@@ -43,10 +43,10 @@ take-all-spec =
     (tie.spec
     Inv-loop
     μ-loop
-    wanted-requires
     loop-holds
     take-requires
     returns
+    later-requires
     tell-requires
     add-i
     loop-less

@@ -34,6 +34,9 @@ slice-aggregate-print-named c = search needs
 print-named-requires : tie.Need-print-named-requires Inv-loop μ-loop
 print-named-requires c κs = search needs
 
+returns : tie.Need-returns Inv-loop μ-loop
+returns c = search needs
+
 add-i : tie.Need-add-i Inv-loop μ-loop
 add-i c = search needs
 
@@ -43,8 +46,11 @@ loop-less c = search needs
 loop-again : tie.Need-loop-again Inv-loop μ-loop
 loop-again c = search needs
 
-returns : tie.Need-returns Inv-loop μ-loop
-returns c = search needs
+ran-requires : tie.Need-ran-requires Inv-loop μ-loop
+ran-requires c κs = search needs
+
+returns-2 : tie.Need-returns-2 Inv-loop μ-loop
+returns-2 c = search needs
 
 pub main-spec : {M : Type 1} → statement M
 main-spec =
@@ -60,7 +66,9 @@ main-spec =
     array-share-prefix-word
     slice-aggregate-print-named
     print-named-requires
+    returns
     add-i
     loop-less
     loop-again
-    returns)
+    ran-requires
+    returns-2)

@@ -29,14 +29,11 @@ cast-numbers c = search needs
 mul-numbers : tie.Need-mul-numbers
 mul-numbers c = search needs
 
-say-refused-requires : tie.Need-say-refused-requires
-say-refused-requires c κs = search needs
+say-refusal-requires : tie.Need-say-refusal-requires
+say-refusal-requires c κs = search needs
 
-slice-aggregate-say : tie.Need-slice-aggregate-say
-slice-aggregate-say c = search needs
-
-say-requires : tie.Need-say-requires
-say-requires c κs = search needs
+refused-requires : tie.Need-refused-requires
+refused-requires c κs = search needs
 
 returns : tie.Need-returns
 returns c = search needs
@@ -56,8 +53,8 @@ slice-aggregate-write-all c = sym (length-take-le _ _ (search needs))
 write-all-requires : tie.Need-write-all-requires
 write-all-requires c κs = search needs
 
-say-unwritten-requires : tie.Need-say-unwritten-requires
-say-unwritten-requires c κs = search needs
+unwritten-requires : tie.Need-unwritten-requires
+unwritten-requires c κs = search needs
 
 returns-4 : tie.Need-returns-4
 returns-4 c = search needs
@@ -71,8 +68,17 @@ slice-aggregate-say-dropped c = sym (length-take-le _ _ (search needs))
 say-dropped-requires : tie.Need-say-dropped-requires
 say-dropped-requires c κs = search needs
 
+unsaid-requires : tie.Need-unsaid-requires
+unsaid-requires c κs = search needs
+
 returns-5 : tie.Need-returns-5
 returns-5 c = search needs
+
+ran-requires : tie.Need-ran-requires
+ran-requires c κs = search needs
+
+returns-6 : tie.Need-returns-6
+returns-6 c = search needs
 
 pub save-spec : {M : Type 1} → statement M
 save-spec =
@@ -86,18 +92,20 @@ save-spec =
     cast-bytes
     cast-numbers
     mul-numbers
-    say-refused-requires
-    slice-aggregate-say
-    say-requires
+    say-refusal-requires
+    refused-requires
     returns
     returns-2
     returns-3
     array-share-prefix-out
     slice-aggregate-write-all
     write-all-requires
-    say-unwritten-requires
+    unwritten-requires
     returns-4
     array-share-prefix-list
     slice-aggregate-say-dropped
     say-dropped-requires
-    returns-5)
+    unsaid-requires
+    returns-5
+    ran-requires
+    returns-6)

@@ -32,6 +32,9 @@ shared-slice-read-say-stretch-2 c = search needs
 say-stretch-requires : tie.Need-say-stretch-requires Inv-loop μ-loop
 say-stretch-requires c κs = search needs
 
+returns : tie.Need-returns Inv-loop μ-loop
+returns c = search needs
+
 add-i : tie.Need-add-i Inv-loop μ-loop
 add-i c = search needs
 
@@ -41,8 +44,8 @@ loop-less c = search needs
 loop-again : tie.Need-loop-again Inv-loop μ-loop
 loop-again c = search needs
 
-returns : tie.Need-returns Inv-loop μ-loop
-returns c = search needs
+returns-2 : tie.Need-returns-2 Inv-loop μ-loop
+returns-2 c = search needs
 
 pub say-dropped-spec : {M : Type 1} → statement M
 say-dropped-spec =
@@ -57,7 +60,8 @@ say-dropped-spec =
     mul-say-stretch-2
     shared-slice-read-say-stretch-2
     say-stretch-requires
+    returns
     add-i
     loop-less
     loop-again
-    returns)
+    returns-2)
