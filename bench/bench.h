@@ -16,7 +16,7 @@
 #endif
 
 enum { DCT_II = 0, DST_VII = 1, DCT_VIII = 2 };
-enum { LONGEST = 32, KEPT = 16, LARGEST = LONGEST * LONGEST };
+enum { LONGEST = 32, KEPT = 16, LARGEST = LONGEST * LONGEST, LARGEST_TRANSFORM = 64 * 64 };
 
 /* An inverse block takes coefficients and gives residuals, a forward block the reverse, as the library's calls do. The
  * shape is one that the library accepts, and so are the numbers: a baseline tests nothing and counts no rails. */
@@ -26,11 +26,11 @@ typedef void forward_block(hoengtila_shape shape, const int16_t *residuals, int1
 inverse_block reference_inverse, triple_inverse, rows_inverse, folded_inverse, butterfly_inverse, halves_inverse;
 forward_block reference_forward, triple_forward, rows_forward, folded_forward, butterfly_forward, halves_forward;
 
-/* Coefficients of kind 0 to residuals in place; outside of the shape's columns and rows they are 0. */
+/* Coefficients to residuals in place; outside of the shape's columns and rows they are 0. A side may be 1, 2 or 64. */
 void decoder_inverse(hoengtila_shape shape, int32_t *numbers);
 
 /* Each baseline makes its tables of the weights once. */
-void reference_prepare(void), triple_prepare(void), rows_prepare(void), folded_prepare(void), halves_prepare(void);
+void reference_prepare(void), triple_prepare(void), rows_prepare(void), folded_prepare(void), halves_prepare(void), decoder_prepare(void);
 
 int weight(int kind, int n, int i, int j);
 int log2_of(int n);

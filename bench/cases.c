@@ -55,6 +55,7 @@ void prepare(void) {
     rows_prepare();
     folded_prepare();
     halves_prepare();
+    decoder_prepare();
 }
 
 const char *implementation_name(int i) { return block_names[i]; }
@@ -133,6 +134,7 @@ int make_cases(bench_case *cases) {
     for (int forward = 0; forward < 2; forward++) count += make_lines(cases + count, forward);
     count += make_rows(cases + count);
     count += make_live(cases + count);
+    count += make_transforms(cases + count);
     return count;
 }
 
@@ -154,13 +156,14 @@ int has_shape(int i, int forward, hoengtila_shape s) {
 
 int has_case(int i, const bench_case *c) {
     if (c->line || c->row) return i < 2;
-    if (c->live) return i == LIBRARY || i == HALVES || i == DECODER || i == COPY;
+    if (c->live || c->transform) return i == LIBRARY || (c->live && i == HALVES) || i == DECODER || i == COPY;
     return has_shape(i, c->forward, c->shape);
 }
 
 const char *case_name(const bench_case *c, int i, char *name) {
     const char *direction = c->forward ? "forward" : "inverse";
-    if (c->row) sprintf(name, "%s-row %ux%u %s %s", direction, c->shape.width, c->shape.height, c->fill, row_names[i]);
+    if (c->transform) sprintf(name, "transform %ux%u %s%ux%u %s", c->shape.width, c->shape.height, c->fill, c->shape.columns, c->shape.rows, block_names[i]);
+    else if (c->row) sprintf(name, "%s-row %ux%u %s %s", direction, c->shape.width, c->shape.height, c->fill, row_names[i]);
     else if (c->live) sprintf(name, "dct2 %ux%u %s %s", c->shape.width, c->shape.height, c->fill, block_names[i]);
     else if (c->line) sprintf(name, "%s-line %u %s %s", direction, c->shape.width, c->fill, line_names[i]);
     else sprintf(name, "%s %ux%u %s %s", direction, c->shape.width, c->shape.height, c->fill, block_names[i]);
@@ -177,6 +180,10 @@ static int filled(const bench_case *c, uint32_t x, uint32_t y) {
 
 void fill_case(const bench_case *c) {
     uint32_t w = c->shape.width, h = c->shape.height;
+    if (c->transform) {
+        fill_transform(c);
+        return;
+    }
     seed_random(1);
     for (uint32_t k = 0; k < (c->row ? ROW : 1) * w * h; k++) input[k] = filled(c, k % w, k / w % h) ? other_than_zero(1023) : 0;
     for (int k = 0; k < ROW; k++) shapes[k] = c->shape;
@@ -208,7 +215,8 @@ static void run_decoder(const bench_case *c, int decodes) {
 }
 
 void run_case(const bench_case *c, int i) {
-    if (c->row) run_row(c, i);
+    if (c->transform) run_transform(c, i);
+    else if (c->row) run_row(c, i);
     else if (c->line) run_line(c, i);
     else if (i == LIBRARY) run_library(c);
     else if (c->forward) forwards[i](c->shape, input, coefficients);

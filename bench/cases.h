@@ -4,7 +4,7 @@
 
 #include "bench.h"
 
-enum { CASES = 128, ROW = 64 };
+enum { CASES = 192, ROW = 64 };
 enum { LIBRARY, REFERENCE, TRIPLE, ROWS, FOLDED, BUTTERFLY, HALVES, LONG, DECODER, COPY, IMPLEMENTATIONS };
 
 typedef struct {
@@ -14,6 +14,7 @@ typedef struct {
     const char *fill;
     int row; /* 64 inverse blocks of this shape, in one call and in 64 */
     int live; /* an inverse block of kind 0, of which the first so many columns and rows are live; otherwise 0 */
+    int transform; /* a transform block, in place, which is told the columns and rows of the shape */
 } bench_case;
 
 void prepare(void);
@@ -31,7 +32,14 @@ const char *case_name(const bench_case *c, int i, char *name);
 void fill_case(const bench_case *c);
 void run_case(const bench_case *c, int i);
 
+/* The same of transform blocks, which the library and the decoder run, each behind a copy of the coefficients. */
+int make_transforms(bench_case *cases);
+void fill_transform(const bench_case *c);
+void run_transform(const bench_case *c, int i);
+
 /* Runs every implementation on many blocks and lines of random numbers; 0 where they all give the same. */
 int compare(void);
+/* Transform blocks: how many gave the same, or -1. */
+int compare_transforms(void);
 
 #endif

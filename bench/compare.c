@@ -145,6 +145,8 @@ int compare(void) {
         for (uint32_t h = 4; h <= LONGEST; h *= 2)
             if (compare_size(w, h) || compare_live(w, h)) return 1;
     }
-    printf("bench: the library and the baselines give the same on %d blocks\n", blocks);
+    int transforms = compare_transforms();
+    if (transforms < 0) return 1;
+    printf("bench: the library and the baselines give the same on %d blocks\n", blocks + transforms);
     return 0;
 }

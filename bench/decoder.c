@@ -1,5 +1,6 @@
-/* Inverse blocks of kind 0 as a decoder has them: lines by even and odd halves with the weights as constants, in place over
- * 32-bit numbers. The decoder is told the live part, the columns and rows of the shape; all other numbers are 0. */
+/* Inverse blocks as a decoder has them, with sides of 1 to 64: lines of kind 0 by even and odd halves with the weights as constants,
+ * those of the other kinds by the product over the live inputs, in place over 32-bit numbers. The decoder is told the live part, the
+ * columns and rows of the shape; all other numbers are 0. */
 #include "bench.h"
 #include "odd_rows.h"
 
@@ -19,7 +20,7 @@
         }                                                                                              \
     }
 
-/* A line in place. The number of its live inputs is rounded up to a power of two, and each has code of its own. */
+/* A line in place. The number of its live inputs, at most 32, is rounded up to a power of two, and each has code of its own. */
 #define LINE(N, STORES)                                                           \
     ALWAYS void replace_##N(int32_t *x, ptrdiff_t stride, int live) {             \
         int32_t z[N];                                                             \
@@ -27,7 +28,7 @@
         STORES for (int j = 0; j < N; j++) x[j * stride] = z[j];                  \
     }                                                                             \
     static void line_##N(int32_t *x, ptrdiff_t stride, int live) {                \
-        if (live <= 2) replace_##N(x, stride, 2);                                 \
+        if (N == 2 || live <= 2) replace_##N(x, stride, 2);                       \
         else if (N == 4 || live <= 4) replace_##N(x, stride, 4);                  \
         else if (N == 8 || live <= 8) replace_##N(x, stride, 8);                  \
         else if (N == 16 || live <= 16) replace_##N(x, stride, 16);               \
@@ -40,21 +41,62 @@ SUMS(4, 2)
 SUMS(8, 4)
 SUMS(16, 8)
 SUMS(32, 16)
+SUMS(64, 32)
+LINE(2, UNROLLED)
 LINE(4, UNROLLED)
 LINE(8, UNROLLED)
 LINE(16, UNROLLED)
 LINE(32, ROLLED) /* 32 sums do not fit in registers */
+LINE(64, ROLLED)
+
+/* kinds 1 and 2: the row of weights of each input that can be live */
+static int8_t rows_4[2][4 * 4], rows_8[2][8 * 8], rows_16[2][16 * 16], rows_32[2][KEPT * 32];
+
+ALWAYS void product(const int8_t *rows, int n, int32_t *x, ptrdiff_t stride, int live) {
+    int32_t inputs[KEPT];
+    for (int i = 0; i < live; i++) inputs[i] = x[i * stride];
+    for (int j = 0; j < n; j++) {
+        int32_t sum = 0;
+        for (int i = 0; i < live; i++) sum += rows[i * n + j] * inputs[i];
+        x[j * stride] = sum;
+    }
+}
+
+#define PRODUCT(N)                                                                                                      \
+    static void dst7_##N(int32_t *x, ptrdiff_t stride, int live) { product(rows_##N[0], N, x, stride, live); }          \
+    static void dct8_##N(int32_t *x, ptrdiff_t stride, int live) { product(rows_##N[1], N, x, stride, live); }
+PRODUCT(4)
+PRODUCT(8)
+PRODUCT(16)
+PRODUCT(32)
+
+static void fill_rows(int n, int kind, int8_t *rows) {
+    for (int i = 0; i < kept(n); i++)
+        for (int j = 0; j < n; j++) rows[i * n + j] = (int8_t)weight(kind, n, i, j);
+}
+
+void decoder_prepare(void) {
+    for (int k = 0; k < 2; k++) {
+        fill_rows(4, DST_VII + k, rows_4[k]);
+        fill_rows(8, DST_VII + k, rows_8[k]);
+        fill_rows(16, DST_VII + k, rows_16[k]);
+        fill_rows(32, DST_VII + k, rows_32[k]);
+    }
+}
 
 typedef void line(int32_t *x, ptrdiff_t stride, int live);
 
-static line *line_of(int n) {
-    static line *const by_size[] = {line_4, line_8, line_16, line_32};
-    return by_size[log2_of(n) - 2];
+static line *line_of(int kind, int n) {
+    static line *const by_size[3][6] = {
+        {line_2, line_4, line_8, line_16, line_32, line_64}, {0, dst7_4, dst7_8, dst7_16, dst7_32, 0}, {0, dct8_4, dct8_8, dct8_16, dct8_32, 0}};
+    return by_size[kind][log2_of(n) - 1];
 }
 
 /* Four columns at a time, a vector of them; what stands beyond the live ones is 0 and stays so. */
 static void clip_middle(int w, int h, int columns, int32_t *c) {
-    for (int x = 0; x < columns; x += 4)
+    if (w < 4)
+        for (int k = 0; k < w * h; k++) c[k] = middle_of(c[k]);
+    else for (int x = 0; x < columns; x += 4)
         for (int y = 0; y < h; y++)
             for (int k = x; k < x + 4; k++) c[y * w + k] = middle_of(c[y * w + k]);
 }
@@ -63,19 +105,33 @@ static void round_all(int elements, int shift, int32_t *c) {
     for (int k = 0; k < elements; k++) c[k] = rounded(c[k], shift);
 }
 
-/* One coefficient: every residual is the same. */
-static void fill_all(int elements, int shift, int32_t *c) {
-    int32_t residual = rounded(64 * middle_of(64 * c[0]), shift);
+/* One coefficient of kind 0: every residual is the same. */
+static void fill_all(int elements, int shift, int32_t sum, int32_t *c) {
+    int32_t residual = rounded(sum, shift);
     for (int k = 0; k < elements; k++) c[k] = residual;
+}
+
+/* A side of 1: one stage. */
+static void one_stage(int kind, int n, int live, int shift, int32_t *c) {
+    if (kind == DCT_II && live == 1) {
+        fill_all(n, shift, 64 * c[0], c);
+        return;
+    }
+    line_of(kind, n)(c, 1, live);
+    round_all(n, shift, c);
 }
 
 void decoder_inverse(hoengtila_shape s, int32_t *c) {
     int w = (int)s.width, h = (int)s.height, columns = columns_of(s), rows = rows_of(s);
-    line *down = line_of(h), *along = line_of(w);
-    if (columns == 1 && rows == 1) {
-        fill_all(w * h, residual_shift(s), c);
+    if (w == 1 || h == 1) {
+        one_stage((int)(w == 1 ? s.vertical : s.horizontal), w * h, w == 1 ? rows : columns, residual_shift(s) + 1, c);
         return;
     }
+    if (columns == 1 && rows == 1 && s.horizontal == DCT_II && s.vertical == DCT_II) {
+        fill_all(w * h, residual_shift(s), 64 * middle_of(64 * c[0]), c);
+        return;
+    }
+    line *down = line_of((int)s.vertical, h), *along = line_of((int)s.horizontal, w);
     for (int x = 0; x < columns; x++) down(c + x, w, rows);
     clip_middle(w, h, columns, c);
     for (int y = 0; y < h; y++) along(c + y * w, 1, columns);

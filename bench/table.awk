@@ -4,7 +4,7 @@
 $1 == "skipped" { skipped += $6; next }
 {
     name = $2 " " $3 " " $4
-    if (!(name in known)) { known[name] = 1; group[name] = $2 == "dct2" ? "live" : $2 ~ /-(line|row)$/ ? "line" : "block"; order[++names] = name }
+    if (!(name in known)) { known[name] = 1; group[name] = $2 == "dct2" ? "live" : $2 == "transform" ? $2 : $2 ~ /-(line|row)$/ ? "line" : "block"; order[++names] = name }
     value[$1, name, $5] = $6
 }
 
@@ -70,6 +70,29 @@ function live(m,    k, name, head, decoder, share, part, least, where) {
     if ("the others" in least) printf "%-22s %60.2f  %s\n", "least of the others", least["the others"], where["the others"]
 }
 
+# What a transform block is to take: "one" has one coefficient of kind 0.
+function part_of(name) {
+    if (name ~ / live-1x1$/) return "one"
+    if (name ~ / ([12]x|[0-9]+x[12] )/) return "sides of 1 and 2"
+    return name ~ / (4x|[0-9]+x4 )/ ? "sides of 4" : "the others"
+}
+
+# Transform blocks. All numbers are without the copy that stands before each call.
+function transforms(m,    k, name, head, copy, library, decoder, share, part, least, where, most) {
+    for (k = 1; k <= names; k++) if (group[name = order[k]] == "transform" && has(m, name, "library") && has(m, name, "decoder") && has(m, name, "copy")) {
+        if (!head++) printf "\n%-28s %10s %10s %10s %16s\n", m, "library", "decoder", "copy", "decoder/library"
+        copy = value[m, name, "copy"]; library = value[m, name, "library"] - copy; decoder = value[m, name, "decoder"] - copy
+        share = library > 0 ? decoder / library : 0
+        printf "%-28s %10s %10s %10s %16.2f\n", name, number(m, library), number(m, decoder), number(m, copy), share
+        part = part_of(name)
+        if (part == "one" && (!(part in most) || library - decoder > most[part])) { most[part] = library - decoder; where[part] = name }
+        if (part != "one" && (!(part in least) || share < least[part])) { least[part] = share; where[part] = name }
+    }
+    if (m == "products") return
+    if ("one" in most) printf "%-28s %49s  %s\n", "most above the fill, of one", number(m, most["one"]), where["one"]
+    for (part in least) printf "%-28s %49.2f  %s\n", "least of " part, least[part], where[part]
+}
+
 function amount(m, name, who) { return who == "best of C" ? best(m, name) : has(m, name, who) ? value[m, name, who] : 0 }
 
 # The ratio of two numbers of a case, which is to be at least or at most so much.
@@ -104,7 +127,7 @@ END {
     split("16x16 32x32 32x8", large)
     split("4x4 8x8", small)
     split("dense corner one", fill)
-    for (k = 1; k <= measures; k++) if (measure[k] != "skipped") { blocks(measure[k]); lines(measure[k]); rows(measure[k]); live(measure[k]) }
+    for (k = 1; k <= measures; k++) if (measure[k] != "skipped") { blocks(measure[k]); lines(measure[k]); rows(measure[k]); live(measure[k]); transforms(measure[k]) }
     if (skipped) print "\n" skipped " instructions were left out of the cycles, since llvm-mca does not know them"
     if ("ns" in seen) aims("ns")
     else if ("cycles" in seen) aims("cycles")

@@ -27,4 +27,4 @@ int weight(int kind, int n, int i, int j) {
     return (i % 2 ? -1 : 1) * dst_weight(n, i, n - 1 - j);
 }
 
-int log2_of(int n) { return n == 4 ? 2 : n == 8 ? 3 : n == 16 ? 4 : 5; }
+int log2_of(int n) { return n == 4 ? 2 : n == 8 ? 3 : n == 16 ? 4 : n == 32 ? 5 : n == 2 ? 1 : 6; }

@@ -10,11 +10,12 @@
  * and 27 have the place of the first number that they refuse, column + row * width. A call that is accepted hands back number 0 and
  * place 0.
  *
- *   1  the width, or a line's length, is not 4, 8, 16 or 32 (thin blocks: or 1); steps: there is no list of n points
- *   2  the height is not one of those (thin blocks: or 1)
+ *   1  the width, or a line's length, is not 4, 8, 16 or 32 (thin blocks: or 1; transform blocks: or 1, 2 or 64); steps: there is no
+ *      list of n points
+ *   2  the height is not one of those; transform blocks: or both sides are 1
  *   3  the horizontal kind, or a line's kind, is not 0 (DCT-II), 1 (DST-VII) or 2 (DCT-VIII)
  *   4  the vertical kind is not 0, 1 or 2
- *   5  the depth is outside 8..12, or 8..16 for long numbers with the switch on
+ *   5  the depth is outside 8..12, or 8..16 for long numbers with the switch on and for transform blocks
  *   6  the input has another length than the call takes
  *   7  the output has another length than the call gives, or is too short
  *   8  inverse block: a coefficient other than 0 outside the kept part, which is the first `columns` columns and the first `rows` rows
@@ -29,21 +30,23 @@
  *  17  steps: a cell is read that was not written
  *  18  steps: more than 2,048 steps or cells
  *  19  thin blocks: a work area is shorter than width * height
- *  20  the kept columns or the kept rows are 0, or more than hoengtila_shape_of gives
+ *  20  the kept columns or the kept rows are 0, or more than hoengtila_shape_of gives; transform blocks: the columns or rows to
+ *      read are 0, or more than hoengtila_transform_block_of gives
  *  21  a line whose sums wrap: the order is not each of 0..n-1 once
  *  22  totals: 65,536 blocks were given before
  *  23  writing a picture: a residual outside -32768..32767
  *  24  reading a picture: the header is not that of such a graymap, or has sizes that 1 or 2 would refuse
  *  25  reading a picture: too few or too many samples
  *  26  saving a broken file: more than 1,024 dropped stretches
- *  27  long numbers: a coefficient outside the range
+ *  27  long numbers: a coefficient outside the range; transform blocks: one that is read
  *  28  steps: a cell outside the list's number of cells, or more inputs than cells
  *  29  steps: the result of a step is outside 32 bits
+ *  30  transform blocks: a kind other than 0 in a direction whose side is 2 or 64
  *
  * 10 to 13 are met by the programs that read block files (`blocks`), and by no function here.
  *
- * In this order: shapes and answers; lines; blocks; rows of blocks, long numbers and thin blocks; asking why; totals; pictures; broken
- * files; steps.
+ * In this order: shapes and answers; lines; blocks; rows of blocks, long numbers and thin blocks; transform blocks, for decoders; asking
+ * why; totals; pictures; broken files; steps.
  */
 #ifndef HOENGTILA_H
 #define HOENGTILA_H
@@ -161,13 +164,44 @@ typedef struct {
     uint32_t area;   /* which area starts with the residuals: 1 or 2; 0 where the call was refused */
 } hoengtila_thin;
 
-/* Thin blocks, one sample wide or high: the inverse over two work areas of at least width * height numbers each. In this call alone a
- * side may be 1 where the other is 4, 8 or 16; its kind is looked at (3, 4) and not used, and it keeps 1. Such a block has one stage,
+/* Thin blocks, one sample wide or high: the inverse over two work areas of at least width * height numbers each. In this call a
+ * side may also be 1, where the other is 4, 8 or 16; its kind is looked at (3, 4) and not used, and it keeps 1. Such a block has one stage,
  * with the last shift 21 - depth and no middle values: its residuals are the first width * height numbers of `first`, and `second`
  * stays. Any other block has two stages and the residuals of hoengtila_block_inverse, in `second`; `first` then has the middle values
  * at column + row * width, 0 in columns that are not kept. Numbers beyond width * height stay.
  * Refusals, in this order: 1, 2, 3, 4, 5, 20, 6, 19, 8. A refused call changes neither area. */
 hoengtila_thin hoengtila_block_inverse_thin(hoengtila_shape shape, const int16_t *coefficients, size_t coefficients_len, int32_t *first, size_t first_len, int32_t *second, size_t second_len);
+
+/* ---- Transform blocks: every block of a stream in one call, in place, for decoders; the inverse alone, of a block whose transform is
+ * not skipped and that has no LFNST ---- */
+
+/* Eight numbers. hoengtila_transform_block_of fills the last three from the first five; a struct that is written by hand needs `columns`
+ * and `rows`, since where they are left 0 the call refuses it with 20. */
+typedef struct {
+    uint32_t width;      /* 1, 2, 4, 8, 16, 32 or 64 */
+    uint32_t height;     /* likewise; not both are 1 */
+    uint32_t horizontal; /* kind of the rows: 0 DCT-II, 1 DST-VII, 2 DCT-VIII; 0 where the width is 2 or 64 */
+    uint32_t vertical;   /* kind of the columns; 0 where the height is 2 or 64 */
+    uint32_t depth;      /* bits of a sample: 8..16 */
+    uint32_t extended;   /* the extended-precision switch: 0 off, any other number on */
+    uint32_t columns;    /* columns that are read: at least 1, at most min(width, 16), or min(width, 32) where horizontal is 0 */
+    uint32_t rows;       /* rows that are read: at least 1, at most min(height, 16), or min(height, 32) where vertical is 0 */
+} hoengtila_transform_block;
+
+/* The block that reads the most columns and rows that it can, with the switch off. For fewer, and for the switch, set the last three
+ * after it. Nothing is refused. */
+hoengtila_transform_block hoengtila_transform_block_of(uint32_t width, uint32_t height, uint32_t horizontal, uint32_t vertical, uint32_t depth);
+
+/* The inverse in place: `numbers` has width * height coefficients, row by row, and then the residuals. What is read is the first `columns`
+ * columns and the first `rows` rows: coefficients beyond them are not looked at, whatever they are, and count as 0. Those that are read,
+ * and middle values, are -2^R .. 2^R - 1: with the switch on R is max(15, min(20, depth + 6)), with it off 15. Two stages as in
+ * hoengtila_block_inverse_long, and the last shift 5 + R - depth; at every depth, also with the switch off. A block with a side of 1 has one
+ * stage, the line of its other side, with the last shift 6 + R - depth, no middle values and the rail count 0; the kind of the side of 1
+ * is looked at (3, 4) and not used. Where hoengtila_block_inverse_long takes the same numbers at the same position of the switch, or with
+ * the switch off hoengtila_block_inverse or hoengtila_block_inverse_thin, residuals and rail count are the same.
+ * Refusals, in this order: 1, 2, 3, 4, 30, 5, 20, 6, 27. 6: not width * height numbers. 27 has the place of the first such number, row by
+ * row. */
+hoengtila_answer hoengtila_transform_block_inverse(hoengtila_transform_block block, int32_t *numbers, size_t numbers_len);
 
 /* ---- Asking why: what the residual at a place of an inverse block is made of ---- */
 

@@ -23,6 +23,7 @@ struct state {
 
 static struct state state, other;
 static const hoengtila_shape shape = {4, 4, 1, 1, 10, 4, 4};
+static const hoengtila_transform_block block = {4, 4, 1, 1, 10, 0, 4, 4};
 static hoengtila_shape shapes[64];
 static uint32_t count; /* blocks of a row, and inputs and cells of a list of steps */
 
@@ -47,6 +48,7 @@ CALL(hoengtila_block_row, uint32_t, shapes, count, state.answers, LENT(int16_t, 
 CALL(hoengtila_blocks_inverse, uint32_t, count ? shapes : NULL, count, count ? state.answers : NULL, LENT(int16_t, 0), LENT(int32_t, 1))
 CALL(hoengtila_block_inverse_long, hoengtila_answer, shape, 0, LENT(int32_t, 0), LENT(int32_t, 1))
 CALL(hoengtila_block_inverse_thin, hoengtila_thin, shape, LENT(int16_t, 0), LENT(int32_t, 1), LENT(int32_t, 2))
+CALL(hoengtila_transform_block_inverse, hoengtila_answer, block, LENT(int32_t, 0))
 CALL(hoengtila_block_why, hoengtila_parts, shape, LENT(int16_t, 0), 5)
 CALL(hoengtila_block_why_long, hoengtila_parts, shape, 0, LENT(int32_t, 0), 5)
 CALL(hoengtila_report_add, hoengtila_answer, state.totals, shape, LENT(int16_t, 0))
@@ -79,6 +81,7 @@ static const struct call calls[] = {
     OF(hoengtila_blocks_inverse, 16, 16),
     OF(hoengtila_block_inverse_long, 16, 16),
     OF(hoengtila_block_inverse_thin, 16, 16, 16),
+    OF(hoengtila_transform_block_inverse, 16),
     OF(hoengtila_block_why, 16),
     OF(hoengtila_block_why_long, 16),
     OF(hoengtila_report_add, 16),

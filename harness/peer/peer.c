@@ -3,7 +3,7 @@
  * its output then holds. */
 #include "pipe.h"
 
-/* the calls' names; those of document 02 start at a hundred times the number of their wish */
+/* the calls' names; those of document 02 start at a hundred times the number of their wish, and those for decoders at 2000 */
 enum { WEIGHT, LINE_FORWARD, LINE_INVERSE, LINE_FORWARD_PRODUCT, LINE_INVERSE_PRODUCT, BLOCK_INVERSE, BLOCK_FORWARD, SHAPE_OF };
 enum { BLOCK_WHY = 400, BLOCK_WHY_LONG };
 enum { BLOCK_ROW = 500 };
@@ -12,9 +12,10 @@ enum { BLOCK_INVERSE_THIN = 700 };
 enum { WRAPPED_FORWARD = 900, WRAPPED_INVERSE };
 enum { STRAY = 1300 };
 enum { BLOCK_INVERSE_LONG = 1400 };
+enum { TRANSFORM_BLOCK_INVERSE = 2000, TRANSFORM_BLOCK_OF };
 
-/* more numbers than two blocks have, and more than 2,048 steps have */
-enum { MOST = 4096, MOST_STEPS = 8448 };
+/* more numbers than two blocks of 64 by 64 have, and more than 2,048 steps have */
+enum { MOST = 8448 };
 
 /* more blocks than a row may have, and more numbers than they have */
 enum { MOST_BLOCKS = 128, MOST_ROW = 70000 };
@@ -25,7 +26,7 @@ static int32_t in32[MOST];
 static int16_t out16[MOST + 1];
 static int32_t out32[MOST + 1];
 static int32_t other32[MOST + 1];
-static int32_t steps32[MOST_STEPS + 1];
+static int32_t steps32[MOST + 1];
 static int32_t outs32[MOST + 1];
 static hoengtila_shape shapes[MOST_BLOCKS];
 static hoengtila_answer answers[MOST_BLOCKS + 1];
@@ -128,6 +129,36 @@ static void block_inverse_thin(void) {
     put_output(other32, sizeof *other32, second);
 }
 
+/* Field by field and by name, as with shapes. */
+static void transform_block_inverse(void) {
+    hoengtila_transform_block b;
+    uint32_t count;
+    b.width = number();
+    b.height = number();
+    b.horizontal = number();
+    b.vertical = number();
+    b.depth = number();
+    b.extended = number();
+    b.columns = number();
+    b.rows = number();
+    count = length();
+    get_output(out32, sizeof *out32, count);
+    put_outcome(hoengtila_transform_block_inverse(b, out32, count), count);
+}
+
+static void transform_block_of(void) {
+    uint32_t width = number(), height = number(), horizontal = number(), vertical = number(), depth = number();
+    hoengtila_transform_block b = hoengtila_transform_block_of(width, height, horizontal, vertical, depth);
+    put_number(b.width);
+    put_number(b.height);
+    put_number(b.horizontal);
+    put_number(b.vertical);
+    put_number(b.depth);
+    put_number(b.extended);
+    put_number(b.columns);
+    put_number(b.rows);
+}
+
 static void put_parts(hoengtila_parts p) {
     put_number(p.number);
     put_number(p.place);
@@ -191,7 +222,7 @@ static void put_step_count(hoengtila_step_count t, uint32_t out) {
 }
 
 static void steps_run(void) {
-    uint32_t inputs = number(), cells = number(), steps = at_most(MOST_STEPS), outs = length(), in = length(), out = length();
+    uint32_t inputs = number(), cells = number(), steps = length(), outs = length(), in = length(), out = length();
     get(steps32, sizeof *steps32, steps);
     get(outs32, sizeof *outs32, outs);
     get(in16, sizeof *in16, in);
@@ -200,7 +231,7 @@ static void steps_run(void) {
 }
 
 static void steps_list(void) {
-    uint32_t n = number(), steps = at_most(MOST_STEPS), outs = length();
+    uint32_t n = number(), steps = length(), outs = length();
     hoengtila_listed l;
     get_output(steps32, sizeof *steps32, steps);
     get_output(outs32, sizeof *outs32, outs);
@@ -232,6 +263,8 @@ int main(void) {
         else if (call == STRAY) stray();
         else if (call == BLOCK_INVERSE_LONG) block_inverse_long();
         else if (call == BLOCK_INVERSE_THIN) block_inverse_thin();
+        else if (call == TRANSFORM_BLOCK_INVERSE) transform_block_inverse();
+        else if (call == TRANSFORM_BLOCK_OF) transform_block_of();
         else if (call == BLOCK_WHY) block_why();
         else if (call == BLOCK_WHY_LONG) block_why_long();
         else if (call == BLOCK_ROW) row();

@@ -35,6 +35,52 @@ impl Shape {
     }
 }
 
+/// What a transform block is: its sides, a kind for each direction, its bit depth, the extended-precision switch (0 off, any other
+/// number on), and how many columns and rows are read.
+#[repr(C)]
+#[derive(Clone, Copy, Debug, Default, PartialEq, Eq)]
+pub struct TransformBlock {
+    pub width: u32,
+    pub height: u32,
+    pub horizontal: u32,
+    pub vertical: u32,
+    pub depth: u32,
+    pub extended: u32,
+    pub columns: u32,
+    pub rows: u32,
+}
+
+impl TransformBlock {
+    /// A block that reads the most that is allowed, with the switch off.
+    #[inline]
+    pub fn new(
+        width: u32,
+        height: u32,
+        horizontal: u32,
+        vertical: u32,
+        depth: u32,
+    ) -> TransformBlock {
+        unsafe { c::hoengtila_transform_block_of(width, height, horizontal, vertical, depth) }
+    }
+
+    /// The same with fewer columns and rows.
+    pub fn reading(self, columns: u32, rows: u32) -> TransformBlock {
+        TransformBlock {
+            columns,
+            rows,
+            ..self
+        }
+    }
+
+    /// The same with the extended-precision switch as it is told.
+    pub fn extended(self, on: bool) -> TransformBlock {
+        TransformBlock {
+            extended: u32::from(on),
+            ..self
+        }
+    }
+}
+
 /// What a call hands back beside its output: the number of the refusal or 0, its place, and the rail count.
 #[repr(C)]
 #[derive(Clone, Copy, Debug, Default, PartialEq, Eq)]
@@ -117,7 +163,7 @@ pub struct Saved {
 // Nothing holds these lines to the header or to the Rattle source but the tests. One line each, as in the header.
 #[rustfmt::skip]
 mod c {
-    use super::{Answer, Listed, Parts, Picture, Saved, Shape, StepCount, Thin, Written};
+    use super::{Answer, Listed, Parts, Picture, Saved, Shape, StepCount, Thin, TransformBlock, Written};
 
     unsafe extern "C" {
         pub fn hoengtila_shape_of(width: u32, height: u32, horizontal: u32, vertical: u32, depth: u32) -> Shape;
@@ -134,6 +180,8 @@ mod c {
         pub fn hoengtila_block_row(shapes: *const Shape, count: usize, answers: *mut Answer, coefficients: *const i16, coefficients_len: usize, residuals: *mut i32, residuals_len: usize) -> u32;
         pub fn hoengtila_block_inverse_long(shape: Shape, extended: u32, coefficients: *const i32, coefficients_len: usize, residuals: *mut i32, residuals_len: usize) -> Answer;
         pub fn hoengtila_block_inverse_thin(shape: Shape, coefficients: *const i16, coefficients_len: usize, first: *mut i32, first_len: usize, second: *mut i32, second_len: usize) -> Thin;
+        pub fn hoengtila_transform_block_of(width: u32, height: u32, horizontal: u32, vertical: u32, depth: u32) -> TransformBlock;
+        pub fn hoengtila_transform_block_inverse(block: TransformBlock, numbers: *mut i32, numbers_len: usize) -> Answer;
         pub fn hoengtila_block_why(shape: Shape, coefficients: *const i16, coefficients_len: usize, place: u32) -> Parts;
         pub fn hoengtila_block_why_long(shape: Shape, extended: u32, coefficients: *const i32, coefficients_len: usize, place: u32) -> Parts;
         pub fn hoengtila_report_clear(totals: *mut [u64; 578]);
@@ -251,6 +299,12 @@ pub fn block_inverse_thin(
     second: &mut [i32],
 ) -> Thin {
     call!(c::hoengtila_block_inverse_thin(shape; coefficients; first, second))
+}
+
+/// The residuals of a transform block in the place of its coefficients, which stand row by row.
+#[inline]
+pub fn transform_block_inverse(block: TransformBlock, numbers: &mut [i32]) -> Answer {
+    call!(c::hoengtila_transform_block_inverse(block;; numbers))
 }
 
 /// The coefficients of a block of residuals, which stand row by row.

@@ -15,6 +15,7 @@ pub mod salvage;
 pub mod small;
 pub mod steps;
 pub mod thin;
+pub mod transform;
 pub mod weights;
 pub mod why;
 pub mod wrapped;
@@ -28,6 +29,7 @@ pub use picture::{read_picture, write_picture};
 pub use row::block_row;
 pub use small::{forward_4x4, inverse_4x4};
 pub use thin::inverse_thin;
+pub use transform::inverse_transform;
 pub use why::{why, why_long};
 pub use wrapped::{forward_wrapped, inverse_wrapped};
 

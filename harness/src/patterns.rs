@@ -261,14 +261,16 @@ pub fn clear_outside(shape: &Shape, coefficients: &mut [i64]) {
     }
 }
 
-/// The least sum whose middle value is 32767, and the largest whose middle value is -32768.
-const AT_THE_RAILS: [i64; 2] = [32767 * 128 - 64, -32767 * 128 - 65];
-
 /// Coefficients whose kept columns each have a sum about an end of what a middle value may be.
 pub fn block_about_the_rails(random: &mut Random, shape: &Shape) -> Vec<i64> {
+    block_about(random, shape, SIXTEEN_BITS)
+}
+
+/// The same, where coefficients and middle values have these ends.
+pub fn block_about(random: &mut Random, shape: &Shape, ends: Ends) -> Vec<i64> {
     let [w, h] = [shape.width as usize, shape.height as usize];
     let [columns, rows] = kept(shape);
-    let column = |_| column_about_the_rails(random, shape.vertical, h, rows);
+    let column = |_| column_about(random, shape.vertical, h, rows, ends);
     let all: Vec<Vec<i64>> = (0..columns).map(column).collect();
     grid(w, h, |x, y| {
         if x < columns && y < rows {
@@ -279,12 +281,15 @@ pub fn block_about_the_rails(random: &mut Random, shape: &Shape) -> Vec<i64> {
     })
 }
 
-fn column_about_the_rails(random: &mut Random, kind: u32, h: usize, rows: usize) -> Vec<i64> {
-    let sum = random.choose(&AT_THE_RAILS) + random.between(-200, 200);
+fn column_about(random: &mut Random, kind: u32, h: usize, rows: usize, ends: Ends) -> Vec<i64> {
+    let [low, high] = ends;
+    // the least sum whose middle value is the high end, and the largest whose middle value is the low one
+    let at_the_rails = [high * 128 - 64, -high * 128 - 65];
+    let sum = random.choose(&at_the_rails) + random.between(-200, 200);
     let y = random.below(h);
     let weights: Vec<i64> = (0..rows).map(|i| weight(kind.into(), h, i, y)).collect();
     let total: i64 = weights.iter().map(|w| w.abs()).sum();
-    let most = (2 * sum.abs() / total).min(32767);
+    let most = (2 * sum.abs() / total).min(high);
     // random numbers that bring the sum near, and the one with the largest weight for the rest
     let near = |w: &i64| (w * sum).signum() * random.between(0, most);
     let mut column: Vec<i64> = weights.iter().map(near).collect();
@@ -293,6 +298,6 @@ fn column_about_the_rails(random: &mut Random, kind: u32, h: usize, rows: usize)
         .expect("a column has rows");
     column[last] = 0;
     let so_far: i64 = column.iter().zip(&weights).map(|(c, w)| c * w).sum();
-    column[last] = ((sum - so_far) / weights[last]).clamp(-32768, 32767);
+    column[last] = ((sum - so_far) / weights[last]).clamp(low, high);
     column
 }

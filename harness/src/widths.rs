@@ -1,6 +1,6 @@
 //! Between the library's numbers, of 16 and 32 bits, and the model's, of 64.
 
-use crate::library::{Answer, Parts, Shape, StepCount, Thin};
+use crate::library::{Answer, Parts, Shape, StepCount, Thin, TransformBlock};
 use crate::model;
 use std::any::type_name;
 
@@ -27,6 +27,20 @@ pub fn shape_numbers(shape: &Shape) -> [u32; 7] {
         shape.depth,
         shape.columns,
         shape.rows,
+    ]
+}
+
+/// In the header's order.
+pub fn block_numbers(block: &TransformBlock) -> [u32; 8] {
+    [
+        block.width,
+        block.height,
+        block.horizontal,
+        block.vertical,
+        block.depth,
+        block.extended,
+        block.columns,
+        block.rows,
     ]
 }
 

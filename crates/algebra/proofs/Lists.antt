@@ -7,8 +7,8 @@ use native.Mathlib.Numerals.{add-one}
 use native.Mathlib.Omega.{arith}
 use native.Mathlib.Decide.{ℕ-discrete}
 use lib.Arith.{digits-mod, digits-div}
-use lib.ListN.{length, take, drop, getD, set, replicate, length-append, length-set, length-drop, List·getD-append, drop-of-length-le}
-use lib.Seq.{ext-getD, getD-at, getD-append-add, getD-set-same, getD-set-other, take-at, drop-at, drop-drop, length-take-le}
+use lib.ListN.{length, take, drop, getD, set, replicate, length-append, length-set, length-take, length-drop, List·getD-append, drop-of-length-le}
+use lib.Seq.{ext-getD, getD-at, getD-append-add, getD-take, getD-drop, getD-set-same, getD-set-other, take-at, drop-at, drop-drop, length-take-le}
 use lib.IntN.{ℤ, pos}
 use Rattle.algebra.specs.Lists.{at, tabulate, block, flat}
 use Rattle.algebra.proofs.Table.{last}
@@ -140,6 +140,42 @@ filled-to {n} {j} {a} {a₀} {f} l g h p =
 pub part-back : {A : Type 0} (D o ys : List A) (a k e : ℕ) → length D ≡ a → e ≡ a + k
     → take a (D ++ drop a o) ++ (ys ++ drop k (drop a (D ++ drop a o))) ≡ (D ++ ys) ++ drop e o
 part-back D o ys a k e h q = rw (take-at D (drop a o) a h, drop-at D (drop a o) a h, drop-drop k a o, q) (sym (append-assoc D ys (drop (a + k) o)))
+
+-- ---- a part of k numbers from a on, that was lent and came back as f 0, f 1, ..
+pub part-in : (l : List ℤ) (a k : ℕ) → a + k ≤ length l → length (take (a + k - a) (drop a l)) ≡ k
+part-in l a k h = simp (length-take, length-drop) (omega arith)
+
+pub part-filled : (l ys : List ℤ) (a k : ℕ) (f : ℕ → ℤ) → a + k ≤ length l → ys ≡ tabulate (length (take (a + k - a) (drop a l))) f
+    → Filled a k (take a l ++ (ys ++ drop (a + k - a) (drop a l))) l f
+part-filled l ys a k f h e =
+    record {
+      long = simp (length-append, length-drop) (omega (arith, front-long, ys-long));
+      done = λ i g. past i ∙ List·getD-append ys (drop (a + k - a) (drop a l)) (pos 0) i (omega (arith, ys-long)) ∙ ap (λ (u : List ℤ). at u i) ys-all ∙ tab-at k f i g;
+      before = λ i g. List·getD-append (take a l) (ys ++ drop (a + k - a) (drop a l)) (pos 0) i (omega (arith, front-long)) ∙ getD-take a l i (pos 0) g;
+      after = λ i g. beyond i (i - (a + k)) (omega arith);
+    }
+  where
+    front-long : length (take a l) ≡ a
+    front-long = length-take-le a l (omega arith)
+
+    ys-all : ys ≡ tabulate k f
+    ys-all = e ∙ ap (λ (n : ℕ). tabulate n f) (part-in l a k h)
+
+    ys-long : length ys ≡ k
+    ys-long = ap length ys-all ∙ tab-length k f
+
+    past : (i : ℕ) → at (take a l ++ (ys ++ drop (a + k - a) (drop a l))) (a + i) ≡ at (ys ++ drop (a + k - a) (drop a l)) i
+    past i =
+        let q : a + i ≡ length (take a l) + i = omega (arith, front-long) in
+        ap (at (take a l ++ (ys ++ drop (a + k - a) (drop a l)))) q ∙ getD-append-add (take a l) (ys ++ drop (a + k - a) (drop a l)) i (pos 0)
+
+    beyond : (i j : ℕ) → i ≡ a + (k + j) → at (take a l ++ (ys ++ drop (a + k - a) (drop a l))) i ≡ at l i
+    beyond i j q =
+        let v : k + j ≡ length ys + j = omega (arith, ys-long) in
+        let u : a + (a + k - a + j) ≡ i = omega arith in
+        ap (at (take a l ++ (ys ++ drop (a + k - a) (drop a l)))) q ∙ past (k + j) ∙ ap (at (ys ++ drop (a + k - a) (drop a l))) v
+        ∙ getD-append-add ys (drop (a + k - a) (drop a l)) j (pos 0)
+        ∙ getD-drop (a + k - a) (drop a l) j (pos 0) ∙ getD-drop a l (a + k - a + j) (pos 0) ∙ ap (at l) u
 
 -- ---- a loop that lends one row of n after another: the rows before y are done, what stands after them is as it was
 pub record Rows (n y : ℕ) (f : ℕ → ℕ → ℤ) (m o : List ℤ) : Type 0 where

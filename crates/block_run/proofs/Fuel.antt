@@ -6,14 +6,15 @@ use mathlib.Core.Logic.{_⊎_, inl, inr}
 use mathlib.Core.List.{List, [], _++_}
 use Prim.Native.Nat.{ℕ, zero, suc, _+_, _≤_, _<_}
 use native.Mathlib.Omega.{arith}
-use borrow.Author.Tests.{leb-true, leb-false, le-ltb, lt-ltb}
-use lib.Dec.{eqb, leb}
+use borrow.Author.Tests.{le-ltb, lt-ltb}
+use lib.Dec.{eqb}
 use lib.IntN.{ℤ}
 use lib.ListN.{length, take, drop}
 use Rattle.meaning.specs.declared.Shape.{Shape}
 use Rattle.meaning.specs.declared.Answer.{Answer}
 use Rattle.meaning.specs.Inverse.{inverseOutcome}
 use Rattle.meaning.specs.Forward.{forwardOutcome}
+use Rattle.meaning.proofs.Cases.{le-or-lt}
 use Rattle.block_file.specs.declared.cursor.Cursor.{Cursor}
 use Rattle.block_file.specs.declared.field.Field.{Field}
 use Rattle.block_file.specs.Field.{fieldAt, wholeField}
@@ -22,13 +23,6 @@ use Rattle.block_numbers.specs.Numbers.{numbers}
 use Rattle.block_text.specs.Text.{inverseText, forwardText}
 use Rattle.block_run.specs.Run.{Turn, blank, refusedTurn, blockTurn, inverseTurn, forwardTurn, turnAt, printedFrom, refusalFrom, printed, refusal}
 use Rattle.block_file.proofs.Found.{found-cases}
-
-le-or-lt : (a b : ℕ) → (a ≤ b) ⊎ (b < a)
-le-or-lt a b = go (leb a b) refl
-  where
-    go : (t : Bool) → leb a b ≡ t → (a ≤ b) ⊎ (b < a)
-    go true e = inl (leb-true a b e)
-    go false e = inr (leb-false a b e)
 
 -- ---- a turn that does not end the run moves the place on
 -- what `turnAt` makes of a field

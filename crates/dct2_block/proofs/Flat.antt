@@ -15,7 +15,7 @@ use Rattle.meaning.specs.Inverse.{rounded}
 -- row 0 is 64 at every place
 pub first-weight : (n j : ℕ) → weight 0 n 0 j ≡ pos 64
 unfolding weight dct2 turn cosines
-first-weight n j = ap (λ (m : ℕ). turn (m % 128)) (ap (λ (k : ℕ). k * (32 / n)) (zero-mul (2 * j + 1)) ∙ zero-mul (32 / n))
+first-weight n j = ap (λ (m : ℕ). turn (m % 256)) (ap (λ (k : ℕ). k * (64 / n)) (zero-mul (2 * j + 1)) ∙ zero-mul (64 / n))
 
 pub weighed-in : (v : ℤ) → natAbs v ≤ 32768 → natAbs (pos 64 *ℤ v) ≤ 2097152
 weighed-in v h = omega (arith, abs-mul (pos 64) v)

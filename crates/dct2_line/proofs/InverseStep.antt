@@ -15,23 +15,22 @@ use Rattle.algebra.proofs.Lists.{tab-cong}
 use Rattle.meaning.specs.Weights.{weight}
 use Rattle.meaning.specs.Line.{inverseSum, inverseLine}
 use Rattle.meaning.specs.Taken.{TakenLine, NoneAbove}
-use Rattle.meaning.proofs.Sizes.{weightSize}
+use Rattle.meaning.proofs.Sizes.{weightMost}
 use Rattle.product.specs.Product.{lineSum, shifted}
 use Rattle.halves.specs.Halves.{Halves, odd, oddSum, evens}
-use Rattle.halves.proofs.Tables.{odd-size}
 use Rattle.dct2_line.specs.Lines.{Half, strided, Inputs, HalfSums, Joined}
 use Rattle.dct2_line.proofs.HalfRows.{tab-holds, tab-long, pairs-hold}
 use Rattle.dct2_line.proofs.Joining.{joined}
 
 -- ---- sizes: no sum of 16 products is near the end of 32 bits
-small-sum : (h : ℕ) (w f : ℕ → ℤ) → h ≤ 16 → ((i : ℕ) → natAbs (w i) ≤ 90) → ((i : ℕ) → natAbs (f i) ≤ 32768) → natAbs (sum h (λ i. w i *ℤ f i)) ≤ 1000000000
+small-sum : (h : ℕ) (w f : ℕ → ℤ) → h ≤ 16 → ((i : ℕ) → natAbs (w i) ≤ 91) → ((i : ℕ) → natAbs (f i) ≤ 32768) → natAbs (sum h (λ i. w i *ℤ f i)) ≤ 1000000000
 small-sum h w f few light low =
-    let each : (i : ℕ) → i < h → natAbs (w i *ℤ f i) ≤ 2949120 = λ i l. product i in
-    omega (arith, sum-in h (λ i. w i *ℤ f i) 2949120 each)
+    let each : (i : ℕ) → i < h → natAbs (w i *ℤ f i) ≤ 2981888 = λ i l. product i in
+    omega (arith, sum-in h (λ i. w i *ℤ f i) 2981888 each)
   where
-    product : (i : ℕ) → natAbs (w i *ℤ f i) ≤ 2949120
+    product : (i : ℕ) → natAbs (w i *ℤ f i) ≤ 2981888
     product i =
-        let q : natAbs (w i) * natAbs (f i) ≤ 90 * 32768 = mul-le-mul (light i) (low i) in
+        let q : natAbs (w i) * natAbs (f i) ≤ 91 * 32768 = mul-le-mul (light i) (low i) in
         omega (arith, abs-mul (w i) (f i))
 
 -- ---- places: the even inputs stand twice as far apart, the odd ones between them
@@ -59,9 +58,9 @@ module _ {h apart : ℕ} {x : List ℤ} (inputs : Inputs (h + h) apart x) where
           evens = long;
           odds = room;
           even = λ j l. subst (λ (z : ℤ). natAbs z ≤ 1000000000) (sym (evened j l))
-              (small-sum h (λ i. weight 0 h i j) (evens (strided x apart)) few (λ i. weightSize 0 h i j) (λ i. inputs .low (apart * (2 * i))));
+              (small-sum h (λ i. weight 0 h i j) (evens (strided x apart)) few (λ i. weightMost 0 h i j) (λ i. inputs .low (apart * (2 * i))));
           odd = λ j l. subst (λ (z : ℤ). natAbs z ≤ 1000000000) (sym (odded j l))
-              (small-sum h (λ i. odd (h + h) i j) (λ i. strided x apart (2 * i + 1)) few (λ i. odd-size (h + h) i j) (λ i. inputs .low (apart * (2 * i + 1))));
+              (small-sum h (λ i. odd (h + h) i j) (λ i. strided x apart (2 * i + 1)) few (λ i. weightMost 0 (h + h) (2 * i + 1) j) (λ i. inputs .low (apart * (2 * i + 1))));
         }
 
     pub line-made : Halves (h + h) h → {out : List ℤ} → Joined h h e o out → out ≡ tabulate (h + h) (inverseSum 0 (h + h) (h + h) (strided x apart))
@@ -79,7 +78,7 @@ module _ {h apart : ℕ} {x : List ℤ} (inputs : Inputs (h + h) apart x) where
     odded : (j : ℕ) → j < h → at o j ≡ oddSum (h + h) h (strided x apart) j
     unfolding oddSum
     odded j l =
-        pairs-hold stored (odd-size (h + h)) pairs two a _ dealt m (omega arith) o summed j (omega arith)
+        pairs-hold stored pairs two a _ dealt m (omega arith) o summed j (omega arith)
         ∙ sum-cong h (λ i. odd (h + h) i j *ℤ at x (apart + i * (2 * apart))) (λ i. odd (h + h) i j *ℤ at x (apart * (2 * i + 1))) (λ i k. ap (λ (m : ℕ). odd (h + h) i j *ℤ at x m) (between apart i))
 
     pub step-given : HalfSums h e o

@@ -4,6 +4,7 @@ use mathlib.Core.List.{List, [], _∷_}
 use lib.IntN.{ℤ, pos, negsuc}
 use Rattle.meaning.specs.Weights.{cosines, turn, dct2, weight}
 use Rattle.halves.specs.Halves.{odd}
+use Rattle.halves.proofs.Tables.{odd-size}
 use Rattle.dct2_line.specs.Lines.{Half}
 use Rattle.dct2_line.proofs.HalfRows.{half-by}
 
@@ -14,7 +15,7 @@ odd8 =
 
 pub table-odd8 : Half (odd 8) 4 odd8
 unfolding cosines turn dct2 weight
-table-odd8 = half-by (odd 8) 4 2 odd8 refl tt tt refl
+table-odd8 = half-by (odd 8) (odd-size 8 refl) 4 2 odd8 refl tt tt refl
 
 abbrev odd16 : List ℤ
 odd16 =
@@ -25,7 +26,7 @@ odd16 =
 
 pub table-odd16 : Half (odd 16) 8 odd16
 unfolding cosines turn dct2 weight
-table-odd16 = half-by (odd 16) 8 4 odd16 refl tt tt refl
+table-odd16 = half-by (odd 16) (odd-size 16 refl) 8 4 odd16 refl tt tt refl
 
 abbrev odd32 : List ℤ
 odd32 =
@@ -40,4 +41,4 @@ odd32 =
 
 pub table-odd32 : Half (odd 32) 16 odd32
 unfolding cosines turn dct2 weight
-table-odd32 = half-by (odd 32) 16 8 odd32 refl tt tt refl
+table-odd32 = half-by (odd 32) (odd-size 32 refl) 16 8 odd32 refl tt tt refl

@@ -8,9 +8,10 @@ use Rattle.algebra.specs.Lists.{at}
 use Rattle.meaning.specs.Taken.{NoneAbove}
 use Rattle.product.specs.Product.{spot}
 
--- t has h rows of h weights W, two rows zipped
+-- t has h rows of h weights W, two rows zipped, and none is above 90
 pub record Half (W : ℕ → ℕ → ℤ) (h : ℕ) (t : List ℤ) : Type 0 where
   pub few : h ≤ 16
+  pub light : (i j : ℕ) → natAbs (W i j) ≤ 90
   pub held : (i j : ℕ) → i < h → j < h → 2 * j + spot (2 * h) i < length t
   pub right : (i j : ℕ) → i < h → j < h → at t (2 * j + spot (2 * h) i) ≡ W i j
 

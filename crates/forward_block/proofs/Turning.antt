@@ -1,6 +1,6 @@
 -- A block of 4 by 4 of which all is kept, as four lines of four that are turned, twice: what the lines are given, and what they are.
 -- Assumes nothing.
-use mathlib.Core.Path.{_≡_, sym, ap, _∙_, subst}
+use mathlib.Core.Path.{_≡_, refl, sym, ap, _∙_, subst}
 use mathlib.Core.Bool.{cond, _&&_}
 use mathlib.Core.List.{List}
 use Prim.Native.Nat.{ℕ, _+_, _*_, _≤_, _<_}
@@ -49,7 +49,7 @@ module _ (kind shift : ℕ) {a t : List ℤ} (u : Laid 4 2 2 8 (λ i j. weight k
   turned-given =
       record {
         long = g .long;
-        light = λ i o h v. subst (λ (z : ℤ). natAbs z ≤ 90) (sym (u .right i o h v)) (weightSize kind 4 o i);
+        light = λ i o h v. subst (λ (z : ℤ). natAbs z ≤ 90) (sym (u .right i o h v)) (weightSize kind 4 refl o i);
         low = g .low;
         high = g .high;
         fits = λ o j h v. subst (SFits w16) (sym (turned-is o j h v)) (g .fits o j h v);

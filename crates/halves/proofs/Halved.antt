@@ -55,5 +55,9 @@ pub halves-32 : Halves 32 16
 unfolding weight dct2 turn cosines
 halves-32 = by-test 32 16 refl tt
 
+pub halves-64 : Halves 64 32
+unfolding weight dct2 turn cosines
+halves-64 = by-test 64 32 refl tt
+
 pub halves : (n : ℕ) → isSize n ≡ true → Halves n (n / 2)
 halves = size-cases (λ n. Halves n (n / 2)) halves-4 halves-8 halves-16 halves-32

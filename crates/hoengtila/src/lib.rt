@@ -1,9 +1,10 @@
-// The library for C and Rust: the calls of `line`, `block`, `long_block`, `thin_block`, `why`, `wrapping`, `block_row`, `round_trip`, `report`,
-// `step_run`, `step_lists`, `picture` and `salvage` under the names and with the arguments that include/hoengtila.h declares, and the one
-// that makes a shape. A wrapper is one call and has the contract of what it calls; none has a `requires`, so whatever numbers and lengths
-// a caller hands over, the contract says what comes back. For Rattle callers alone are the 4 by 4 block by value (`small_block`),
-// the calls that run two ways side by side (`forward_both`, `inverse_both`), the thin block that hands a stretch of an area back (`inverse`
-// of `thin_block`; `work` is here), `empty` of `report` and `is_listed` of `step_lists`. Read it beside the header.
+// The library for C and Rust: the calls of `line`, `block`, `long_block`, `thin_block`, `transform_block`, `why`, `wrapping`, `block_row`,
+// `round_trip`, `report`, `step_run`, `step_lists`, `picture` and `salvage` under the names and with the arguments that include/hoengtila.h
+// declares, and the two that make a shape and a transform block. A wrapper is one call and has the contract of what it calls; none has a
+// `requires`, so whatever numbers and lengths a caller hands over, the contract says what comes back. For Rattle callers alone are the
+// 4 by 4 block by value (`small_block`), the calls that run two ways side by side (`forward_both`, `inverse_both`), the thin block that
+// hands a stretch of an area back (`inverse` of `thin_block`; `work` is here), `empty` of `report` and `is_listed` of `step_lists`. Read it
+// beside the header.
 use meaning::Answer;
 use meaning::Shape;
 use picture::read::Picture;
@@ -12,6 +13,7 @@ use salvage::saving::Saved;
 use step_lists::Listed;
 use steps::StepCount;
 use thin_block::Thin;
+use transform_block::TransformBlock;
 use why::Parts;
 ghost use mathlib.Core.Path.{_≡_};
 ghost use mathlib.Core.Bool.{not};
@@ -30,6 +32,7 @@ ghost use Rattle.block_row.specs.Numbers.{shapesOf};
 ghost use Rattle.block_row.specs.Row.{RowOutcome, rowOutcome};
 ghost use Rattle.steps.specs.Numbers.{listOf};
 ghost use Rattle.thin_block.specs.Thin.{Areas, thinOutcome};
+ghost use Rattle.transform_block.specs.TransformBlock.{blockOf, transformOutcome};
 ghost use Rattle.steps.specs.Outcome.{Result, stepsOutcome};
 ghost use Rattle.wrapping.specs.Outcome.{forwardWrapped, inverseWrapped};
 ghost use Rattle.picture.specs.Outcomes.{writeOutcome, readOutcome};
@@ -164,6 +167,29 @@ pub extern "C" fn hoengtila_block_inverse_thin(
     ensures { λ r. ⌜ _≡_ {A = Areas} (record { answer = r; first = now (first .exit); second = now (second .exit) }) (thinOutcome shape (now (coefficients .entry)) (now (first .entry)) (now (second .entry))) ⌝ }
 {
     thin_block::work(shape, coefficients, first, second)
+}
+
+#[no_mangle]
+pub extern "C" fn hoengtila_transform_block_of(
+    width: u32,
+    height: u32,
+    horizontal: u32,
+    vertical: u32,
+    depth: u32,
+) -> TransformBlock
+    ensures { λ r. ⌜ r ≡ blockOf width height horizontal vertical depth ⌝ }
+{
+    TransformBlock::new(width, height, horizontal, vertical, depth)
+}
+
+#[no_mangle]
+pub extern "C" fn hoengtila_transform_block_inverse(
+    block: TransformBlock,
+    numbers: &mut [i32],
+) -> Answer
+    ensures { λ r. ⌜ _≡_ {A = Outcome} (r, now (numbers .exit)) (transformOutcome block (now (numbers .entry))) ⌝ }
+{
+    transform_block::inverse(block, numbers)
 }
 
 #[no_mangle]

@@ -4,7 +4,7 @@ use mathlib.Core.Path.{_≡_, refl, sym, ap, _∙_, subst}
 use mathlib.Core.Bool.{true}
 use mathlib.Core.Logic.{inl, inr}
 use mathlib.Core.List.{List}
-use Prim.Native.Nat.{ℕ, _+_, _*_, _-_, _^_, _≤_, _<_}
+use Prim.Native.Nat.{ℕ, _+_, _*_, _-_, _/_, _%_, _^_, _≤_, _<_}
 use native.Mathlib.Omega.{arith}
 use lib.IntN.{ℤ, pos, _*ℤ_, *ℤ-comm}
 use lib.ListN.{length}
@@ -48,8 +48,8 @@ of-square {n} {sh} P q p = subst (P (sh .width)) (sym (q .height)) (subst (λ (w
 -- ---- as lines
 module _ {n pairs : ℕ} (kind : ℕ) (e : 2 * pairs ≡ n) (some : 0 < pairs) (few : pairs ≤ 16) {t : List ℤ} (weights : Of kind n pairs t) where
   module _ (c : List ℤ) {z : List ℤ} (zipped : Laid n pairs 2 (2 * n) (λ i x. at c (x + i * n)) z) where
-    pub down-lines : Lines n n pairs t 2 (2 * n) z (2 * n)
-    down-lines = lines-given weights zipped some few (λ i j l. inr (weightSize kind n i l))
+    pub down-lines : 64 / n % 2 ≡ 0 → Lines n n pairs t 2 (2 * n) z (2 * n)
+    down-lines even = lines-given weights zipped some few (λ i j l. inr (weightSize kind n even i l))
 
     pub down-sums : block n n (λ x y. shifted (pos 64) 7 (lineSum t (2 * y) (2 * n) z (2 * n) pairs x)) ≡ downBlock kind n n c
     unfolding inverseSum
@@ -59,8 +59,8 @@ module _ {n pairs : ℕ} (kind : ℕ) (e : 2 * pairs ≡ n) (some : 0 < pairs) (
     rows : Laid n pairs n 2 (λ i y. at m (i + y * n)) m
     rows = block-laid (omega arith) (omega arith)
 
-    pub along-lines : Lines n n pairs m n 2 t (2 * n)
-    along-lines = lines-given rows weights some few (λ i j l. inl (weightSize kind n i j))
+    pub along-lines : 64 / n % 2 ≡ 0 → Lines n n pairs m n 2 t (2 * n)
+    along-lines even = lines-given rows weights some few (λ i j l. inl (weightSize kind n even i j))
 
     pub along-sums : {half : ℤ} (last : ℕ) → half ≡ pos (2 ^ (last - 1))
         → block n n (λ x y. shifted half last (lineSum m (n * y) 2 t (2 * n) pairs x)) ≡ alongBlock kind n n m last

@@ -23,7 +23,7 @@ use Rattle.meaning.specs.Weights.{weight}
 use Rattle.meaning.specs.Plan.{Plan, planOf, shortRange}
 use Rattle.meaning.specs.Inverse.{columnSum, rounded, railed, count, rails, residual, inverseBlock}
 use Rattle.meaning.proofs.Cases.{size-cases, size-in}
-use Rattle.meaning.proofs.Sizes.{weightSize}
+use Rattle.meaning.proofs.Sizes.{weightSize, even-places}
 use Rattle.product.specs.Product.{Laid, lineSum, shifted, Rounding, Lines}
 use Rattle.product.proofs.Laid.{laid-less, block-laid, lines-given, lines-are, half-is, half-rounds}
 use Rattle.stage_weights.specs.Stage.{Weights}
@@ -175,7 +175,7 @@ module _ {sh : Shape} {rows columns : ℕ} {c r : List ℤ} {g : GivenStages sh 
 
     pub down-asks : Lines (sh .height) columns pairs u 2 (2 * sh .height) z (2 * columns) × (Rounding (pos 64) 7 × (sh .height * columns ≤ length r))
     down-asks = (
-      lines-given there here (omega (arith, even-rows g)) (omega (arith, size-in rows (g .size-rows))) (λ i j l. inr (weightSize (sh .vertical) (sh .height) i l)),
+      lines-given there here (omega (arith, even-rows g)) (omega (arith, size-in rows (g .size-rows))) (λ i j l. inr (weightSize (sh .vertical) (sh .height) (even-places (sh .height) (g .block .taken .height)) i l)),
       (record { small = omega arith; short = omega arith }, sums-room g),
     )
 
@@ -215,7 +215,7 @@ module _ {sh : Shape} {rows columns : ℕ} {c r : List ℤ} {g : GivenStages sh 
 
       pub along-asks : Lines (sh .height) (sh .width) pairs held columns 2 t (2 * sh .width) × (Rounding (toZ w32 (ofZ w32 half)) last × (sh .height * sh .width ≤ length l))
       along-asks = (
-        lines-given rows-laid along-laid (omega (arith, even-columns g)) (omega (arith, size-in columns (g .size-columns))) (λ i j l. inl (weightSize (sh .horizontal) (sh .width) i j)),
+        lines-given rows-laid along-laid (omega (arith, even-columns g)) (omega (arith, size-in columns (g .size-columns))) (λ i j l. inl (weightSize (sh .horizontal) (sh .width) (even-places (sh .width) (g .block .taken .width)) i j)),
         (half-rounds (a .rounding), omega (arith, first-long g (a .first), mul-comm (sh .width) (sh .height))),
       )
 

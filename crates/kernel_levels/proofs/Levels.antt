@@ -20,13 +20,12 @@ use Rattle.algebra.proofs.Lists.{zeros-at}
 use Rattle.algebra.proofs.Table.{every}
 use Rattle.meaning.specs.Weights.{weight}
 use Rattle.meaning.specs.Line.{inverseSum}
-use Rattle.meaning.proofs.Sizes.{weightSize}
+use Rattle.meaning.proofs.Sizes.{weightMost}
 use Rattle.product.specs.Product.{spot, Laid, lineSum}
 use Rattle.product.proofs.Laid.{spot-two}
 use Rattle.tables.proofs.Pairs.{byPair, laid-by}
 use Rattle.halves.specs.Halves.{Halves, odd, oddSum, evens}
 use Rattle.halves.proofs.ByHalves.{inverse-low, inverse-high}
-use Rattle.halves.proofs.Tables.{odd-size}
 use Rattle.kernel_steps.specs.Weighed.{heaviest, sumSize, Weighed, Small}
 use Rattle.kernel_steps.specs.Written.{WroteFrom, Ends}
 
@@ -74,10 +73,10 @@ pub record StoredWeights (h pairs : ℕ) (W : ℕ → ℕ → ℤ) (t : List ℤ
 
 -- .. by one computed test of its numbers: of 2 points all rows, above that the odd ones
 pub stored-first : (pairs : ℕ) (t : List ℤ) → T (leb pairs 8) → T (every (byPair 2 (weight 0 2)) 0 t) → pairs * 4 ≡ length t → StoredWeights 2 pairs (weight 0 2) t
-stored-first pairs t few p e = record { few = leb→le pairs 8 few; light = λ i j. omega (arith, weightSize 0 2 i j); laid = laid-by 2 pairs (weight 0 2) t p e }
+stored-first pairs t few p e = record { few = leb→le pairs 8 few; light = λ i j. omega (arith, weightMost 0 2 i j); laid = laid-by 2 pairs (weight 0 2) t p e }
 
 pub stored-odd : (n h pairs : ℕ) (t : List ℤ) → T (leb pairs 8) → T (every (byPair h (odd n)) 0 t) → pairs * (2 * h) ≡ length t → StoredWeights h pairs (odd n) t
-stored-odd n h pairs t few p e = record { few = leb→le pairs 8 few; light = λ i j. omega (arith, odd-size n i j); laid = laid-by h pairs (odd n) t p e }
+stored-odd n h pairs t few p e = record { few = leb→le pairs 8 few; light = λ i j. omega (arith, weightMost 0 n (2 * i + 1) j); laid = laid-by h pairs (odd n) t p e }
 
 module _ {W : ℕ → ℕ → ℤ} {h pairs q : ℕ} {f : ℕ → ℤ} {t z : List ℤ} (stored : StoredWeights h pairs W t) (d : Dealt q (2 * pairs) f z) where
   pub weighed : (n : ℕ) → n ≤ h → Weighed n pairs z t (2 * h)

@@ -6,9 +6,9 @@ use lib.IntN.{ℤ, natAbs}
 use Rattle.algebra.specs.Lists.{at}
 use Rattle.product.specs.Product.{spot}
 
--- no weight of DCT-II is larger: up to 32 points 90, and 91 with 64
+-- no weight is larger: of DCT-II up to 32 points 90, and 91 with 64; of LFNST 121
 abbrev pub heaviest : ℕ
-heaviest = 91
+heaviest = 121
 
 -- how large a product of a weight and a number of 16 bits, two of them, and eight pairs can be
 abbrev pub productSize : ℕ

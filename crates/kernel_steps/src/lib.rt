@@ -1,5 +1,5 @@
 // Internal: the steps of which the kernels of DCT-II blocks are made; they ask that places are in their lists, weights small and
-// sums far from 32 bits, which `kernel_levels` shows of each kernel. Read specs/Written and specs/Weighed, then the functions in
+// sums far from 32 bits, which `kernel_levels` shows of each kernel. `lfnst` takes `some` alone. Read specs/Written and specs/Weighed, then the functions in
 // the order in which a kernel calls them: `strip_8` or `take` reads inputs, `deal` takes every other one of them, `some` multiplies
 // by pairs, `lift` adds the rounding, `butterfly` or `mirror` goes up a level, `put` or `round` writes, `spread_8_8` copies a tile
 // to its rows. Of proofs/, Writing has what a caller cites.

@@ -23,7 +23,7 @@ use Rattle.meaning.specs.Plan.{Plan, rangeOf, reach, longPlan}
 use Rattle.meaning.specs.Inverse.{columnSum, middle, middleAt, rails, rowSum, residual, inverseBlock}
 use Rattle.meaning.proofs.Cases.{size-in}
 use Rattle.meaning.proofs.LongRules.{reach-in, last-in, around}
-use Rattle.meaning.proofs.LongSizes.{long-residual-fits}
+use Rattle.meaning.proofs.LongSizes.{long-sized, long-residual-fits}
 use Rattle.product.specs.Product.{spot, Laid}
 use Rattle.product.proofs.Summing.{odd-place}
 use Rattle.stage_weights.specs.Stage.{Weights}
@@ -76,7 +76,7 @@ module _ (extended : Bool) (sh : Shape) (rows columns : ℕ) (c out : List ℤ) 
     columns-given =
         record {
           far = reach-in extended (sh .depth) .1;
-          low = low;
+          low = omega (arith, low);
           narrow = omega (arith, g .live .narrow, wide);
           each = λ x y l v. record {
             few = omega (arith, g .live .low, low);
@@ -143,8 +143,8 @@ module _ (extended : Bool) (sh : Shape) (rows columns : ℕ) (c out : List ℤ) 
       rows-given =
           let last = last-in extended (sh .depth) (g .block .taken .depth) in
           record {
-            wide = wide;
-            low = low;
+            wide = omega (arith, wide);
+            low = omega (arith, low);
             narrow = omega (arith, g .live .narrow, wide);
             some = omega arith;
             short = omega arith;
@@ -153,7 +153,7 @@ module _ (extended : Bool) (sh : Shape) (rows columns : ℕ) (c out : List ℤ) 
               held = λ k q. odd-held (sh .horizontal) along-laid x k l q;
               there = λ k q. omega (arith, m-long, row-in (2 * columns) v);
             };
-            fits = λ x y l v. subst (SFits w32) (sym (residual-read x y l v)) (long-residual-fits extended sh (g .block .taken) c x y l);
+            fits = λ x y l v. subst (SFits w32) (sym (residual-read x y l v)) (long-residual-fits extended sh (long-sized extended sh (g .block .taken)) (g .block .taken .depth) c x y l);
           }
 
       pub block-read : block w h (λ x y. nearest (p .last) (rowAt along w m (2 * columns) columns x y)) ≡ inverseBlock p c

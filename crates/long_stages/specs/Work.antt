@@ -23,7 +23,7 @@ railOf reach e = count (railed (rounded e) (middle (rangeOf reach) e))
 
 pub record Down (t : List ℤ) (h : ℕ) (c : List ℤ) (w pairs columns reach : ℕ) : Type 0 where
   pub far : reach ≤ 20
-  pub low : h ≤ 32
+  pub low : h ≤ 64
   pub narrow : columns ≤ 32
   pub each : (x y : ℕ) → x < columns → y < h → Dot t (2 * y) (2 * h) c x w pairs
 
@@ -32,8 +32,8 @@ abbrev pub rowAt : List ℤ → ℕ → List ℤ → ℕ → ℕ → ℕ → ℕ
 rowAt t w m columns pairs x y = dotted t (2 * x) (2 * w) m (y * columns) 1 pairs
 
 pub record Along (t : List ℤ) (w h : ℕ) (m : List ℤ) (columns pairs last : ℕ) : Type 0 where
-  pub wide : w ≤ 32
-  pub low : h ≤ 32
+  pub wide : w ≤ 64
+  pub low : h ≤ 64
   pub narrow : columns ≤ 32
   pub some : 0 < last
   pub short : last ≤ 32

@@ -56,7 +56,7 @@ fn past_ends(n: i32, low: i32, high: i32) -> bool
     high < n
 }
 
-fn is_beyond(n: i32, reach: u32) -> bool
+pub fn is_beyond(n: i32, reach: u32) -> bool
     requires { ⌜ reach ≤ 20 ⌝ }
     ensures { λ r. ⌜ r ≡ beyond (rangeOf reach) n ⌝ }
 {

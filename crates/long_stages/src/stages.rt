@@ -71,7 +71,7 @@ pub fn middles(
 }
 
 // The residuals of row y.
-fn residual_row(
+pub fn residual_row(
     t: &[i16],
     w: usize,
     h: usize,

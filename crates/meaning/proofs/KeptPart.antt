@@ -36,7 +36,7 @@ pub record Kept (n k : ℕ) : Type 0 where
   pub within : k ≤ n
   pub short : k ≤ 32
 
-kept-of : (kind n k : ℕ) → isKept kind n k ≡ true → Kept n k
+pub kept-of : (kind n k : ℕ) → isKept kind n k ≡ true → Kept n k
 kept-of kind n k h =
     let both = and-cases (leb 1 k) (leb k (mostKept kind n)) h in
     let high = leb-true k (mostKept kind n) (both .1) in

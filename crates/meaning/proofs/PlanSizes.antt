@@ -23,14 +23,14 @@ use Rattle.meaning.specs.Exact.{weightSizes}
 use Rattle.meaning.proofs.Cases.{pick}
 use Rattle.meaning.proofs.Sizes.{columnSize, columnSizesKept, inverse-part}
 
--- ---- the weights of a plan of known sizes and kinds: W is 64 h down a column, 64 w along a row
+-- ---- the weights of a plan by lines that there are: W is 64 h down a column, 64 w along a row
 module _ {p : Plan} (s : Sized p) where
   pub down-sizes : (y : ℕ) → y < p .height → columnSize (p .vertical) (p .height) (p .rows) y ≤ 64 * p .height
-  down-sizes y h = columnSizesKept (p .vertical) (p .height) (s .vertical) (s .height) (p .rows) y (s .rows) h
+  down-sizes y h = columnSizesKept (p .vertical) (p .height) (s .down) (p .rows) y (s .rows) h
 
   pub along-sizes : (x : ℕ) → x < p .width → weightSizes p x ≤ 64 * p .width
   unfolding weightSizes
-  along-sizes x h = columnSizesKept (p .horizontal) (p .width) (s .horizontal) (s .width) (p .columns) x (s .columns) h
+  along-sizes x h = columnSizesKept (p .horizontal) (p .width) (s .along) (p .columns) x (s .columns) h
 
 -- ---- columns
 module _ (p : Plan) (c : List ℤ) {B W : ℕ} (small : NoneAbove B c) (x y : ℕ) (weights : columnSize (p .vertical) (p .height) (p .rows) y ≤ W) where

@@ -29,7 +29,7 @@ use Rattle.meaning.specs.Plan.{shortRange, planBy, planOf}
 use Rattle.meaning.specs.Taken.{TakenBy, Taken, Sized, NoneAbove}
 use Rattle.meaning.specs.Inverse.{columnSum, middleAt, rowSum, residual}
 use Rattle.meaning.specs.Forward.{log2, rowShift, columnShift, rowStage, rowValue, columnStage, columnValue, coefficient, mostResidual}
-use Rattle.meaning.proofs.Cases.{size-cases, size-in, depth-cases, pick}
+use Rattle.meaning.proofs.Cases.{size-cases, size-in, depth-cases, has-line, pick}
 use Rattle.meaning.proofs.KeptPart.{columns-kept, rows-kept}
 use Rattle.meaning.proofs.Sizes.{short, forwardSum-in, forwardSum-short, forward-part-fits}
 use Rattle.meaning.proofs.PlanSizes.{Around, down-sizes, along-sizes, column-part, columnSum-size, middle-within, row-part, rowSum-size, residual-size}
@@ -38,7 +38,7 @@ use Rattle.meaning.proofs.PlanSizes.{Around, down-sizes, along-sizes, c
 -- by any range and any last shift
 pub sized-by : {deep : Bool} (range : Range) (last : ℕ) (sh : Shape) → TakenBy (isSize (sh .width)) (isSize (sh .height)) deep sh → Sized (planBy range last sh)
 sized-by range last sh t =
-    record { width = t .width; height = t .height; horizontal = t .horizontal; vertical = t .vertical; columns = columns-kept sh t .within; rows = rows-kept sh t .within }
+    record { along = has-line (sh .horizontal) (sh .width) (t .horizontal) (t .width); down = has-line (sh .vertical) (sh .height) (t .vertical) (t .height); columns = columns-kept sh t .within; rows = rows-kept sh t .within }
 
 pub taken-sized : (sh : Shape) → Taken sh → Sized (planOf sh)
 taken-sized sh = sized-by shortRange (planOf sh .last) sh
@@ -176,7 +176,7 @@ module _ (sh : Shape) (t : Taken sh) where
         = ap (λ n. n * mostResidual sh) row-power ∙ mul-assoc (2 ^ rowShift sh) (2 ^ (15 - sh .depth)) (mostResidual sh) in
         nearest-in (rowShift sh) (rowStage sh r x y) (mostValue sh) p
         (subst (λ n. natAbs (rowStage sh r x y) ≤ n) e
-        (forwardSum-in (sh .horizontal) (sh .width) (t .horizontal) (t .width) (λ j. at r (j + y * sh .width)) (mostResidual sh) (λ j _. small (j + y * sh .width)) x h))
+        (forwardSum-in (sh .horizontal) (sh .width) (has-line (sh .horizontal) (sh .width) (t .horizontal) (t .width)) (λ j. at r (j + y * sh .width)) (mostResidual sh) (λ j _. small (j + y * sh .width)) x h))
 
     pub rowValue-fits : (x y : ℕ) → x < sh .width → SFits w16 (rowValue sh r x y)
     rowValue-fits x y h = fits-in tt (within (rowValue sh r x y) (le-trans (rowValue-in x y h) value-short))
@@ -204,7 +204,7 @@ module _ (sh : Shape) (t : Taken sh) where
     columnValue-in x y h v =
         nearest-in (columnShift sh) (columnStage sh r x y) (mostValue sh) (omega arith)
         (subst (λ n. natAbs (columnStage sh r x y) ≤ n * mostValue sh) (size-power (sh .height) (t .height))
-        (forwardSum-in (sh .vertical) (sh .height) (t .vertical) (t .height) (λ j. rowValue sh r x j) (mostValue sh) (λ j _. rowValue-in x j h) y v))
+        (forwardSum-in (sh .vertical) (sh .height) (has-line (sh .vertical) (sh .height) (t .vertical) (t .height)) (λ j. rowValue sh r x j) (mostValue sh) (λ j _. rowValue-in x j h) y v))
 
     pub columnValue-fits : (x y : ℕ) → x < sh .width → y < sh .height → SFits w16 (columnValue sh r x y)
     columnValue-fits x y h v = fits-in tt (within (columnValue sh r x y) (le-trans (columnValue-in x y h v) value-short))

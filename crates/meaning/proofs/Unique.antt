@@ -7,7 +7,7 @@ use Rattle.algebra.specs.Refusals.{numberOf}
 use Rattle.algebra.proofs.Unique.{one}
 use Rattle.meaning.specs.declared.Shape.{Shape}
 use Rattle.meaning.specs.declared.Answer.{Answer}
-use Rattle.meaning.specs.Shape.{isSize, isKind, isDepth, isLongDepth, mostKept, shapeOf, keeping}
+use Rattle.meaning.specs.Shape.{isSize, isKind, isDepth, isLongDepth, mostKept, isKept, shapeOf, keeping}
 use Rattle.meaning.specs.Answer.{shapeTestsBy, shapeTests, lengthTests, lineTests, refused, accepted}
 use Rattle.meaning.specs.Long.{longShapeTests}
 
@@ -74,3 +74,7 @@ refused-one number place = one
 
 pub accepted-one : (rails : ℕ) {r s : Answer} → r ≡ accepted rails → s ≡ accepted rails → r ≡ s
 accepted-one rails = one
+
+-- `is_kept`
+pub kept-one : (kind n k : ℕ) {r s : Bool} → r ≡ isKept kind n k → s ≡ isKept kind n k → r ≡ s
+kept-one kind n k = one

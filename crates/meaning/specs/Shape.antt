@@ -12,6 +12,10 @@ isSize n = eqb n 4 || (eqb n 8 || (eqb n 16 || eqb n 32))
 unfoldable pub isKind : ℕ → Bool
 isKind kind = eqb kind 1 || (eqb kind 2 || eqb kind 0)
 
+-- which lines there are: each kind has those sizes, and kind 0 has 2 and 64 points too
+unfoldable pub hasLine : ℕ → ℕ → Bool
+hasLine kind n = isKind kind && (isSize n || (eqb kind 0 && (eqb n 2 || eqb n 64)))
+
 -- 8 to a deepest one
 abbrev pub isDepthTo : ℕ → ℕ → Bool
 isDepthTo deepest d = leb 8 d && leb d deepest

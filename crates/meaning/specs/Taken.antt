@@ -8,7 +8,7 @@ use lib.IntN.{ℤ, natAbs}
 use lib.ListN.{length}
 use Rattle.algebra.specs.Lists.{at}
 use Rattle.meaning.specs.declared.Shape.{Shape}
-use Rattle.meaning.specs.Shape.{isSize, isKind, isDepth, isLongDepth, keeps}
+use Rattle.meaning.specs.Shape.{isSize, isKind, hasLine, isDepth, isLongDepth, keeps}
 use Rattle.meaning.specs.Plan.{Plan}
 
 -- past 1 to 5 and 20: a shape, by what its call takes for a width, a height and a depth
@@ -46,12 +46,10 @@ pub record TakenLine (n kind input output : ℕ) : Type 0 where
   pub long : input ≡ n
   pub room : output ≡ n
 
--- a plan of known sizes and kinds, of which no more is kept than there is
+-- a plan by lines that there are, of which no more is kept than there is
 pub record Sized (p : Plan) : Type 0 where
-  pub width : isSize (p .width) ≡ true
-  pub height : isSize (p .height) ≡ true
-  pub horizontal : isKind (p .horizontal) ≡ true
-  pub vertical : isKind (p .vertical) ≡ true
+  pub along : hasLine (p .horizontal) (p .width) ≡ true
+  pub down : hasLine (p .vertical) (p .height) ≡ true
   pub columns : p .columns ≤ p .width
   pub rows : p .rows ≤ p .height
 

@@ -34,18 +34,19 @@ S n i j = let l = 2 * n + 1 in fold l (first n) (((2 * i + 1) * (j + 1)) % (2 * 
 unfoldable pub C : ℕ → ℕ → ℕ → ℤ
 C n i j = signed (eqb (i % 2) 1) (S n i (n - 1 - j))
 
--- H.266's DCT-II of 32 points as one list: c m stands at place m, m = 0 .. 32, a quarter of a turn
+-- H.266's DCT-II of 64 points as one list: c m stands at place m, m = 0 .. 64, a quarter of a turn; the even places are those of 32
 unfoldable pub cosines : List ℕ
 cosines =
-    64 ∷ 90 ∷ 90 ∷ 90 ∷ 89 ∷ 88 ∷ 87 ∷ 85 ∷ 83 ∷ 82 ∷ 80 ∷ 78 ∷ 75 ∷ 73 ∷ 70 ∷ 67 ∷ 64 ∷ 61 ∷ 57 ∷ 54 ∷ 50 ∷ 46 ∷ 43 ∷ 38 ∷ 36 ∷ 31 ∷ 25 ∷ 22 ∷ 18 ∷ 13 ∷ 9 ∷ 4 ∷ 0 ∷ []
+    64 ∷ 91 ∷ 90 ∷ 90 ∷ 90 ∷ 90 ∷ 90 ∷ 90 ∷ 89 ∷ 88 ∷ 88 ∷ 87 ∷ 87 ∷ 86 ∷ 85 ∷ 84 ∷ 83 ∷ 83 ∷ 82 ∷ 81 ∷ 80 ∷ 79 ∷ 78 ∷ 77 ∷ 75 ∷ 73 ∷ 73 ∷ 71 ∷ 70 ∷ 69 ∷ 67 ∷ 65 ∷
+    64 ∷ 62 ∷ 61 ∷ 59 ∷ 57 ∷ 56 ∷ 54 ∷ 52 ∷ 50 ∷ 48 ∷ 46 ∷ 44 ∷ 43 ∷ 41 ∷ 38 ∷ 37 ∷ 36 ∷ 33 ∷ 31 ∷ 28 ∷ 25 ∷ 24 ∷ 22 ∷ 20 ∷ 18 ∷ 15 ∷ 13 ∷ 11 ∷ 9 ∷ 7 ∷ 4 ∷ 2 ∷ 0 ∷ []
 
--- the rest of the turn: m above 64 counts as 128-m; then above 32 minus, and the index 64-m
+-- the rest of the turn: m above 128 counts as 256-m; then above 64 minus, and the index 128-m
 unfoldable pub turn : ℕ → ℤ
-turn m = let k = min m (128 - m) in signed (ltb 32 k) (pos (getD cosines (min k (64 - k)) 0))
+turn m = let k = min m (256 - m) in signed (ltb 64 k) (pos (getD cosines (min k (128 - k)) 0))
 
--- DCT-II of n points: m = i*(2j+1)*(32/n) modulo 128, so that row 0 is c 0 at every place
+-- DCT-II of n points: m = i*(2j+1)*(64/n) modulo 256, so that row 0 is c 0 at every place
 unfoldable pub dct2 : ℕ → ℕ → ℕ → ℤ
-dct2 n i j = turn ((i * (2 * j + 1) * (32 / n)) % 128)
+dct2 n i j = turn ((i * (2 * j + 1) * (64 / n)) % 256)
 
 -- "1 (DST-VII) or 2 (DCT-VIII)", and 0 (DCT-II)
 unfoldable pub weight : ℕ → ℕ → ℕ → ℕ → ℤ

@@ -180,7 +180,8 @@ pub fn most_kept(kind: u32, n: u32) -> u32
     least(n, 16)
 }
 
-fn is_kept(kind: u32, n: u32, k: u32) -> bool
+/// "at least 1 and at most" the most.
+pub fn is_kept(kind: u32, n: u32, k: u32) -> bool
     ensures { λ r. ⌜ r ≡ isKept kind n k ⌝ }
 {
     if k < 1 {

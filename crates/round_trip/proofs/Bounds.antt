@@ -17,7 +17,7 @@ use Rattle.algebra.proofs.Word.{small}
 use Rattle.meaning.specs.Weights.{weight}
 use Rattle.meaning.specs.Shape.{isSize, isKind}
 use Rattle.meaning.proofs.Cases.{and-cases, size-in, pick}
-use Rattle.meaning.proofs.Sizes.{weightSize}
+use Rattle.meaning.proofs.Sizes.{weightSize, even-places}
 use Rattle.line.specs.Line.{isPlace, weightOrZero}
 use Rattle.round_trip.specs.RoundTrip.{G, less, isColumn}
 
@@ -25,29 +25,35 @@ use Rattle.round_trip.specs.RoundTrip.{G, less, isColumn}
 abbrev pub products : ℕ → ℕ → ℕ → ℕ → ℕ → ℤ
 products kind n j k i = sum i (λ i. weight kind n i j *ℤ weight kind n i k)
 
-module _ (kind n j k : ℕ) where
+pub products-next : (kind n j k i : ℕ) → products kind n j k (i + 1) ≡ products kind n j k i +ℤ weight kind n i j *ℤ weight kind n i k
+products-next kind n j k i = sum-next i (λ i. weight kind n i j *ℤ weight kind n i k)
+
+module _ (kind n j k : ℕ) (size : isSize n ≡ true) where
+  abbrev light : (i j : ℕ) → natAbs (weight kind n i j) ≤ 90
+  light = weightSize kind n (even-places n size)
+
   pub products-in : (i : ℕ) → natAbs (products kind n j k i) ≤ i * 8100
   products-in i =
       sum-in i (λ i. weight kind n i j *ℤ weight kind n i k) 8100
-      (λ i _. rw (abs-mul (weight kind n i j) (weight kind n i k)) (mul-le-mul (weightSize kind n i j) (weightSize kind n i k)))
-
-  pub products-next : (i : ℕ) → products kind n j k (i + 1) ≡ products kind n j k i +ℤ weight kind n i j *ℤ weight kind n i k
-  products-next i = sum-next i (λ i. weight kind n i j *ℤ weight kind n i k)
+      (λ i _. rw (abs-mul (weight kind n i j) (weight kind n i k)) (mul-le-mul (light i j) (light i k)))
 
   -- as bits
   pub reads : {bits i : ℕ} → bits ≡ ofZ w32 (products kind n j k i) → i ≤ 32 → toZ w32 bits ≡ products kind n j k i
   reads {i = i} e l = ap (toZ w32) e ∙ toZ-ofZ w32 (products kind n j k i) (small {B = 259200} (omega arith) (omega (arith, products-in i)))
 
-  pub G-in : n ≤ 32 → natAbs (G kind n j k) ≤ 259200
-  unfolding G
-  G-in l = omega (arith, products-in n)
+  few : n ≤ 32
+  few = size-in n size
 
-  pub less-in : n ≤ 32 → natAbs (less kind n j k) ≤ 390272
+  pub G-in : natAbs (G kind n j k) ≤ 259200
+  unfolding G
+  G-in = omega (arith, few, products-in n)
+
+  pub less-in : natAbs (less kind n j k) ≤ 390272
   unfolding less
-  less-in l =
+  less-in =
       let e = cond (eqb k j) (pos (4096 * n)) (pos 0) in
-      let b : natAbs e ≤ 131072 = pick (λ (z : ℤ). natAbs z ≤ 131072) (eqb k j) (omega arith) (omega arith) in
-      omega (arith, abs-add (G kind n j k) (negℤ e), abs-neg e, G-in l)
+      let b : natAbs e ≤ 131072 = pick (λ (z : ℤ). natAbs z ≤ 131072) (eqb k j) (omega (arith, few)) (omega arith) in
+      omega (arith, abs-add (G kind n j k) (negℤ e), abs-neg e, G-in)
 
 -- what a place and a column say
 pub record Place (kind n j k : ℕ) : Type 0 where
@@ -71,10 +77,10 @@ column-place kind n j k e h =
     let b = and-cases (isSize n) (ltb j n) (a .1) in
     rw (a .0, b .0, b .1, lt-ltb k n h)
 
-pub column-few : (kind n j : ℕ) → isColumn kind n j ≡ true → n ≤ 32
-column-few kind n j e =
+pub column-size : (kind n j : ℕ) → isColumn kind n j ≡ true → isSize n ≡ true
+column-size kind n j e =
     let a = and-cases (isKind kind) (isSize n && ltb j n) e in
-    size-in n (and-cases (isSize n) (ltb j n) (a .1) .0)
+    and-cases (isSize n) (ltb j n) (a .1) .0
 
 pub column-in : (kind n j : ℕ) → isColumn kind n j ≡ true → j < n
 column-in kind n j e =
@@ -89,6 +95,6 @@ pub weight-there : (kind n : ℕ) → isKind kind ≡ true → isSize n ≡ true
 weight-there kind n k s i j p q = ap (λ (b : Bool). cond b (weight kind n i j) (pos 0)) (inside kind n k s i j p q)
 
 -- the first m sizes
-pub sizes-in : (kind n j m : ℕ) → n ≤ 32 → sumℕ m (λ k. natAbs (less kind n j k)) ≤ m * 390272
-sizes-in kind n j m l =
-    le-trans (sumℕ-mono m (λ k. natAbs (less kind n j k)) (λ k. 390272) (λ k _. less-in kind n j k l)) (rw (sumℕ-const m 390272) (le-refl (m * 390272)))
+pub sizes-in : (kind n j m : ℕ) → isSize n ≡ true → sumℕ m (λ k. natAbs (less kind n j k)) ≤ m * 390272
+sizes-in kind n j m s =
+    le-trans (sumℕ-mono m (λ k. natAbs (less kind n j k)) (λ k. 390272) (λ k _. less-in kind n j k s)) (rw (sumℕ-const m 390272) (le-refl (m * 390272)))

@@ -14,7 +14,7 @@ ghost use Rattle.stage_weights.specs.Stage.{Front, Weights};
 
 // As many numbers of t as there is room for. Their number is a literal at each call, so that they are copied from where the
 // constants stand: of one that is not known the table is laid out on the stack first (docs/DECISIONS.md).
-fn front(t: &[i16], most: usize, u: &mut [i16])
+pub fn front(t: &[i16], most: usize, u: &mut [i16])
     requires { ⌜ most ≡ min (length (now t)) (length (now u)) ⌝ }
     ensures { λ _. ⌜ Front (length (now (u .entry))) (now (u .exit)) (now (t .entry)) ⌝ }
 {

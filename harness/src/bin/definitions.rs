@@ -28,6 +28,7 @@ use Rattle.meaning.specs.Answer.{forwardLineOutcome, inverseLineOutcome}
 use Rattle.meaning.specs.Inverse.{columnSum, middle, middleAt, rails, rowSum, residual, inverseBlock, inverseOutcome}
 use Rattle.meaning.specs.Long.{longOutcome}
 use Rattle.meaning.specs.Forward.{rowValue, columnValue, coefficient, forwardBlock, forwardOutcome}
+use Rattle.transform_block.specs.TransformBlock.{isBlockSide, isOn, isThin, sideSum, sideResidual, sideBlock, transformOutcome}
 ";
 
 /// The definitions that the checker opens only where a proof names them.
@@ -39,6 +40,9 @@ const BLOCK: &str =
     "first fold S C cosines turn dct2 weight sum sumℕ tabulate block firstAt isSize isKind isDepth isLongDepth mostKept keeps \
     shortRange reach forwardSum inverseSum columnSum middleAt rails rowSum residual inverseBlock \
     rowValue columnValue coefficient forwardBlock";
+
+/// Beside those of a block.
+const TRANSFORM: &str = "isBlockSide isOn isThin sideSum sideResidual sideBlock";
 
 // ---- writing terms
 
@@ -63,6 +67,14 @@ fn shape_term(shape: &Shape) -> String {
     )
 }
 
+fn transform_term(extended: i64, shape: &Shape) -> String {
+    let [width, height, horizontal, vertical, depth, columns, rows] = shape.numbers();
+    format!(
+        "(record {{ width = {width}; height = {height}; horizontal = {horizontal}; vertical = {vertical}; depth = {depth}; \
+         extended = {extended}; columns = {columns}; rows = {rows} }})"
+    )
+}
+
 fn outcome_term(answer: &Answer, output: &[i64]) -> String {
     format!(
         "(record {{ number = {}; place = {}; rails = {} }}, {})",
@@ -80,7 +92,7 @@ struct Theorems {
     count: usize,
     random: Random,
     /// how many cases have each number, and how many have a rail count above 0
-    met: [usize; 28],
+    met: [usize; 31],
     railed: usize,
 }
 
@@ -90,7 +102,7 @@ impl Theorems {
             text: String::new(),
             count: 0,
             random: Random::new(seed),
-            met: [0; 28],
+            met: [0; 31],
             railed: 0,
         }
     }
@@ -121,7 +133,7 @@ impl Theorems {
     /// How often each refusal was met. An answer that no case has would be compared by nothing.
     fn met_line(&self) -> String {
         assert!(self.met[0] > 0 && self.railed > 0);
-        let numbers = [&ORDER[..], &[27]].concat();
+        let numbers = [&ORDER[..], &[27, 30]].concat();
         assert!(numbers.iter().all(|number| self.met[*number] > 0));
         let count = |number: &usize| format!(" {}", self.met[*number]);
         let counts: String = numbers.iter().map(count).collect();
@@ -134,11 +146,12 @@ impl Theorems {
 
 // ---- one case of each kind
 
-/// Every weight of a kind and size, row by row.
+/// Every weight of a kind and size, row by row; of 64 points those of the 32 inputs that are read.
 fn weights_case(t: &mut Theorems, kind: i64, n: i64) {
-    let points = n as usize;
-    let rows = (0..points).flat_map(|i| (0..points).map(move |j| weight(kind, points, i, j)));
-    let left = format!("block {n} {n} (λ j i. weight {kind} {n} i j)");
+    let (points, inputs) = (n as usize, n.min(32));
+    let rows =
+        (0..inputs as usize).flat_map(|i| (0..points).map(move |j| weight(kind, points, i, j)));
+    let left = format!("block {n} {inputs} (λ j i. weight {kind} {n} i j)");
     t.state(WEIGHTS, &left, &list(&rows.collect::<Vec<i64>>()));
 }
 
@@ -176,6 +189,15 @@ fn long_case(t: &mut Theorems, extended: bool, shape: &Shape, input: &[i64], hel
     let call = format!("longOutcome {extended} {}", shape_term(shape));
     let left = format!("{call} {} {}", list(input), list(held));
     t.state_outcome(BLOCK, &left, &answer, &output);
+}
+
+/// The outcome of a transform block.
+fn transform_case(t: &mut Theorems, extended: i64, shape: &Shape, numbers: &[i64]) {
+    let mut output = numbers.to_vec();
+    let answer = model::inverse_transform(shape, extended != 0, &mut output);
+    let call = format!("transformOutcome {}", transform_term(extended, shape));
+    let left = format!("{call} {}", list(numbers));
+    t.state_outcome(&format!("{BLOCK} {TRANSFORM}"), &left, &answer, &output);
 }
 
 // ---- random numbers that calls take
@@ -301,6 +323,8 @@ fn weights(t: &mut Theorems) {
             weights_case(t, kind, n);
         }
     }
+    weights_case(t, 0, 2);
+    weights_case(t, 0, 64);
 }
 
 fn middles(t: &mut Theorems) {
@@ -424,6 +448,74 @@ fn long_blocks(t: &mut Theorems) {
     long_case(t, true, &shape, &both, &[7; 16]);
 }
 
+/// Sides of 1, 2 and 64 too, of which these columns and rows are read, with any numbers beyond them.
+fn transforms(t: &mut Theorems) {
+    let parts = [
+        [2, 2, 2, 2],
+        [2, 2, 1, 2],
+        [4, 2, 3, 2],
+        [2, 8, 2, 3],
+        [8, 4, 5, 4],
+        [64, 4, 2, 3],
+        [4, 64, 1, 2],
+        [64, 2, 3, 1],
+        [1, 16, 1, 16],
+        [8, 1, 5, 1],
+        [1, 64, 1, 3],
+    ];
+    for (k, [width, height, columns, rows]) in parts.into_iter().enumerate() {
+        for extended in [0, 1] {
+            let kind = |n, turn| if n % 62 == 2 { 0 } else { turn % 3 };
+            let (turn, depth) = (k as i64 + extended, 8 + (3 * k as i64 + 4 * extended) % 9);
+            let kinds = [kind(width, turn), kind(height, turn + 1)];
+            let shape = Shape::new(width, height, kinds[0], kinds[1], depth).keeping(columns, rows);
+            transform_blocks(t, extended, &shape);
+        }
+    }
+    // the one pair of 2 points whose middle value is clipped
+    let shape = Shape::new(2, 2, 0, 0, 10);
+    transform_case(t, 0, &shape, &[32767, 0, -32768, 0]);
+    refused_transforms(t);
+}
+
+/// One that is taken, and one with a number beyond the range that is read, the first or the last.
+fn transform_blocks(t: &mut Theorems, extended: i64, shape: &Shape) {
+    let [low, high] = model::long::ends(extended != 0, shape.depth);
+    let mut input = extremes(&mut t.random, shape.elements() as usize, [low, high]);
+    for (place, number) in input.iter_mut().enumerate() {
+        if !is_kept(&(*shape).into(), place) {
+            *number = t.random.choose(&[low - 1, high + 1, 5]);
+        }
+    }
+    transform_case(t, extended, shape, &input);
+    let last = shape.columns - 1 + (shape.rows - 1) * shape.width;
+    input[t.random.choose(&[0, last]) as usize] = t.random.choose(&[low - 1, high + 1]);
+    transform_case(t, extended, shape, &input);
+}
+
+/// Each refusal of the fields and of the length, and two at once in their order.
+fn refused_transforms(t: &mut Theorems) {
+    for [w, h, x, y, d, columns, rows, count] in [
+        [3, 3, 0, 0, 8, 1, 1, 9],
+        [4, 0, 3, 0, 8, 1, 1, 0],
+        [1, 1, 0, 0, 8, 1, 1, 1],
+        [64, 2, 3, 1, 8, 1, 1, 4],
+        [2, 64, 1, 3, 8, 1, 1, 4],
+        [2, 4, 1, 1, 17, 1, 1, 8],
+        [4, 64, 1, 2, 7, 0, 1, 4],
+        [1, 4, 1, 1, 17, 2, 1, 4],
+        [1, 4, 2, 1, 16, 2, 4, 3],
+        [64, 64, 0, 0, 8, 33, 1, 2],
+        [4, 4, 0, 0, 12, 4, 5, 16],
+        [2, 2, 0, 0, 8, 2, 2, 5],
+        [1, 4, 2, 1, 16, 1, 4, 3],
+    ] {
+        let shape = Shape::of([w, h, x, y, d, columns, rows]);
+        let numbers = t.random.numbers(count as usize, 40_000, 50_000);
+        transform_case(t, 0, &shape, &numbers);
+    }
+}
+
 fn main() {
     let seed = seed();
     let mut t = Theorems::new(seed);
@@ -439,6 +531,7 @@ fn main() {
     t.section("refused forward blocks", |t| refused_blocks(t, Forward));
     t.section("refused inverse blocks", |t| refused_blocks(t, Inverse));
     t.section("blocks of long numbers", long_blocks);
+    t.section("transform blocks", transforms);
     println!("-- {SEED_VARIABLE}={seed}\n{HEAD}{}", t.text);
     println!("{}", t.met_line());
 }

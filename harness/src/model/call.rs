@@ -59,7 +59,7 @@ impl Shape {
     }
 
     /// "at least 1 and at most what document 01 keeps, or at most what Wish 1 keeps for kind 0"
-    fn keeps(&self) -> bool {
+    pub fn keeps(&self) -> bool {
         (1..=most_kept(self.horizontal, self.width)).contains(&self.columns)
             && (1..=most_kept(self.vertical, self.height)).contains(&self.rows)
     }

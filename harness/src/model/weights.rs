@@ -49,6 +49,10 @@ fn odd_rows(n: usize) -> &'static [i64] {
         32 => &[
             90, 90, 88, 85, 82, 78, 73, 67, 61, 54, 46, 38, 31, 22, 13, 4,
         ],
+        64 => &[
+            91, 90, 90, 90, 88, 87, 86, 84, 83, 81, 79, 77, 73, 71, 69, 65, 62, 59, 56, 52, 48, 44,
+            41, 37, 33, 28, 24, 20, 15, 11, 7, 2,
+        ],
         _ => panic!("no DCT-II has {n} points"),
     }
 }
@@ -109,6 +113,45 @@ mod tests {
         for n in SIZES {
             let found = (0..n).map(|i| row_size(DCT_II, n, i)).max();
             assert_eq!(found, Some(64 * n as i64), "{n} points");
+        }
+    }
+
+    /// "Weight (i, j) of n points: m = i(2j+1)(64/n) modulo 256; above 128 take 256-m; above 64 minus c(128-m). Row 0 is 64", for
+    /// the one list c that all sizes share: its place m has the number of the size at which m is odd.
+    #[test]
+    fn dct_ii_by_one_list() {
+        let c = |m: usize| match m {
+            0 | 32 => 64,
+            64 => 0,
+            _ => {
+                let n = 64 >> m.trailing_zeros();
+                odd_rows(n)[(m * n / 64) / 2]
+            }
+        };
+        for n in [2, 4, 8, 16, 32, 64] {
+            for (i, j) in (0..n).flat_map(|i| (0..n).map(move |j| (i, j))) {
+                let m = i * (2 * j + 1) * (64 / n) % 256;
+                let m = m.min(256 - m);
+                let wanted = if m > 64 { -c(128 - m) } else { c(m) };
+                assert_eq!(dct_ii(n, i, j), wanted, "{n} points, row {i}, column {j}");
+            }
+        }
+    }
+
+    /// "Sums of sizes down a column over what is kept: 128, 247, 479, 940, 1862, 2595".
+    #[test]
+    fn sizes_down_a_column() {
+        for (n, most) in [
+            (2, 128),
+            (4, 247),
+            (8, 479),
+            (16, 940),
+            (32, 1862),
+            (64, 2595),
+        ] {
+            let size = |j| (0..n.min(32)).map(|i| dct_ii(n, i, j).abs()).sum();
+            let found: Option<i64> = (0..n).map(size).max();
+            assert_eq!(found, Some(most), "{n} points");
         }
     }
 

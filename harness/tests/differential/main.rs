@@ -17,6 +17,7 @@ mod shapes;
 mod steps;
 mod strays;
 mod thin;
+mod transform;
 mod weights;
 mod why;
 mod wrapped;

@@ -4,12 +4,13 @@ use crate::calls::elements;
 use hoengtila_harness::call::{Call, Path, What};
 use hoengtila_harness::compare::Comparison;
 use hoengtila_harness::header::{each_set, Set};
-use hoengtila_harness::library::{Answer, Shape};
+use hoengtila_harness::library::{Answer, Shape, TransformBlock};
 use hoengtila_harness::long_call::LongCall;
 use hoengtila_harness::row_call::RowCall;
 use hoengtila_harness::step_call::{ForwardCall, ListCall, RunCall};
 use hoengtila_harness::subject::Answered;
 use hoengtila_harness::thin_call::ThinCall;
+use hoengtila_harness::transform_call::TransformCall;
 use hoengtila_harness::why_call::WhyCall;
 
 /// How many numbers the block of `shape` has.
@@ -131,6 +132,30 @@ fn orders_of_other_blocks() {
         c.outcome(&why(set, Some(1))).number()
     });
     c.close(&[0, 1, 2, 3, 4, 5, 6, 7, 8, 15, 19, 20, 27]);
+}
+
+/// 8 by 4, of which 4 columns and 2 rows are read; for 30 the sides are 64 and 2, as far as 1 and 2 leave them. No number spoils what
+/// another one spoils.
+fn transform_block(set: &Set) -> TransformBlock {
+    let shape = shape(set);
+    TransformBlock {
+        width: set.pick(1, 5, set.pick(30, 64, 8)),
+        height: set.pick(2, 5, set.pick(30, 2, 4)),
+        ..TransformBlock::of(shape, 1)
+    }
+}
+
+#[test]
+fn orders_of_transform_blocks() {
+    let mut c = Comparison::open("transform blocks, refused in the header's order");
+    each_set("transform_block_inverse", |set| {
+        let block = transform_block(set);
+        let right = (block.width * block.height) as usize;
+        let mut numbers = vec![0; set.pick(6, right - 1, right)];
+        numbers[0] = set.pick(27, i32::MIN, 0);
+        c.outcome(&TransformCall { block, numbers }).number()
+    });
+    c.close(&[0, 1, 2, 3, 4, 5, 6, 20, 27, 30]);
 }
 
 #[test]

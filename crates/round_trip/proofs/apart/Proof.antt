@@ -34,8 +34,9 @@ off-requires c κs = here (c .before) .few
 minus-requires : tie.Need-minus-requires
 minus-requires c κs =
     let s = c .before .before .args in
-    let few = here (c .before .before) .few in (
-      rw (product-of (c .before)) (G-in (s .kind) (s .n) (s .j) (s .k) few),
+    let p = here (c .before .before) in
+    let few = p .few in (
+      rw (product-of (c .before)) (G-in (s .kind) (s .n) (s .j) (s .k) (p .size)),
       rw (off-of c) (pick (λ (z : ℤ). natAbs z ≤ 131072) (eqb (s .k) (s .j)) (omega arith) (omega arith)),
     )
 

@@ -9,7 +9,7 @@ use mir.Val.{toZ, ofZ}
 use mir.ValLaws.{toZ-ofZ}
 use Rattle.algebra.specs.Sum.{sum}
 use Rattle.meaning.specs.Weights.{weight}
-use Rattle.meaning.proofs.Sizes.{weightSize}
+use Rattle.meaning.proofs.Sizes.{weightSize, even-places}
 use Rattle.round_trip.specs.RoundTrip.{G}
 use Rattle.round_trip.proofs.Bounds.{Place, place, products, products-in, products-next, reads, weight-there}
 use Rattle.round_trip.proofs.column_product.Statement.{statement}
@@ -28,7 +28,7 @@ here c = place (c .args .kind) (c .args .n) (c .args .j) (c .args .k) (c .pre)
 sofar : (c : tie.In-loop Inv-loop μ-loop) → let s = c .before .before .args in toZ w32 (c .before .loop .sum) ≡ products (s .kind) (s .n) (s .j) (s .k) (c .before .loop .i)
 sofar c =
     let s = c .before .before .args in
-    reads (s .kind) (s .n) (s .j) (s .k) (c .before .loop .inv .1) (omega (arith, here (c .before .before) .few))
+    reads (s .kind) (s .n) (s .j) (s .k) (here (c .before .before) .size) (c .before .loop .inv .1) (omega (arith, here (c .before .before) .few))
 
 first-weight : (c : tie.After-weight Inv-loop μ-loop) → let L = c .before .before in let s = L .before .args in
     toZ w32 (ofZ w32 (c .weight .result)) ≡ weight (s .kind) (s .n) (L .loop .i) (s .j)
@@ -59,11 +59,12 @@ weight-requires-2 c κs = search needs
 mac-requires : tie.Need-mac-requires Inv-loop μ-loop
 mac-requires c κs =
     let L = c .before .before .before in
-    let s = L .before .args in (
-      subst (λ (z : ℤ). natAbs z ≤ 259200) (sym (sofar (c .before .before))) (omega (arith, here (L .before) .few, c .before .before .loop-test .taken, products-in (s .kind) (s .n) (s .j) (s .k) (L .loop .i))),
+    let s = L .before .args in
+    let light = weightSize (s .kind) (s .n) (even-places (s .n) (here (L .before) .size)) (L .loop .i) in (
+      subst (λ (z : ℤ). natAbs z ≤ 259200) (sym (sofar (c .before .before))) (omega (arith, here (L .before) .few, c .before .before .loop-test .taken, products-in (s .kind) (s .n) (s .j) (s .k) (here (L .before) .size) (L .loop .i))),
       (
-        subst (λ (z : ℤ). natAbs z ≤ 90) (sym (first-weight (c .before))) (weightSize (s .kind) (s .n) (L .loop .i) (s .j)),
-        subst (λ (z : ℤ). natAbs z ≤ 90) (sym (second-weight c)) (weightSize (s .kind) (s .n) (L .loop .i) (s .k)),
+        subst (λ (z : ℤ). natAbs z ≤ 90) (sym (first-weight (c .before))) (light (s .j)),
+        subst (λ (z : ℤ). natAbs z ≤ 90) (sym (second-weight c)) (light (s .k)),
       ),
     )
 
@@ -88,7 +89,7 @@ unfolding G
 returns c =
     let s = c .before .before .args in
     let e : c .before .loop .i ≡ s .n = omega arith in
-    reads (s .kind) (s .n) (s .j) (s .k) (c .before .loop .inv .1) (omega (arith, here (c .before .before) .few))
+    reads (s .kind) (s .n) (s .j) (s .k) (here (c .before .before) .size) (c .before .loop .inv .1) (omega (arith, here (c .before .before) .few))
     ∙ ap (products (s .kind) (s .n) (s .j) (s .k)) e
 
 pub column-product-spec : {M : Type 1} → statement M

@@ -8,8 +8,10 @@ use Prim.Native.Nat.{ℕ, _+_, _-_, _≤_}
 use lib.IntN.{natAbs}
 use Rattle.algebra.specs.Sum.{sumℕ}
 use Rattle.algebra.proofs.Sum.{sumℕ-next}
+use Rattle.meaning.specs.Shape.{isSize}
+use Rattle.meaning.proofs.Cases.{size-in}
 use Rattle.round_trip.specs.RoundTrip.{less, D, isColumn}
-use Rattle.round_trip.proofs.Bounds.{column-place, column-few, column-in, less-in, sizes-in}
+use Rattle.round_trip.proofs.Bounds.{column-place, column-size, column-in, less-in, sizes-in}
 use Rattle.round_trip.proofs.stray.Statement.{statement}
 use Rattle.round_trip.proofs.stray.Tie as tie
 
@@ -23,8 +25,8 @@ abbrev μ-loop : tie.MeasureT-loop
 there : (c : tie.Else1 Inv-loop μ-loop) → let s = c .before .before .args in isColumn (s .kind) (s .n) (s .j) ≡ true
 there c = sym (c .before .is-column .ensures) ∙ not-false (c .before .is-column .result) (c .if1 .left)
 
-few : (c : tie.Else1 Inv-loop μ-loop) → c .before .before .args .n ≤ 32
-few c = let s = c .before .before .args in column-few (s .kind) (s .n) (s .j) (there c)
+size : (c : tie.Else1 Inv-loop μ-loop) → isSize (c .before .before .args .n) ≡ true
+size c = let s = c .before .before .args in column-size (s .kind) (s .n) (s .j) (there c)
 
 is-column-requires : tie.Need-is-column-requires Inv-loop μ-loop
 is-column-requires c κs = search needs
@@ -45,8 +47,8 @@ add-total : tie.Need-add-total Inv-loop μ-loop
 add-total c =
     let s = c .before .before .before .before .before .args in
     let L = c .before .before in
-    let n = few (L .before) in
-    record { fits = omega (arith, c .before .loop-test .taken, L .loop .inv .1, c .apart .ensures, sizes-in (s .kind) (s .n) (s .j) (L .loop .k) n, less-in (s .kind) (s .n) (s .j) (L .loop .k) n) }
+    let n = size (L .before) in
+    record { fits = omega (arith, c .before .loop-test .taken, size-in (s .n) n, L .loop .inv .1, c .apart .ensures, sizes-in (s .kind) (s .n) (s .j) (L .loop .k) n, less-in (s .kind) (s .n) (s .j) (L .loop .k) n) }
 
 add-k : tie.Need-add-k Inv-loop μ-loop
 add-k c = search needs

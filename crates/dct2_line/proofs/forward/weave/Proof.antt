@@ -16,7 +16,6 @@ use Rattle.meaning.specs.Line.{forwardSum}
 use Rattle.product.specs.Product.{spot}
 use Rattle.halves.specs.Halves.{odd, endSums, endDifferences}
 use Rattle.halves.proofs.ByHalves.{forward-even, forward-odd}
-use Rattle.halves.proofs.Tables.{odd-size}
 use Rattle.dct2_line.proofs.HalfRows.{tab-holds, row-of, row-sum}
 use Rattle.dct2_line.proofs.ForwardStep.{recount}
 use Rattle.dct2_line.proofs.forward.weave.Statement.{statement}
@@ -97,7 +96,7 @@ row-requires : tie.Need-row-requires Inv-loop μ-loop
 row-requires c κs =
     let I = c .before in
     let p = I .before .before .pre in
-    (row-of (odd-size (h I + h I)) (p .0 .0) (i I) (here I), p .1 .0)
+    (row-of (p .0 .0) (i I) (here I), p .1 .0)
 
 mul-t17 : tie.Need-mul-t17 Inv-loop μ-loop
 mul-t17 c = omega (arith, few (c .before .before), here (c .before .before))

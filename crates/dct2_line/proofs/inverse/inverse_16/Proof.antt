@@ -3,7 +3,6 @@ use native.Mathlib.Omega.{arith}
 use borrow.Author.Needs.{needs}
 use mathlib.Core.Path.{refl}
 use Rattle.halves.proofs.Halved.{halves-16}
-use Rattle.halves.proofs.Tables.{odd-size}
 use Rattle.dct2_line.proofs.HalfRows.{pairs-given}
 use Rattle.dct2_line.proofs.InverseStep.{evens-in, odds-there, step-given, step}
 use Rattle.dct2_line.proofs.inverse.inverse_16.Statement.{statement}
@@ -43,7 +42,7 @@ slice-aggregate-line-3 c = search needs
 line-requires : tie.Need-line-requires
 line-requires c κs =
     let D = c .before .before .before .before .before in (
-      pairs-given (c .before .before .before .odd-16 .ensures) (odd-size 16) 4 refl _ _ (D .deal .ensures) _ (omega arith),
+      pairs-given (c .before .before .before .odd-16 .ensures) 4 refl _ _ (D .deal .ensures) _ (omega arith),
       record { small = omega arith; short = omega arith },
     )
 

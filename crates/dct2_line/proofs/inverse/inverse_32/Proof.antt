@@ -3,7 +3,6 @@ use borrow.Author.Needs.{needs}
 use native.Mathlib.Omega.{arith}
 use mathlib.Core.Path.{refl}
 use Rattle.halves.proofs.Halved.{halves-32}
-use Rattle.halves.proofs.Tables.{odd-size}
 use Rattle.dct2_line.proofs.HalfRows.{pairs-given}
 use Rattle.dct2_line.proofs.InverseStep.{evens-in, odds-there, step-given, step}
 use Rattle.dct2_line.proofs.inverse.inverse_32.Statement.{statement}
@@ -40,7 +39,7 @@ slice-aggregate-line-2 c = search needs
 line-requires : tie.Need-line-requires
 line-requires c κs =
     let D = c .before .before .before .before .before in (
-      pairs-given (c .before .before .before .odd-32 .ensures) (odd-size 32) 8 refl _ _ (D .deal .ensures) _ (omega (arith, D .before .before .before .before .before .pre .1 .1)),
+      pairs-given (c .before .before .before .odd-32 .ensures) 8 refl _ _ (D .deal .ensures) _ (omega (arith, D .before .before .before .before .before .pre .1 .1)),
       record { small = omega arith; short = omega arith },
     )
 

@@ -13,7 +13,8 @@ use Rattle.algebra.specs.Shift.{nearest}
 use Rattle.algebra.proofs.Lists.{tab-cong}
 use Rattle.forward_block.specs.Stage.{lineValue, Stage}
 use Rattle.forward_block.specs.Square.{fourSum, FourOutputs}
-use Rattle.forward_block.proofs.Places.{part-in, part-filled, stage-none, stage-next}
+use Rattle.forward_block.proofs.Places.{stage-none, stage-next}
+use Rattle.algebra.proofs.Lists.{part-in, part-filled}
 use Rattle.forward_block.proofs.Turning.{four-products}
 use Rattle.forward_block.proofs.four.turned.Statement.{statement}
 use Rattle.forward_block.proofs.four.turned.Tie as tie

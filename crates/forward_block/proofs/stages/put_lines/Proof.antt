@@ -11,7 +11,8 @@ use Rattle.algebra.proofs.Lists.{row-in, tab-cong}
 use Rattle.product.specs.Product.{Line}
 use Rattle.product.proofs.Laid.{half-is, half-rounds}
 use Rattle.forward_block.specs.Stage.{lineValue, Stage}
-use Rattle.forward_block.proofs.Places.{part-in, part-filled, stage-none, stage-next}
+use Rattle.forward_block.proofs.Places.{stage-none, stage-next}
+use Rattle.algebra.proofs.Lists.{part-in, part-filled}
 use Rattle.forward_block.proofs.OneLine.{one-line, one-long, one-value}
 use Rattle.forward_block.proofs.stages.put_lines.Statement.{statement}
 use Rattle.forward_block.proofs.stages.put_lines.Tie as tie

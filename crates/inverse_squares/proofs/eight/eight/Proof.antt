@@ -75,7 +75,7 @@ lines-requires c κs =
     let P = c .before .before .before in
     let s = start P in (
       of-square (λ w h. Lines h w 4 (P .put .last .1 .0) 2 16 (zipped P) 16) (square s)
-          (down-lines (s .args .shape .vertical) refl (omega arith) (omega arith) (P .put .ensures .1) (s .args .c .now) (columns P)),
+          (down-lines (s .args .shape .vertical) refl (omega arith) (omega arith) (P .put .ensures .1) (s .args .c .now) (columns P) refl),
       (record { small = omega arith; short = omega arith }, omega (arith, room s)),
     )
 
@@ -143,7 +143,7 @@ lines-requires-2 c κs =
     let S = middle P in
     let s = origin S in (
       of-square (λ w h. Lines h w 4 (S .settle .last .1 .0) 8 2 (P .put2 .last .1 .0) 16) (square s)
-          (along-lines (s .args .horizontal) refl (omega arith) (omega arith) (P .put2 .ensures .1) (S .settle .last .1 .0) (settled-long S)),
+          (along-lines (s .args .horizontal) refl (omega arith) (omega arith) (P .put2 .ensures .1) (S .settle .last .1 .0) (settled-long S) refl),
       (half-rounds (P .before .before .half .ensures), omega (arith, first-long (work S))),
     )
 

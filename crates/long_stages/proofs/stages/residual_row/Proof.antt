@@ -41,8 +41,8 @@ mul-dot-2 c = omega (arith, c .before .before .pre .0 .wide)
 mul-dot-3 : tie.Need-mul-dot-3 Inv-loop μ-loop
 mul-dot-3 c =
     let s = c .before .before in
-    let y : s .args .y ≤ 32 = omega (arith, s .pre .0 .low, s .pre .1 .0) in
-    let m : s .args .y * s .args .columns ≤ 32 * 32 = mul-le-mul y (s .pre .0 .narrow) in
+    let y : s .args .y ≤ 64 = omega (arith, s .pre .0 .low, s .pre .1 .0) in
+    let m : s .args .y * s .args .columns ≤ 64 * 32 = mul-le-mul y (s .pre .0 .narrow) in
     omega arith
 
 dot-requires : tie.Need-dot-requires Inv-loop μ-loop

@@ -1,0 +1,50 @@
+-- `values_48` meets its contract: the sums by a stored matrix, rounded and clipped. Assumes nothing.
+use borrow.Author.Needs.{needs}
+use mathlib.Core.Bool.{true}
+use Rattle.meaning.specs.Plan.{rangeOf}
+use Rattle.meaning.specs.Inverse.{middle}
+use Rattle.lfnst.specs.Work.{GivenSums}
+use Rattle.lfnst.proofs.Summing.{given-sums, line-entries, small-sums, wrote-again}
+use Rattle.lfnst.proofs.sums.values_48.Statement.{statement}
+use Rattle.lfnst.proofs.sums.values_48.Tie as tie
+
+put-requires : tie.Need-put-requires
+put-requires c κs = c .before .pre .0
+
+slice-aggregate-sums : tie.Need-slice-aggregate-sums
+slice-aggregate-sums c = search needs
+
+-- what the sums are given
+given : (c : tie.After-put) → let s = c .before .before in GivenSums 48 (s .args .pairs) (c .put .last .1 .0) (s .args .u .now) (s .args .v .now)
+given c =
+    let p = c .before .before .pre in
+    given-sums true (p .0) (p .1 .0) (p .1 .1 .0) (p .1 .1 .1 .0) (c .put .ensures .1) (p .1 .1 .1 .1)
+
+sums-requires : tie.Need-sums-requires
+sums-requires c κs =
+    let P = c .before .before in
+    (given P, P .before .before .pre .1 .1 .1 .0)
+
+finish-requires : tie.Need-finish-requires
+finish-requires c κs =
+    let S = c .before .before in
+    let P = S .before .before .before in
+    (small-sums (given P) (S .sums .ensures), P .before .before .pre .1 .1 .0)
+
+same-length : tie.Need-same-length
+same-length c = search needs
+
+returns : tie.Need-returns
+returns c =
+    let F = c .before in
+    let S = F .before .before .before in
+    let P = S .before .before .before in
+    let s = P .before .before in
+    let p = s .pre in
+    wrote-again (middle (rangeOf (s .args .reach))) (S .sums .ensures) (F .finish .ensures)
+    (line-entries true (p .0) (p .1 .0) (p .1 .1 .0) (p .1 .1 .1 .0) (P .put .ensures .1))
+
+pub values-48-spec : {M : Type 1} → statement M
+values-48-spec =
+    tie.close
+    (tie.spec put-requires slice-aggregate-sums sums-requires finish-requires same-length returns)

@@ -1,0 +1,2 @@
+pub mod LowFrequency
+pub mod Work

@@ -1,0 +1,3 @@
+pub mod Lfnst4
+pub mod Lfnst8
+pub mod Lfnst

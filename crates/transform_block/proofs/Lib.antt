@@ -1,0 +1,13 @@
+pub mod Taken
+pub mod Unread
+pub mod Hunting
+pub mod Narrowed
+pub mod Accepted
+pub mod NearExact
+pub mod Ways
+pub mod Sums
+pub mod Agreement
+pub mod Unique
+pub mod Thin
+pub mod NotRead
+pub mod FlatBlock

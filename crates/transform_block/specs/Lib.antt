@@ -1,0 +1,2 @@
+pub mod TransformBlock
+pub mod Given

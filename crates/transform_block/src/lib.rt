@@ -1,0 +1,73 @@
+// Every transform block of a stream whose transform is not skipped and that has no LFNST, in one call, in place: sides of 1 to 64, told
+// how many columns and rows to read. The contract of `inverse` is `transformOutcome` of specs/TransformBlock; read that first. Then
+// check (the refusals of the fields), hunt (27), short (blocks of document 01, in 16 bits by its call), work (which way a block takes,
+// and the fill); the stages of the others are `transform_stages`.
+mod check;
+mod hunt;
+mod rules;
+mod short;
+mod work;
+
+use crate::check::field_refusal;
+use crate::hunt::first_beyond;
+use crate::work::work;
+use meaning::Answer;
+use meaning::accepted;
+use meaning::most_kept;
+use meaning::refused;
+ghost use mathlib.Core.Path.{_≡_};
+ghost use Rattle.meaning.specs.Answer.{Outcome};
+ghost use Rattle.transform_block.specs.TransformBlock.{blockOf, transformOutcome};
+
+/// What a transform block is: its sides, a kind for each direction, its bit depth, the extended-precision switch (0 off, any other
+/// number on), and how many columns and rows are read. Any numbers.
+#[repr(C)]
+pub struct TransformBlock {
+    pub width: u32,
+    pub height: u32,
+    pub horizontal: u32,
+    pub vertical: u32,
+    pub depth: u32,
+    pub extended: u32,
+    pub columns: u32,
+    pub rows: u32,
+}
+
+impl TransformBlock {
+    /// The most columns and rows, and the switch off.
+    pub fn new(
+        width: u32,
+        height: u32,
+        horizontal: u32,
+        vertical: u32,
+        depth: u32,
+    ) -> TransformBlock
+        ensures { λ r. ⌜ r ≡ blockOf width height horizontal vertical depth ⌝ }
+    {
+        TransformBlock {
+            width,
+            height,
+            horizontal,
+            vertical,
+            depth,
+            extended: 0,
+            columns: most_kept(horizontal, width),
+            rows: most_kept(vertical, height),
+        }
+    }
+}
+
+/// The inverse of a transform block in place: residuals from coefficients, with the rail count. Any numbers, any buffer.
+pub fn inverse(block: TransformBlock, numbers: &mut [i32]) -> Answer
+    ensures { λ r. ⌜ _≡_ {A = Outcome} (r, now (numbers .exit)) (transformOutcome block (now (numbers .entry))) ⌝ }
+{
+    let number = field_refusal(block, numbers.len());
+    if number != 0 {
+        return refused(number, 0);
+    }
+    let place = first_beyond(block, numbers);
+    if place < numbers.len() {
+        return refused(27, place as u32);
+    }
+    accepted(work(block, numbers))
+}

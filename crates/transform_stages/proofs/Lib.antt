@@ -1,0 +1,5 @@
+pub mod Lines
+pub mod Copying
+pub mod Back
+pub mod OneRow
+pub mod Whole
