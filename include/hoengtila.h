@@ -45,8 +45,8 @@
  *
  * 10 to 13 are met by the programs that read block files (`blocks`), and by no function here.
  *
- * In this order: shapes and answers; lines; blocks; rows of blocks, long numbers and thin blocks; transform blocks, for decoders; asking
- * why; totals; pictures; broken files; steps.
+ * In this order: the version; shapes and answers; lines; blocks; rows of blocks, long numbers and thin blocks; transform blocks, for
+ * decoders; asking why; totals; pictures; broken files; steps.
  */
 #ifndef HOENGTILA_H
 #define HOENGTILA_H
@@ -58,6 +58,16 @@
 #ifdef __cplusplus
 extern "C" {
 #endif
+
+/* ---- The version ---- */
+
+/* As a number, 10000 times the first number, 100 times the second, and the third; and as text. */
+#define HOENGTILA_VERSION 300
+#define HOENGTILA_VERSION_STRING "0.3.0"
+
+/* The version of the library that is linked, which is HOENGTILA_VERSION of its own header. Before version 1 a program may call it where
+ * HOENGTILA_VERSION / 100 of the header that it was compiled with is the same. Nothing is refused. */
+uint32_t hoengtila_version(void);
 
 /* ---- Shapes and answers ---- */
 

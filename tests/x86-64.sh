@@ -6,14 +6,22 @@
 #                      is missing it says so in a line that starts with NAME, and fails
 #   find_load          sets load alone, for which no compiler is needed; fails where there is no emulator
 #   build_archive      has the kit prove the library and write target/staticlib/libhoengtila.a, where that is missing or older than its
-#                      sources or the kit; what the kit says goes to standard output
+#                      sources or the kit; what the kit says goes to standard output, and the last line of its check to
+#                      target/staticlib/check
 
 # `rt staticlib` proves the library's crate anew each time. One at a time in target/, as in `blocks`.
 build_archive() {
-    local archive=target/staticlib/libhoengtila.a
-    [ -e "$archive" ] && [ -z "$(find crates.txt crates "$(readlink -f "$(command -v rt)")" -newer "$archive" -print -quit)" ] ||
-        flock crates.txt rt staticlib hoengtila
+    archive_is_current || { flock crates.txt rt staticlib hoengtila && keep_check; }
 }
+
+archive_is_current() {
+    local archive=target/staticlib/libhoengtila.a kit
+    kit=$(command -v rt) && kit=$(readlink -f "$kit") || kit=crates.txt
+    [ -e "$archive" ] && [ -s target/staticlib/check ] && [ -z "$(find crates.txt crates "$kit" -newer "$archive" -print -quit)" ]
+}
+
+# The last line of the archive's check, for a release: a later `rt check` writes over the log.
+keep_check() { grep '^logic=' target/log/hoengtila.say | tail -n 1 >target/staticlib/check; }
 
 # The kit has an emulator beside its other tools.
 find_emulator() {

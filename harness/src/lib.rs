@@ -5,7 +5,7 @@
 //! `random` makes the cases, the same ones for the same seed; `patterns`, `direction`, `folding` and `wrong` know which are hard, `files`
 //! has block files, and `steps` makes the lists of steps that the crates store; `program` runs a program on a file.
 //! `header` has what the C header says of refusals; `lfnst` is the model of the low-frequency stage.
-//! `library` is the library for Rust callers, `peer` the library behind a pipe; `call`, `row_call`, `step_call`, `long_call`, `thin_call`,
+//! `library` is the crate for Rust callers (`rust`), `peer` the library behind a pipe; `call`, `row_call`, `step_call`, `long_call`, `thin_call`,
 //! `transform_call` and `why_call` have calls as values, which `subject` runs on either, and `compare` holds what comes back to the model.
 //! `widths` goes between the library's numbers and the model's.
 
@@ -16,7 +16,6 @@ pub mod files;
 pub mod folding;
 pub mod header;
 pub mod lfnst;
-pub mod library;
 pub mod long_call;
 pub mod model;
 pub mod patterns;
@@ -33,3 +32,5 @@ pub mod transform_call;
 pub mod why_call;
 pub mod widths;
 pub mod wrong;
+
+pub use hoengtila as library;

@@ -95,9 +95,17 @@ impl Asked for BlockOf {
     }
 }
 
-impl TransformBlock {
+/// Between a transform block and a shape.
+pub trait Shaped {
     /// Of a shape, whose kept columns and rows are read, with the switch as C has it.
-    pub fn of(shape: Shape, extended: u32) -> TransformBlock {
+    fn of(shape: Shape, extended: u32) -> Self;
+
+    /// All of it but the switch.
+    fn shape(&self) -> Shape;
+}
+
+impl Shaped for TransformBlock {
+    fn of(shape: Shape, extended: u32) -> TransformBlock {
         TransformBlock {
             width: shape.width,
             height: shape.height,
@@ -110,8 +118,7 @@ impl TransformBlock {
         }
     }
 
-    /// All of it but the switch.
-    pub fn shape(&self) -> Shape {
+    fn shape(&self) -> Shape {
         Shape {
             width: self.width,
             height: self.height,

@@ -1,6 +1,6 @@
 // The library for C and Rust: the calls of `line`, `block`, `long_block`, `thin_block`, `transform_block`, `why`, `wrapping`, `block_row`,
 // `round_trip`, `report`, `step_run`, `step_lists`, `picture` and `salvage` under the names and with the arguments that include/hoengtila.h
-// declares, and the two that make a shape and a transform block. A wrapper is one call and has the contract of what it calls; none has a
+// declares, the two that make a shape and a transform block, and the version. A wrapper is one call and has the contract of what it calls; none has a
 // `requires`, so whatever numbers and lengths a caller hands over, the contract says what comes back. For Rattle callers alone are the
 // 4 by 4 block by value (`small_block`), the calls that run two ways side by side (`forward_both`, `inverse_both`), the thin block that
 // hands a stretch of an area back (`inverse` of `thin_block`; `work` is here), `empty` of `report` and `is_listed` of `step_lists`. Read it
@@ -40,6 +40,14 @@ ghost use Rattle.salvage.specs.Outcomes.{salvageOutcome};
 ghost use Rattle.report.specs.Totals.{empty, addOutcome};
 ghost use Rattle.step_lists.specs.Listed.{HandedList, listOutcome, stepLineOutcome};
 ghost use Rattle.why.specs.Why.{whyOutcome, longWhyOutcome};
+ghost use Rattle.hoengtila.specs.Version.{version};
+
+#[no_mangle]
+pub extern "C" fn hoengtila_version() -> u32
+    ensures { λ r. ⌜ r ≡ version ⌝ }
+{
+    300
+}
 
 #[no_mangle]
 pub extern "C" fn hoengtila_shape_of(

@@ -10,7 +10,7 @@ use hoengtila_harness::row_call::RowCall;
 use hoengtila_harness::step_call::{ForwardCall, ListCall, RunCall};
 use hoengtila_harness::subject::Answered;
 use hoengtila_harness::thin_call::ThinCall;
-use hoengtila_harness::transform_call::TransformCall;
+use hoengtila_harness::transform_call::{Shaped, TransformCall};
 use hoengtila_harness::why_call::WhyCall;
 
 /// How many numbers the block of `shape` has.

@@ -13,7 +13,7 @@ use hoengtila_harness::patterns::{
 };
 use hoengtila_harness::random::Random;
 use hoengtila_harness::thin_call::ThinCall;
-use hoengtila_harness::transform_call::{BlockOf, TransformCall};
+use hoengtila_harness::transform_call::{BlockOf, Shaped, TransformCall};
 use hoengtila_harness::widths::{narrow, shape_of};
 use hoengtila_harness::wrong::{right_length, Wrong, NO_KIND};
 
