@@ -28,6 +28,8 @@ forward_block reference_forward, triple_forward, rows_forward, folded_forward, b
 
 /* Coefficients to residuals in place; outside of the shape's columns and rows they are 0. A side may be 1, 2 or 64. */
 void decoder_inverse(hoengtila_shape shape, int32_t *numbers);
+/* The same behind LFNST, of an index from 1 and a set: the shape's columns and rows are at most 4, both kinds 0. */
+void decoder_inverse_low(hoengtila_shape shape, int index, int set, int transposed, int32_t *numbers);
 
 /* Each baseline makes its tables of the weights once. */
 void reference_prepare(void), triple_prepare(void), rows_prepare(void), folded_prepare(void), halves_prepare(void), decoder_prepare(void);

@@ -15,6 +15,7 @@ typedef struct {
     int row; /* 64 inverse blocks of this shape, in one call and in 64 */
     int live; /* an inverse block of kind 0, of which the first so many columns and rows are live; otherwise 0 */
     int transform; /* a transform block, in place, which is told the columns and rows of the shape */
+    int low; /* with LFNST */
 } bench_case;
 
 void prepare(void);

@@ -2,9 +2,11 @@
  * those of the other kinds by the product over the live inputs, in place over 32-bit numbers. The decoder is told the live part, the
  * columns and rows of the shape; all other numbers are 0. */
 #include "bench.h"
+#include "matrices.h"
 #include "odd_rows.h"
 
 #include <stddef.h>
+#include <string.h>
 
 /* The N sums of the first `live` inputs, which stand `stride` apart; N and live are constants. Even inputs go to the H points
  * below, odd ones to their own sums. */
@@ -136,4 +138,37 @@ void decoder_inverse(hoengtila_shape s, int32_t *c) {
     clip_middle(w, h, columns, c);
     for (int y = 0; y < h; y++) along(c + y * w, 1, columns);
     round_all(w * h, residual_shift(s), c);
+}
+
+/* Each value is a column of the matrix times the inputs. */
+static void low_values(const int8_t *matrix, int inputs, int outputs, const int32_t *u, int32_t *v) {
+    for (int j = 0; j < outputs; j++) {
+        int32_t sum = 0;
+        for (int i = 0; i < inputs; i++) sum += u[i] * matrix[i * outputs + j];
+        v[j] = middle_of(sum);
+    }
+}
+
+/* Row by row, or column by column; 48 values leave the last 4 by 4 out. */
+static void low_places(int side, int transposed, const int32_t *v, int w, int32_t *c) {
+    for (int y = 0; y < side; y++) {
+        int count = y < 4 ? side : 4;
+        if (transposed)
+            for (int x = 0; x < count; x++) c[x * w + y] = v[x];
+        else memcpy(c + y * w, v, (size_t)count * sizeof *c);
+        v += count;
+    }
+}
+
+void decoder_inverse_low(hoengtila_shape s, int index, int set, int transposed, int32_t *c) {
+    static const uint8_t columns[] = {0, 0, 1, 0, 1, 2, 0, 1, 2, 3, 1, 2, 3, 2, 3, 3}, rows[] = {0, 1, 0, 2, 1, 0, 3, 2, 1, 0, 3, 2, 1, 3, 2, 3};
+    int w = (int)s.width, h = (int)s.height, side = w >= 8 && h >= 8 ? 8 : 4, outputs = side == 8 ? 48 : 16;
+    int inputs = w == h && w <= 8 ? 8 : 16, matrix = 2 * set + index - 1;
+    int32_t u[16], v[48];
+    for (int i = 0; i < inputs; i++) u[i] = c[rows[i] * w + columns[i]];
+    low_values(matrices + (side == 8 ? 8 * 16 * 16 + matrix * 16 * 48 : matrix * 16 * 16), inputs, outputs, u, v);
+    for (int y = 0; y < 4; y++) memset(c + y * w, 0, 4 * sizeof *c);
+    low_places(side, transposed, v, w, c);
+    s.columns = s.rows = (uint32_t)side;
+    decoder_inverse(s, c);
 }

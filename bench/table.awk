@@ -72,6 +72,7 @@ function live(m,    k, name, head, decoder, share, part, least, where) {
 
 # What a transform block is to take: "one" has one coefficient of kind 0.
 function part_of(name) {
+    if (name ~ / low-/) return "LFNST"
     if (name ~ / live-1x1$/) return "one"
     if (name ~ / ([12]x|[0-9]+x[12] )/) return "sides of 1 and 2"
     return name ~ / (4x|[0-9]+x4 )/ ? "sides of 4" : "the others"

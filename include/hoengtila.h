@@ -31,7 +31,7 @@
  *  18  steps: more than 2,048 steps or cells
  *  19  thin blocks: a work area is shorter than width * height
  *  20  the kept columns or the kept rows are 0, or more than hoengtila_shape_of gives; transform blocks: the columns or rows to
- *      read are 0, or more than hoengtila_transform_block_of gives
+ *      read are 0, or more than hoengtila_transform_block_of gives, or with LFNST more than 4
  *  21  a line whose sums wrap: the order is not each of 0..n-1 once
  *  22  totals: 65,536 blocks were given before
  *  23  writing a picture: a residual outside -32768..32767
@@ -42,6 +42,8 @@
  *  28  steps: a cell outside the list's number of cells, or more inputs than cells
  *  29  steps: the result of a step is outside 32 bits
  *  30  transform blocks: a kind other than 0 in a direction whose side is 2 or 64
+ *  31  transform blocks: LFNST's index is above 2, its set above 3 or its flag above 1; or its index is not 0 and a side is below 4,
+ *      or a kind is not 0
  *
  * 10 to 13 are met by the programs that read block files (`blocks`), and by no function here.
  *
@@ -183,9 +185,9 @@ typedef struct {
 hoengtila_thin hoengtila_block_inverse_thin(hoengtila_shape shape, const int16_t *coefficients, size_t coefficients_len, int32_t *first, size_t first_len, int32_t *second, size_t second_len);
 
 /* ---- Transform blocks: every block of a stream in one call, in place, for decoders; the inverse alone, of a block whose transform is
- * not skipped and that has no LFNST ---- */
+ * not skipped ---- */
 
-/* Eight numbers. hoengtila_transform_block_of fills the last three from the first five; a struct that is written by hand needs `columns`
+/* Eleven numbers. hoengtila_transform_block_of fills the last six from the first five; a struct that is written by hand needs `columns`
  * and `rows`, since where they are left 0 the call refuses it with 20. */
 typedef struct {
     uint32_t width;      /* 1, 2, 4, 8, 16, 32 or 64 */
@@ -196,10 +198,13 @@ typedef struct {
     uint32_t extended;   /* the extended-precision switch: 0 off, any other number on */
     uint32_t columns;    /* columns that are read: at least 1, at most min(width, 16), or min(width, 32) where horizontal is 0 */
     uint32_t rows;       /* rows that are read: at least 1, at most min(height, 16), or min(height, 32) where vertical is 0 */
+    uint32_t lfnst;      /* LFNST: 0 none, or its index, 1 or 2; then columns and rows are at most 4, both sides at least 4 and both kinds 0 */
+    uint32_t set;        /* the set of its matrices: 0..3 */
+    uint32_t transposed; /* where its values go: 0 row by row, 1 column by column */
 } hoengtila_transform_block;
 
-/* The block that reads the most columns and rows that it can, with the switch off. For fewer, and for the switch, set the last three
- * after it. Nothing is refused. */
+/* The block that reads the most columns and rows that it can, with the switch off and no LFNST. For fewer, for the switch and for LFNST,
+ * set the last six after it. Nothing is refused. */
 hoengtila_transform_block hoengtila_transform_block_of(uint32_t width, uint32_t height, uint32_t horizontal, uint32_t vertical, uint32_t depth);
 
 /* The inverse in place: `numbers` has width * height coefficients, row by row, and then the residuals. What is read is the first `columns`
@@ -207,10 +212,13 @@ hoengtila_transform_block hoengtila_transform_block_of(uint32_t width, uint32_t 
  * and middle values, are -2^R .. 2^R - 1: with the switch on R is max(15, min(20, depth + 6)), with it off 15. Two stages as in
  * hoengtila_block_inverse_long, and the last shift 5 + R - depth; at every depth, also with the switch off. A block with a side of 1 has one
  * stage, the line of its other side, with the last shift 6 + R - depth, no middle values and the rail count 0; the kind of the side of 1
- * is looked at (3, 4) and not used. Where hoengtila_block_inverse_long takes the same numbers at the same position of the switch, or with
+ * is looked at (3, 4) and not used. With LFNST its stage runs first: it takes 8 coefficients of the corner of 4 by 4 at sides of 4 by 4 and
+ * 8 by 8, else 16, and gives 48 values at the start of the block where both sides are 8 or more, else 16, each -2^R .. 2^R - 1; the two
+ * stages run on these, and the rail count is theirs. Which set, and whether transposed, follow from the intra mode: the caller's part.
+ * Without LFNST, where hoengtila_block_inverse_long takes the same numbers at the same position of the switch, or with
  * the switch off hoengtila_block_inverse or hoengtila_block_inverse_thin, residuals and rail count are the same.
- * Refusals, in this order: 1, 2, 3, 4, 30, 5, 20, 6, 27. 6: not width * height numbers. 27 has the place of the first such number, row by
- * row. */
+ * Refusals, in this order: 1, 2, 3, 4, 30, 5, 20, 31, 6, 27. 6: not width * height numbers. 27 has the place of the first such number, row
+ * by row. */
 hoengtila_answer hoengtila_transform_block_inverse(hoengtila_transform_block block, int32_t *numbers, size_t numbers_len);
 
 /* ---- Asking why: what the residual at a place of an inverse block is made of ---- */

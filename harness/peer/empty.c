@@ -23,7 +23,7 @@ struct state {
 
 static struct state state, other;
 static const hoengtila_shape shape = {4, 4, 1, 1, 10, 4, 4};
-static const hoengtila_transform_block block = {4, 4, 1, 1, 10, 0, 4, 4};
+static const hoengtila_transform_block block = {4, 4, 1, 1, 10, 0, 4, 4, 0, 0, 0};
 static hoengtila_shape shapes[64];
 static uint32_t count; /* blocks of a row, and inputs and cells of a list of steps */
 

@@ -141,6 +141,9 @@ static void transform_block_inverse(void) {
     b.extended = number();
     b.columns = number();
     b.rows = number();
+    b.lfnst = number();
+    b.set = number();
+    b.transposed = number();
     count = length();
     get_output(out32, sizeof *out32, count);
     put_outcome(hoengtila_transform_block_inverse(b, out32, count), count);
@@ -157,6 +160,9 @@ static void transform_block_of(void) {
     put_number(b.extended);
     put_number(b.columns);
     put_number(b.rows);
+    put_number(b.lfnst);
+    put_number(b.set);
+    put_number(b.transposed);
 }
 
 static void put_parts(hoengtila_parts p) {

@@ -2,6 +2,7 @@
 //! use (`docs/DECISIONS.md`), with the matrices as they stand in `crates/lfnst_tables/matrices.txt`.
 
 use std::collections::BTreeMap;
+use std::sync::OnceLock;
 
 const MATRICES: &str = include_str!("../../crates/lfnst_tables/matrices.txt");
 
@@ -64,10 +65,18 @@ impl LowFrequency {
 }
 
 fn matrix(outputs: usize, set: usize, index: usize) -> Vec<Vec<i64>> {
-    let rows = MATRICES.lines().filter(|line| !line.starts_with('#'));
     let first = 16 * (2 * set + index - 1) + if outputs == 48 { 128 } else { 0 };
-    let numbers = |line: &str| line.split(' ').map(|n| n.parse().unwrap()).collect();
-    rows.skip(first).take(16).map(numbers).collect()
+    rows()[first..first + 16].to_vec()
+}
+
+/// Every row of every matrix, read once.
+fn rows() -> &'static [Vec<i64>] {
+    static ROWS: OnceLock<Vec<Vec<i64>>> = OnceLock::new();
+    ROWS.get_or_init(|| {
+        let lines = MATRICES.lines().filter(|line| !line.starts_with('#'));
+        let numbers = |line: &str| line.split(' ').map(|n| n.parse().unwrap()).collect();
+        lines.map(numbers).collect()
+    })
 }
 
 /// Column and row of each coefficient that is read: diagonal by diagonal, each from its lowest row up.

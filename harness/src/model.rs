@@ -29,7 +29,7 @@ pub use picture::{read_picture, write_picture};
 pub use row::block_row;
 pub use small::{forward_4x4, inverse_4x4};
 pub use thin::inverse_thin;
-pub use transform::inverse_transform;
+pub use transform::{inverse_transform, Lfnst};
 pub use why::{why, why_long};
 pub use wrapped::{forward_wrapped, inverse_wrapped};
 

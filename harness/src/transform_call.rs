@@ -3,6 +3,7 @@
 use crate::call::Outcome;
 use crate::library::{Shape, TransformBlock};
 use crate::model;
+use crate::model::Lfnst;
 use crate::peer::{Replies, Request};
 use crate::subject::{Answered, Asked};
 use crate::widths::{block_numbers, narrow, shape_of, wide};
@@ -21,7 +22,7 @@ impl Asked for TransformCall {
     fn by_model(&self) -> Outcome {
         let (shape, extended) = (self.block.shape().into(), self.block.extended != 0);
         let mut numbers = wide(&self.numbers);
-        let answer = model::inverse_transform(&shape, extended, &mut numbers);
+        let answer = model::inverse_transform(&shape, extended, &self.block.low(), &mut numbers);
         Outcome {
             answer: answer.into(),
             output: narrow(&numbers),
@@ -80,7 +81,7 @@ impl Asked for BlockOf {
     }
 
     fn reply(&self, replies: &mut Replies) -> io::Result<TransformBlock> {
-        let [width, height, horizontal, vertical, depth, extended, columns, rows] =
+        let [width, height, horizontal, vertical, depth, extended, columns, rows, lfnst, set, transposed] =
             replies.told()?;
         Ok(TransformBlock {
             width,
@@ -91,16 +92,22 @@ impl Asked for BlockOf {
             extended,
             columns,
             rows,
+            lfnst,
+            set,
+            transposed,
         })
     }
 }
 
 /// Between a transform block and a shape.
 pub trait Shaped {
-    /// Of a shape, whose kept columns and rows are read, with the switch as C has it.
+    /// Of a shape, whose kept columns and rows are read, with the switch as C has it and no LFNST.
     fn of(shape: Shape, extended: u32) -> Self;
 
-    /// All of it but the switch.
+    /// Its three numbers of LFNST.
+    fn low(&self) -> Lfnst;
+
+    /// All of it but the switch and LFNST.
     fn shape(&self) -> Shape;
 }
 
@@ -115,6 +122,15 @@ impl Shaped for TransformBlock {
             extended,
             columns: shape.columns,
             rows: shape.rows,
+            ..TransformBlock::default()
+        }
+    }
+
+    fn low(&self) -> Lfnst {
+        Lfnst {
+            index: self.lfnst.into(),
+            set: self.set.into(),
+            transposed: self.transposed.into(),
         }
     }
 

@@ -31,7 +31,7 @@ pub fn shape_numbers(shape: &Shape) -> [u32; 7] {
 }
 
 /// In the header's order.
-pub fn block_numbers(block: &TransformBlock) -> [u32; 8] {
+pub fn block_numbers(block: &TransformBlock) -> [u32; 11] {
     [
         block.width,
         block.height,
@@ -41,6 +41,9 @@ pub fn block_numbers(block: &TransformBlock) -> [u32; 8] {
         block.extended,
         block.columns,
         block.rows,
+        block.lfnst,
+        block.set,
+        block.transposed,
     ]
 }
 

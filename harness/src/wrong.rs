@@ -18,13 +18,13 @@ pub const ORDER: [usize; 10] = [1, 2, 3, 4, 5, 20, 6, 7, 8, 9];
 
 /// Which tests of the table of numbers apply to a call.
 pub struct Wrong {
-    pub applies: [bool; 31],
+    pub applies: [bool; 32],
 }
 
 impl Wrong {
     /// `number` applies, none before it does, each one after it or not.
     pub fn first(random: &mut Random, number: usize) -> Wrong {
-        let mut applies = [false; 31];
+        let mut applies = [false; 32];
         for k in ORDER.into_iter().skip_while(|k| *k != number) {
             applies[k] = k == number || random.once_in(2);
         }
@@ -33,7 +33,7 @@ impl Wrong {
 
     /// Those of the tests whose bits are set: bit 0 is the first test.
     pub fn among(tests: &[usize], bits: u32) -> Wrong {
-        let mut applies = [false; 31];
+        let mut applies = [false; 32];
         for (k, test) in tests.iter().enumerate() {
             applies[*test] = bits >> k & 1 == 1;
         }

@@ -54,7 +54,8 @@ impl Shape {
 }
 
 /// What a transform block is: its sides, a kind for each direction, its bit depth, the extended-precision switch (0 off, any other
-/// number on), and how many columns and rows are read.
+/// number on), how many columns and rows are read, and LFNST: its index (0 none), the set of its matrices, and whether its values go
+/// column by column (1).
 #[repr(C)]
 #[derive(Clone, Copy, Debug, Default, PartialEq, Eq)]
 pub struct TransformBlock {
@@ -66,10 +67,13 @@ pub struct TransformBlock {
     pub extended: u32,
     pub columns: u32,
     pub rows: u32,
+    pub lfnst: u32,
+    pub set: u32,
+    pub transposed: u32,
 }
 
 impl TransformBlock {
-    /// A block that reads the most that is allowed, with the switch off.
+    /// A block that reads the most that is allowed, with the switch off and no LFNST.
     #[inline]
     pub fn new(
         width: u32,
@@ -94,6 +98,16 @@ impl TransformBlock {
     pub fn extended(self, on: bool) -> TransformBlock {
         TransformBlock {
             extended: u32::from(on),
+            ..self
+        }
+    }
+
+    /// The same with LFNST of this index, 1 or 2, and set. It asks for at most 4 columns and rows.
+    pub fn lfnst(self, index: u32, set: u32, transposed: bool) -> TransformBlock {
+        TransformBlock {
+            lfnst: index,
+            set,
+            transposed: u32::from(transposed),
             ..self
         }
     }

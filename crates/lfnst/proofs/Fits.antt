@@ -21,10 +21,10 @@ use Rattle.lfnst.specs.LowFrequency.{order, input, inputs, isWide}
 use Rattle.lfnst.proofs.Summing.{most}
 
 -- every input is one of the corner's
-abbrev column : ℕ → ℕ
+abbrev pub column : ℕ → ℕ
 column i = getD order i (0, 0) .0
 
-abbrev row : ℕ → ℕ
+abbrev pub row : ℕ → ℕ
 row i = getD order i (0, 0) .1
 
 abbrev inCorner : ℕ → Bool
@@ -34,14 +34,17 @@ tested : T (allTo 16 inCorner)
 unfolding order
 tested = tt
 
+pub from-corner : (i : ℕ) → i < 16 → (column i < 4) × (row i < 4)
+from-corner i l =
+    let t : T (inCorner i) = allTo-at 16 inCorner tested i l in
+    (ltb→lt (column i) 4 (and-left (ltb (column i) 4) (ltb (row i) 4) t), ltb→lt (row i) 4 (and-right (ltb (column i) 4) (ltb (row i) 4) t))
+
 module _ (c : ℕ → ℕ → ℤ) (M : ℕ) (h : (x y : ℕ) → x < 4 → y < 4 → natAbs (c x y) ≤ M) where
   input-size : (i : ℕ) → i < 16 → natAbs (input c i) ≤ M
   unfolding input
-  input-size i l =
-      let t : T (inCorner i) = allTo-at 16 inCorner tested i l in
-      h (column i) (row i) (ltb→lt (column i) 4 (and-left (ltb (column i) 4) (ltb (row i) 4) t)) (ltb→lt (row i) 4 (and-right (ltb (column i) 4) (ltb (row i) 4) t))
+  input-size i l = let p = from-corner i l in h (column i) (row i) (p .0) (p .1)
 
-at-most-16 : (width height : ℕ) → inputs width height ≤ 16
+pub at-most-16 : (width height : ℕ) → inputs width height ≤ 16
 unfolding inputs
 at-most-16 width height = pick ((eqb width 4 && eqb height 4) || (eqb width 8 && eqb height 8))
   where

@@ -4,4 +4,5 @@ pub mod Summing
 pub mod Whole
 pub mod Left
 pub mod Fits
+pub mod Same
 pub mod Examples

@@ -1,10 +1,10 @@
 // Internal: LFNST, the low-frequency stage that runs over the corner of a block before columns and rows; it asks for a matrix that
-// there is and for a corner in its range, which the call of a transform block is to test. Read specs/LowFrequency, then rules (what
+// there is and for a corner in its range, which the call of a transform block tests. Read specs/LowFrequency, then rules (what
 // the sides decide), corner (the order in which the corner is read), sums (the values), places (where they go) and `stage`. Of
-// proofs/, Left has what a caller cites, Fits that no sum leaves 32 bits, and Examples the sizes at which the rule changes.
+// proofs/, Left and Same have what a caller cites, Fits that no sum leaves 32 bits, and Examples the sizes at which the rule changes.
 mod corner;
 mod places;
-mod rules;
+pub mod rules;
 mod sums;
 
 use crate::corner::in_order;

@@ -1,4 +1,5 @@
--- Where the calls of documents 01 and 02 accept the same numbers, residuals and rail count are the same. Assumes nothing.
+-- Where the calls of documents 01 and 02 accept the same numbers, residuals and rail count of a block without LFNST are the same.
+-- Assumes nothing.
 --   same-as-long:    the call of long numbers, at either position of the switch
 --   same-as-inverse: the inverse of a block, with the switch off
 -- Thin has the one stage of a thin block.
@@ -28,9 +29,9 @@ use Rattle.meaning.proofs.LongRules.{long-depth}
 use Rattle.meaning.proofs.LongCall.{LongPassed, long-accepted, long-inside, long-done, not-beyond}
 use Rattle.meaning.proofs.LongOff.{long-off}
 use Rattle.transform_block.specs.declared.TransformBlock.{TransformBlock}
-use Rattle.transform_block.specs.TransformBlock.{isBlockSide, isPair, noLine, isOn, isThin, reachOf, transformPlan, transformOutcome}
+use Rattle.transform_block.specs.TransformBlock.{isBlockSide, isPair, noLine, isOn, isThin, reachOf, transformPlan, hasLow, isCorner, isLow, transformOutcome}
 use Rattle.transform_block.specs.Given.{TakenFields, GivenWork}
-use Rattle.transform_block.proofs.Accepted.{transform-done}
+use Rattle.transform_block.proofs.Accepted.{plain-done}
 use Rattle.transform_block.proofs.Narrowed.{shaped}
 
 -- a size is a side, has a line of every kind, and is not 1
@@ -44,12 +45,12 @@ size-line kind = size-cases (λ n. noLine kind n ≡ false) refl refl refl refl
 size-other : (n : ℕ) → isSize n ≡ true → eqb n 1 ≡ false
 size-other n s = ne-eqb n 1 (λ e. omega (arith, size-some n s))
 
-module _ (b : TransformBlock) (c out : List ℤ) (number : longOutcome (isOn b) (shaped b) c out .0 .number ≡ 0) where
+module _ (b : TransformBlock) (none : hasLow b ≡ false) (low : isLow b ≡ true) (c out : List ℤ) (number : longOutcome (isOn b) (shaped b) c out .0 .number ≡ 0) where
   passed : LongPassed (isOn b) (shaped b) c out
   passed = long-accepted (isOn b) (shaped b) c out number
 
   fields : TakenFields b c
-  unfolding keeps
+  unfolding keeps isCorner
   fields =
       let t = passed .block .taken in
       let d = long-depth (isOn b) (b .depth) (t .depth) in
@@ -62,6 +63,8 @@ module _ (b : TransformBlock) (c out : List ℤ) (number : longOutcome (isOn b) 
         down = size-line (b .vertical) (b .height) (t .height);
         depth = rw (le-leb 8 (b .depth) (d .0), le-leb (b .depth) 16 (d .1));
         kept = t .kept;
+        corner = rw none;
+        low = low;
         long = passed .block .long;
       }
 
@@ -82,10 +85,10 @@ module _ (b : TransformBlock) (c out : List ℤ) (number : longOutcome (isOn b) 
   two = let t = passed .block .taken in rw (size-other (b .width) (t .width), size-other (b .height) (t .height))
 
   pub same-as-long : transformOutcome b c ≡ longOutcome (isOn b) (shaped b) c out
-  same-as-long = transform-done b c given ∙ rw two (sym (long-done (isOn b) (shaped b) c out passed))
+  same-as-long = plain-done b c given none ∙ rw two (sym (long-done (isOn b) (shaped b) c out passed))
 
-module _ (b : TransformBlock) (c out : List ℤ) (off : isOn b ≡ false) (short : (k : ℕ) → k < length c → SFits w16 (at c k)) where
+module _ (b : TransformBlock) (none : hasLow b ≡ false) (low : isLow b ≡ true) (c out : List ℤ) (off : isOn b ≡ false) (short : (k : ℕ) → k < length c → SFits w16 (at c k)) where
   pub same-as-inverse : inverseOutcome (shaped b) c out .0 .number ≡ 0 → transformOutcome b c ≡ inverseOutcome (shaped b) c out
   same-as-inverse number =
       let e : longOutcome (isOn b) (shaped b) c out ≡ inverseOutcome (shaped b) c out = ap (λ (on : Bool). longOutcome on (shaped b) c out) off ∙ long-off (shaped b) c out short in
-      same-as-long b c out (ap (λ (o : Outcome). o .0 .number) e ∙ number) ∙ e
+      same-as-long b none low c out (ap (λ (o : Outcome). o .0 .number) e ∙ number) ∙ e

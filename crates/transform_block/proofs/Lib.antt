@@ -3,6 +3,7 @@ pub mod Unread
 pub mod Hunting
 pub mod Narrowed
 pub mod Accepted
+pub mod Behind
 pub mod NearExact
 pub mod Ways
 pub mod Sums
@@ -10,4 +11,5 @@ pub mod Agreement
 pub mod Unique
 pub mod Thin
 pub mod NotRead
+pub mod Left
 pub mod FlatBlock

@@ -7,12 +7,12 @@ use mathlib.Core.List.{List}
 use Prim.Native.Nat.{ℕ, _+_, _*_, _≤_, _<_}
 use native.Mathlib.Nat.{mul-comm, mul-one, zero-mul, zero-add, add-zero}
 use native.Mathlib.Decide.{ℕ-discrete}
-use borrow.Author.Tests.{eq-eqb, ne-eqb}
-use lib.Dec.{eqb}
-use lib.IntN.{ℤ, _*ℤ_}
+use borrow.Author.Tests.{eq-eqb, ne-eqb, ltb-true}
+use lib.Dec.{eqb, ltb}
+use lib.IntN.{ℤ, pos, _*ℤ_}
 use lib.ListN.{length}
 use Rattle.algebra.specs.Shift.{nearest}
-use Rattle.algebra.specs.Lists.{at, tabulate}
+use Rattle.algebra.specs.Lists.{at, tabulate, block}
 use Rattle.algebra.proofs.Sum.{sum-cong}
 use Rattle.algebra.proofs.Lists.{tab-cong}
 use Rattle.meaning.specs.Weights.{weight}
@@ -21,8 +21,10 @@ use Rattle.meaning.specs.Plan.{rangeOf}
 use Rattle.meaning.specs.Long.{beyond}
 use Rattle.meaning.specs.Answer.{Outcome, accepted}
 use Rattle.meaning.specs.Inverse.{rails, inverseBlock}
+use Rattle.meaning.proofs.Cases.{and-cases}
+use Rattle.lfnst.specs.LowFrequency.{lowAt}
 use Rattle.transform_block.specs.declared.TransformBlock.{TransformBlock}
-use Rattle.transform_block.specs.TransformBlock.{isThin, reachOf, lastOf, ofSide, sideSum, sideResidual, sideBlock, transformPlan, transformed, transformOutcome}
+use Rattle.transform_block.specs.TransformBlock.{isThin, reachOf, lastOf, ofSide, sideSum, sideResidual, sideBlock, transformPlan, hasLow, readAt, lowNumbers, behindLow, transformed, inverted, transformOutcome}
 use Rattle.transform_block.specs.Given.{TakenFields, GivenWork}
 use Rattle.transform_block.proofs.Taken.{columns-read, rows-read}
 use Rattle.transform_block.proofs.Unread.{rails-same, block-same}
@@ -31,11 +33,11 @@ use Rattle.transform_block.proofs.Accepted.{transform-accepted, transfo
 module _ (b : TransformBlock) (c d : List ℤ) (long : length c ≡ length d)
     (same : (x y : ℕ) → x < b .columns → y < b .rows → at c (x + y * b .width) ≡ at d (x + y * b .width)) where
   -- what was accepted of one is accepted of the other
-  given-same : GivenWork b c → GivenWork b d
+  pub given-same : GivenWork b c → GivenWork b d
   given-same g =
       let t = g .taken in
       record {
-        taken = record { width = t .width; pair = t .pair; horizontal = t .horizontal; vertical = t .vertical; along = t .along; down = t .down; depth = t .depth; kept = t .kept; long = sym long ∙ t .long };
+        taken = record { width = t .width; pair = t .pair; horizontal = t .horizontal; vertical = t .vertical; along = t .along; down = t .down; depth = t .depth; kept = t .kept; corner = t .corner; low = t .low; long = sym long ∙ t .long };
         inside = λ x y h l. subst (λ (z : ℤ). beyond (rangeOf (reachOf b)) z ≡ false) (same x y h l) (g .inside x y h l);
       }
 
@@ -67,10 +69,26 @@ module _ (b : TransformBlock) (c d : List ℤ) (long : length c ≡ length d)
       (λ k _. ap (nearest (lastOf b))
       (sum-cong (ofSide b (b .columns) (b .rows)) _ _ (λ i h. ap (λ (z : ℤ). weight (ofSide b (b .horizontal) (b .vertical)) (ofSide b (b .width) (b .height)) i k *ℤ z) (line-same t i h))))
 
-  transformed-same : TakenFields b c → transformed b c ≡ transformed b d
+  pub transformed-same : TakenFields b c → transformed b c ≡ transformed b d
   transformed-same t = λ i. cond (isThin b) (accepted 0, side-same t i) (accepted (rails-same (transformPlan b) c d same i), block-same (transformPlan b) c d same i)
+
+  -- LFNST: what is not read counts as 0
+  read-same : (x y : ℕ) → readAt b c x y ≡ readAt b d x y
+  unfolding readAt
+  read-same x y = either (ltb x (b .columns) && ltb y (b .rows)) refl
+    where
+      either : (r : Bool) → ltb x (b .columns) && ltb y (b .rows) ≡ r → cond r (at c (x + y * b .width)) (pos 0) ≡ cond r (at d (x + y * b .width)) (pos 0)
+      either true e = let p = and-cases (ltb x (b .columns)) (ltb y (b .rows)) e in same x y (ltb-true x (b .columns) (p .0)) (ltb-true y (b .rows) (p .1))
+      either false e = refl
+
+  low-same : lowNumbers b c ≡ lowNumbers b d
+  unfolding lowNumbers
+  low-same t = block (b .width) (b .height) (lowAt (b .width) (b .height) (b .lfnst) (b .set) (eqb (b .transposed) 1) (reachOf b) (λ x y. read-same x y t))
+
+  inverted-same : TakenFields b c → inverted b c ≡ inverted b d
+  inverted-same t = λ i. cond (hasLow b) (transformed (behindLow b) (low-same i)) (transformed-same t i)
 
   pub outcome-same : transformOutcome b c .0 .number ≡ 0 → transformOutcome b c ≡ transformOutcome b d
   outcome-same number =
       let g = transform-accepted b c number in
-      transform-done b c g ∙ transformed-same (g .taken) ∙ sym (transform-done b d (given-same g))
+      transform-done b c g ∙ inverted-same (g .taken) ∙ sym (transform-done b d (given-same g))

@@ -1,6 +1,7 @@
 -- Demand 2 of an accepted transform block: every partial sum of either stage, and what each rounding is put to, stays in 32 bits with the
 -- switch off (`sums-32`) and in 64 with it on (`sums-64`), at every size; so do those of the one stage of a thin block (`line-sums-32`,
--- `line-sums-64`). Assumes nothing.
+-- `line-sums-64`). With LFNST those of the two stages behind it do (`low-sums-32`, `low-sums-64`), and its own are in 32 bits at either
+-- position of the switch (`stage-sums-32`). Assumes nothing.
 use native.Mathlib.Omega.{arith}
 use mathlib.Core.Path.{_≡_, refl, sym, ap, _∙_, subst}
 use mathlib.Core.Bool.{Bool, true, false, cond}
@@ -10,10 +11,11 @@ use native.Mathlib.Decide.{ℕ-discrete}
 use borrow.Author.Tests.{eq-eqb, ne-eqb}
 use lib.Dec.{eqb}
 use native.Mathlib.Nat.{le-trans, le-refl, mul-le-mul}
-use lib.IntN.{ℤ, pos, natAbs, _+ℤ_}
+use lib.IntN.{ℤ, pos, natAbs, _+ℤ_, _*ℤ_}
 use lib.Pow.{pow-mono}
 use mir.Syntax.{Width, w32, w64}
 use mir.Val.{SFits}
+use Rattle.algebra.specs.Sum.{sum}
 use Rattle.algebra.specs.Lists.{at}
 use Rattle.algebra.proofs.Order.{within, fits-in}
 use Rattle.algebra.proofs.Shift.{rounding-in}
@@ -24,13 +26,17 @@ use Rattle.meaning.proofs.Cases.{line-in}
 use Rattle.meaning.proofs.Sizes.{columnSizesKept, inverse-part}
 use Rattle.meaning.proofs.PlanSizes.{down-sizes, along-sizes, row-part}
 use Rattle.meaning.proofs.LongRules.{around}
+use Rattle.lfnst_tables.specs.Lfnst.{outputsOf, lfnst}
+use Rattle.lfnst.specs.LowFrequency.{inputs, input, isWide}
+use Rattle.lfnst.proofs.Fits.{low-part, low-sum-fits}
 use Rattle.transform_stages.specs.Work as stage
 use Rattle.transform_block.specs.declared.TransformBlock.{TransformBlock}
-use Rattle.transform_block.specs.TransformBlock.{isOn, isThin, reachOf, lastOf, transformPlan, ofSide, sideSum, transformOutcome}
+use Rattle.transform_block.specs.TransformBlock.{isOn, isThin, reachOf, lastOf, transformPlan, ofSide, sideSum, hasLow, readAt, lowNumbers, behindLow, transformOutcome}
 use Rattle.transform_block.specs.Given.{GivenWork}
 use Rattle.transform_block.proofs.Taken.{wide, high, deep, far, sized, in-reach, low-side}
 use Rattle.transform_block.proofs.Ways.{given-upright, given-lying, read-upright, read-lying}
 use Rattle.transform_block.proofs.Accepted.{transform-accepted}
+use Rattle.transform_block.proofs.Behind.{some, most-two, sets, two-stages, read-size, behind-given}
 
 -- ---- two stages: their first k terms, for every k, and e + 64 and r + 2^(s-1)
 pub record SumsFit (w : Width) (b : TransformBlock) (c : List ℤ) : Type 0 where
@@ -133,10 +139,7 @@ module _ (b : TransformBlock) (c : List ℤ) (g : GivenWork b c) (w : Width) (fi
       }
 
 -- ---- 32 bits with the switch off: 2^27 and some
-module _ (b : TransformBlock) (c : List ℤ) (number : transformOutcome b c .0 .number ≡ 0) where
-  given : GivenWork b c
-  given = transform-accepted b c number
-
+module _ (b : TransformBlock) (c : List ℤ) (given : GivenWork b c) where
   short : isOn b ≡ false → (z : ℤ) → natAbs z ≤ most b + 4096 → SFits w32 z
   short off z h =
       let e : reachOf b ≡ 15 = reach-off (isOn b) (b .depth) off in
@@ -147,14 +150,43 @@ module _ (b : TransformBlock) (c : List ℤ) (number : transformOutcome b c .0 .
       let q : 2 ^ reachOf b ≤ 1048576 = pow-mono {i = reachOf b} {j = 20} (far b c (given .taken) .1) in
       fits-in {B = 4294971392} tt (within z (omega (arith, h, q)))
 
+module _ (b : TransformBlock) (c : List ℤ) (number : transformOutcome b c .0 .number ≡ 0) where
+  given : GivenWork b c
+  given = transform-accepted b c number
+
   pub sums-32 : isOn b ≡ false → isThin b ≡ false → SumsFit w32 b c
-  sums-32 off = sums b c given w32 (short off)
+  sums-32 off = sums b c given w32 (short b c given off)
 
   pub line-sums-32 : isOn b ≡ false → isThin b ≡ true → LineSumsFit w32 b c
-  line-sums-32 off = line-sums b c given w32 (short off)
+  line-sums-32 off = line-sums b c given w32 (short b c given off)
 
   pub sums-64 : isThin b ≡ false → SumsFit w64 b c
-  sums-64 = sums b c given w64 long
+  sums-64 = sums b c given w64 (long b c given)
 
   pub line-sums-64 : isThin b ≡ true → LineSumsFit w64 b c
-  line-sums-64 = line-sums b c given w64 long
+  line-sums-64 = line-sums b c given w64 (long b c given)
+
+  -- ---- with LFNST: the two stages run on what it left
+  module _ (low : hasLow b ≡ true) where
+    behind : GivenWork (behindLow b) (lowNumbers b c)
+    behind = behind-given b c (given .taken) low
+
+    two : isThin (behindLow b) ≡ false
+    unfolding isThin
+    two = two-stages b c (given .taken) low
+
+    pub low-sums-32 : isOn b ≡ false → SumsFit w32 (behindLow b) (lowNumbers b c)
+    unfolding isOn
+    low-sums-32 off = sums (behindLow b) (lowNumbers b c) behind w32 (short (behindLow b) (lowNumbers b c) behind off) two
+
+    pub low-sums-64 : SumsFit w64 (behindLow b) (lowNumbers b c)
+    low-sums-64 = sums (behindLow b) (lowNumbers b c) behind w64 (long (behindLow b) (lowNumbers b c) behind) two
+
+    -- the first k terms of value j: 470 * 2^R bounds them
+    pub stage-sums-32 : (j k : ℕ) → j < outputsOf (isWide (b .width) (b .height)) → k ≤ inputs (b .width) (b .height)
+        → let z = sum k (λ i. input (readAt b c) i *ℤ lfnst (b .set) (b .lfnst) (isWide (b .width) (b .height)) i j) in
+        (natAbs z ≤ 470 * 2 ^ reachOf b) × (SFits w32 z × SFits w32 (z +ℤ pos 64))
+    stage-sums-32 j k h m =
+        let t = given .taken in
+        let s = low-part (b .width) (b .height) (b .lfnst) (b .set) (reachOf b) (readAt b c) (some b c t low) (most-two b c t low) (sets b c t low) (λ x y _ _. read-size b c given x y) j h k m in
+        (s, low-sum-fits (b .width) (b .height) (b .lfnst) (b .set) (reachOf b) (readAt b c) (some b c t low) (most-two b c t low) (sets b c t low) (λ x y _ _. read-size b c given x y) j h k m (far b c t .1))

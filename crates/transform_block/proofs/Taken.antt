@@ -24,13 +24,14 @@ use Rattle.meaning.proofs.KeptPart.{Kept, kept-of}
 use Rattle.meaning.proofs.LongCall.{inside}
 use Rattle.meaning.proofs.LongRules.{reach-in}
 use Rattle.transform_block.specs.declared.TransformBlock.{TransformBlock}
-use Rattle.transform_block.specs.TransformBlock.{isBlockSide, isPair, noLine, isOn, isReadable, isThin, reachOf, lastOf, transformPlan, blockTests, handedTests}
+use Rattle.transform_block.specs.TransformBlock.{isBlockSide, isPair, noLine, isOn, isReadable, isCorner, isLow, isThin, reachOf, lastOf, transformPlan, blockTests, handedTests}
 use Rattle.transform_block.specs.Given.{TakenFields, GivenWork}
 
 -- ---- the fields
 fields-clear : (b : TransformBlock) (c : List ℤ) → Clear (blockTests b) → Clear (inputTest (b .width * b .height) (length c) ∷ []) → TakenFields b c
-fields-clear b c (w, (h, (k, (v, (l, (d, (m, _))))))) (n, _) =
+fields-clear b c (w, (h, (k, (v, (l, (d, (m, (o, _)))))))) (n, _) =
     let no = neither (noLine (b .horizontal) (b .width)) (noLine (b .vertical) (b .height)) l in
+    let read = and-cases (isReadable b) (isCorner b) (not-false (isReadable b && isCorner b) m) in
     record {
       width = not-false (isBlockSide (b .width)) w;
       pair = not-false (isPair b) h;
@@ -39,7 +40,9 @@ fields-clear b c (w, (h, (k, (v, (l, (d, (m, _))))))) (n, _) =
       along = no .0;
       down = no .1;
       depth = not-false (isDepthTo 16 (b .depth)) d;
-      kept = not-false (isReadable b) m;
+      kept = read .0;
+      corner = read .1;
+      low = not-false (isLow b) o;
       long = eqb-true (length c) (b .width * b .height) (not-false (eqb (length c) (b .width * b .height)) n);
     }
 

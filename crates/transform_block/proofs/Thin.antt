@@ -24,9 +24,9 @@ use Rattle.thin_block.specs.Thin as thin
 use Rattle.thin_block.proofs.Passed.{TakenThin}
 use Rattle.thin_block.proofs.Areas.{taken, after-one}
 use Rattle.transform_block.specs.declared.TransformBlock.{TransformBlock}
-use Rattle.transform_block.specs.TransformBlock.{isBlockSide, isPair, noLine, isOn, isThin, reachOf, lastOf, sideSum, sideResidual, sideBlock, transformOutcome}
+use Rattle.transform_block.specs.TransformBlock.{isBlockSide, isPair, noLine, isOn, isThin, reachOf, lastOf, sideSum, sideResidual, sideBlock, hasLow, isCorner, isLow, transformOutcome}
 use Rattle.transform_block.specs.Given.{TakenFields, GivenWork}
-use Rattle.transform_block.proofs.Accepted.{transform-done}
+use Rattle.transform_block.proofs.Accepted.{plain-done}
 use Rattle.transform_block.proofs.Narrowed.{shaped}
 
 -- a side of that call is one of this call, and has a line of every kind
@@ -53,13 +53,13 @@ not-both w h s = by (eqb w 1) refl (eqb h 1) refl
     by true e true f =
         absurd (true≢false (sym s ∙ (λ i. thin.isSide (eqb-true w 1 e i) (eqb-true h 1 f i))))
 
-module _ (b : TransformBlock) (c first second : List ℤ) (off : isOn b ≡ false) (short : (k : ℕ) → k < length c → beyond (rangeOf 15) (at c k) ≡ false)
+module _ (b : TransformBlock) (none : hasLow b ≡ false) (low : isLow b ≡ true) (c first second : List ℤ) (off : isOn b ≡ false) (short : (k : ℕ) → k < length c → beyond (rangeOf 15) (at c k) ≡ false)
     (number : thin.thinOutcome (shaped b) c first second .answer .number ≡ 0) where
   passed : TakenThin (shaped b) c first second
   passed = taken (shaped b) c first second number
 
   fields : TakenFields b c
-  unfolding keeps
+  unfolding keeps isCorner
   fields =
       let t = passed .past .sides in
       let d = depth-cases (b .depth) (t .depth) in
@@ -72,6 +72,8 @@ module _ (b : TransformBlock) (c first second : List ℤ) (off : isOn b ≡ fals
         down = line (b .vertical) (b .height) (b .width) (t .height);
         depth = rw (le-leb 8 (b .depth) (d .0), le-leb (b .depth) 16 (omega (arith, d)));
         kept = t .kept;
+        corner = rw none;
+        low = low;
         long = passed .past .long;
       }
 
@@ -102,4 +104,4 @@ module _ (b : TransformBlock) (c first second : List ℤ) (off : isOn b ≡ fals
       → (transformOutcome b c ≡ (accepted 0, thin.thinBlock (shaped b) c)) × (thin.thinOutcome (shaped b) c first second .first ≡ thin.thinBlock (shaped b) c ++ drop (b .width * b .height) first)
   unfolding isThin thin.oneStage
   same-as-thin one =
-      (transform-done b c given ∙ rw one (ap (λ (l : List ℤ). (accepted 0, l)) (sym (same-line one))), ap (λ (o : thin.Areas). o .first) (after-one (shaped b) c first second number one))
+      (plain-done b c given none ∙ rw one (ap (λ (l : List ℤ). (accepted 0, l)) (sym (same-line one))), ap (λ (o : thin.Areas). o .first) (after-one (shaped b) c first second number one))

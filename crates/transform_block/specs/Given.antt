@@ -12,9 +12,9 @@ use Rattle.meaning.specs.Plan.{rangeOf}
 use Rattle.meaning.specs.Shape.{isSize, isKind, isDepth, isDepthTo}
 use Rattle.meaning.specs.Long.{beyond}
 use Rattle.transform_block.specs.declared.TransformBlock.{TransformBlock}
-use Rattle.transform_block.specs.TransformBlock.{isBlockSide, isPair, noLine, isOn, isReadable, isThin, reachOf}
+use Rattle.transform_block.specs.TransformBlock.{isBlockSide, isPair, noLine, isOn, isReadable, hasLow, isCorner, isLow, isThin, reachOf, lowSide, lowNumbers, transformed, inverted}
 
--- past 1 to 4, 30, 5, 20 and 6
+-- past 1 to 4, 30, 5, 20, 31 and 6
 pub record TakenFields (b : TransformBlock) (c : List ℤ) : Type 0 where
   pub width : isBlockSide (b .width) ≡ true
   pub pair : isPair b ≡ true
@@ -24,12 +24,41 @@ pub record TakenFields (b : TransformBlock) (c : List ℤ) : Type 0 where
   pub down : noLine (b .vertical) (b .height) ≡ false
   pub depth : isDepthTo 16 (b .depth) ≡ true
   pub kept : isReadable b ≡ true
+  pub corner : isCorner b ≡ true
+  pub low : isLow b ≡ true
   pub long : length c ≡ b .width * b .height
 
 -- past 27 too
 pub record GivenWork (b : TransformBlock) (c : List ℤ) : Type 0 where
   pub taken : TakenFields b c
   pub inside : (x y : ℕ) → x < b .columns → y < b .rows → beyond (rangeOf (reachOf b)) (at c (x + y * b .width)) ≡ false
+
+-- with LFNST
+abbrev pub GivenLow : TransformBlock → List ℤ → Type 0
+GivenLow b c = GivenWork b c × (hasLow b ≡ true)
+
+-- what the stage left, as far as it is read behind it
+pub record LowDone (b : TransformBlock) (c d : List ℤ) : Type 0 where
+  pub long : length d ≡ length c
+  pub same : (x y : ℕ) → x < lowSide b → y < lowSide b → at d (x + y * b .width) ≡ at (lowNumbers b c) (x + y * b .width)
+
+-- the block and the numbers that columns and rows take
+pub record AfterLow (b : TransformBlock) (c : List ℤ) (r : TransformBlock) (d : List ℤ) : Type 0 where
+  pub long : length d ≡ length c
+  pub given : GivenWork r d
+  pub same : transformed r d ≡ inverted b c
+
+-- ---- LFNST's values: n columns and rows of rows of 8, and room for them in rows of w
+pub record Puttable (n w : ℕ) (from r : List ℤ) : Type 0 where
+  pub few : n ≤ 8
+  pub within : n ≤ w
+  pub there : length from ≡ 64
+  pub room : n * w ≤ length r
+
+-- n columns of the first rows stand there
+pub record Put (n rows w : ℕ) (from r r₁ : List ℤ) : Type 0 where
+  pub long : length r₁ ≡ length r
+  pub done : (x y : ℕ) → x < n → y < rows → at r₁ (x + y * w) ≡ at from (x + y * 8)
 
 -- ---- the hunt: of `count` numbers from o on, none before r is outside the range, and that at r is, unless r is behind them
 pub record BeyondFrom (c : List ℤ) (o count reach r : ℕ) : Type 0 where

@@ -1,14 +1,14 @@
--- Every transform block of a stream whose transform is not skipped and that has no LFNST, in one call, in place: H.266's sides of 1 to
--- 64, told how many columns and rows to read (docs/DECISIONS.md, "Transform blocks", has where the rules come from). What is handed
--- over, the plan it is worked by, the one stage of a side of 1, the refusals, and the outcome.
-use mathlib.Core.Bool.{Bool, not, cond, _&&_, _||_}
+-- Every transform block of a stream whose transform is not skipped, in one call, in place: H.266's sides of 1 to 64, with LFNST or
+-- without, told how many columns and rows to read (docs/DECISIONS.md, "Transform blocks", has where the rules come from). What is
+-- handed over, the plan it is worked by, the one stage of a side of 1, LFNST, the refusals, and the outcome.
+use mathlib.Core.Bool.{Bool, true, not, cond, _&&_, _||_}
 use mathlib.Core.List.{List, [], _∷_, _++_}
 use Prim.Native.Nat.{ℕ, _+_, _*_, _-_, _/_, _%_}
-use lib.Dec.{eqb, ltb}
-use lib.IntN.{ℤ}
+use lib.Dec.{eqb, ltb, leb}
+use lib.IntN.{ℤ, pos}
 use lib.ListN.{length}
 use Rattle.algebra.specs.Shift.{nearest}
-use Rattle.algebra.specs.Lists.{at, tabulate}
+use Rattle.algebra.specs.Lists.{at, tabulate, block}
 use Rattle.algebra.specs.First.{firstAt}
 use Rattle.algebra.specs.Refusals.{Refusal}
 use Rattle.meaning.specs.Line.{inverseSum}
@@ -17,6 +17,7 @@ use Rattle.meaning.specs.Plan.{Plan, rangeOf, reach}
 use Rattle.meaning.specs.Answer.{Outcome, outcome, test, testAt, inputTest, accepted}
 use Rattle.meaning.specs.Inverse.{rails, inverseBlock}
 use Rattle.meaning.specs.Long.{beyond}
+use Rattle.lfnst.specs.LowFrequency.{isWide, lowAt}
 use Rattle.transform_block.specs.declared.TransformBlock.{TransformBlock}
 
 -- "1, 2, 4, 8, 16, 32 or 64"
@@ -39,7 +40,23 @@ isOn b = not (eqb (b .extended) 0)
 abbrev pub isReadable : TransformBlock → Bool
 isReadable b = isKept (b .horizontal) (b .width) (b .columns) && isKept (b .vertical) (b .height) (b .rows)
 
--- "the most columns and rows, switch off"
+-- "lfnst (0 none, 1 or 2: the index)"
+unfoldable pub hasLow : TransformBlock → Bool
+hasLow b = not (eqb (b .lfnst) 0)
+
+-- with LFNST, "columns and rows are at most 4"
+unfoldable pub isCorner : TransformBlock → Bool
+isCorner b = cond (hasLow b) (leb (b .columns) 4 && leb (b .rows) 4) true
+
+-- what LFNST asks for: "a side below 4, or a kind other than 0" has none
+unfoldable pub takesLow : TransformBlock → Bool
+takesLow b = (leb 4 (b .width) && leb 4 (b .height)) && (eqb (b .horizontal) 0 && eqb (b .vertical) 0)
+
+-- what 31 tests: "lfnst above 2, set above 3, transposed above 1 (these three with lfnst 0 too)", and what LFNST asks for
+unfoldable pub isLow : TransformBlock → Bool
+isLow b = (leb (b .lfnst) 2 && (leb (b .set) 3 && leb (b .transposed) 1)) && cond (hasLow b) (takesLow b) true
+
+-- "the most columns and rows, switch off", no LFNST
 abbrev pub blockOf : ℕ → ℕ → ℕ → ℕ → ℕ → TransformBlock
 blockOf width height horizontal vertical depth =
     record {
@@ -51,6 +68,9 @@ blockOf width height horizontal vertical depth =
       extended = 0;
       columns = mostKept horizontal width;
       rows = mostKept vertical height;
+      lfnst = 0;
+      set = 0;
+      transposed = 0;
     }
 
 -- "a block with a side of 1 has one stage"
@@ -93,6 +113,36 @@ sideResidual b c k = nearest (lastOf b) (sideSum b c k)
 unfoldable pub sideBlock : TransformBlock → List ℤ → List ℤ
 sideBlock b c = tabulate (b .width * b .height) (sideResidual b c)
 
+-- ---- LFNST
+-- what stands in column x of row y as far as it is read: "everything else counts as 0"
+unfoldable pub readAt : TransformBlock → List ℤ → ℕ → ℕ → ℤ
+readAt b c x y = cond (ltb x (b .columns) && ltb y (b .rows)) (at c (x + y * b .width)) (pos 0)
+
+-- the numbers that columns and rows run on
+unfoldable pub lowNumbers : TransformBlock → List ℤ → List ℤ
+lowNumbers b c = block (b .width) (b .height) (lowAt (b .width) (b .height) (b .lfnst) (b .set) (eqb (b .transposed) 1) (reachOf b) (readAt b c))
+
+-- "the first 4 by 4 (16), or .. the first 8 by 8 (48)" of them may be other than 0
+unfoldable pub lowSide : TransformBlock → ℕ
+lowSide b = cond (isWide (b .width) (b .height)) 8 4
+
+-- the block behind the stage, of which that much is read
+abbrev pub behindLow : TransformBlock → TransformBlock
+behindLow b =
+    record {
+      width = b .width;
+      height = b .height;
+      horizontal = b .horizontal;
+      vertical = b .vertical;
+      depth = b .depth;
+      extended = b .extended;
+      columns = lowSide b;
+      rows = lowSide b;
+      lfnst = 0;
+      set = b .set;
+      transposed = b .transposed;
+    }
+
 -- ---- refusals
 -- "a number that is read": in the first columns and rows
 abbrev pub isRead : Plan → ℕ → Bool
@@ -106,7 +156,7 @@ readBeyond p k z = isRead p k && beyond (p .range) z
 abbrev pub firstReadBeyond : Plan → List ℤ → ℕ
 firstReadBeyond p c = firstAt (readBeyond p) 0 c
 
--- 1 to 4, 30, 5 and 20
+-- 1 to 4, 30, 5, 20 and 31
 abbrev pub blockTests : TransformBlock → List Refusal
 blockTests b =
     test (not (isBlockSide (b .width))) 1
@@ -115,7 +165,8 @@ blockTests b =
     ∷ test (not (isKind (b .vertical))) 4
     ∷ test (noLine (b .horizontal) (b .width) || noLine (b .vertical) (b .height)) 30
     ∷ test (not (isDepthTo 16 (b .depth))) 5
-    ∷ test (not (isReadable b)) 20
+    ∷ test (not (isReadable b && isCorner b)) 20
+    ∷ test (not (isLow b)) 31
     ∷ []
 
 -- and 6
@@ -126,10 +177,14 @@ handedTests b n = blockTests b ++ (inputTest (b .width * b .height) n ∷ [])
 abbrev pub transformTests : TransformBlock → List ℤ → List Refusal
 transformTests b c = handedTests b (length c) ++ (testAt (firstReadBeyond (transformPlan b) c) (length c) 27 ∷ [])
 
--- "The rail count is as in document 02; 0 with one stage"
+-- columns and rows; "The rail count is as in document 02; 0 with one stage"
 abbrev pub transformed : TransformBlock → List ℤ → Outcome
 transformed b c = cond (isThin b) (accepted 0, sideBlock b c) (accepted (rails (transformPlan b) c), inverseBlock (transformPlan b) c)
 
+-- LFNST, if the block has one, and "the two stages then run on these"
+abbrev pub inverted : TransformBlock → List ℤ → Outcome
+inverted b c = cond (hasLow b) (transformed (behindLow b) (lowNumbers b c)) (transformed b c)
+
 -- "In place": the numbers are input and output; "A refused call leaves all as it was"
 abbrev pub transformOutcome : TransformBlock → List ℤ → Outcome
-transformOutcome b c = outcome (transformTests b c) c (transformed b c)
+transformOutcome b c = outcome (transformTests b c) c (inverted b c)

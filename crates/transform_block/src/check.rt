@@ -1,12 +1,14 @@
 // The refusals that need no look at the numbers.
 use crate::TransformBlock;
+use crate::rules::has_low;
 use meaning::is_kept;
 use meaning::is_kind;
 use meaning::is_size;
 ghost use mathlib.Core.Path.{_≡_};
+ghost use mathlib.Core.Bool.{_&&_};
 ghost use Rattle.algebra.specs.Refusals.{numberOf};
 ghost use Rattle.meaning.specs.Shape.{isDepthTo};
-ghost use Rattle.transform_block.specs.TransformBlock.{isBlockSide, isPair, noLine, isReadable, handedTests};
+ghost use Rattle.transform_block.specs.TransformBlock.{isBlockSide, isPair, noLine, isReadable, isCorner, takesLow, isLow, handedTests};
 
 fn is_side(n: u32) -> bool
     ensures { λ r. ⌜ r ≡ isBlockSide n ⌝ }
@@ -67,7 +69,55 @@ fn reads(block: TransformBlock) -> bool
     false
 }
 
-// 1 to 4, 30, 5, 20 and 6, or 0.
+// "at most 4" columns and rows with LFNST.
+fn is_corner(block: TransformBlock) -> bool
+    ensures { λ r. ⌜ r ≡ isCorner block ⌝ }
+{
+    if !has_low(block) {
+        return true;
+    }
+    if 4 < block.columns {
+        return false;
+    }
+    block.rows <= 4
+}
+
+// Sides of 4 or more, and kind 0.
+fn takes_low(block: TransformBlock) -> bool
+    ensures { λ r. ⌜ r ≡ takesLow block ⌝ }
+{
+    if block.width < 4 {
+        return false;
+    }
+    if block.height < 4 {
+        return false;
+    }
+    if block.horizontal != 0 {
+        return false;
+    }
+    block.vertical == 0
+}
+
+// What 31 asks for.
+fn is_low(block: TransformBlock) -> bool
+    ensures { λ r. ⌜ r ≡ isLow block ⌝ }
+{
+    if 2 < block.lfnst {
+        return false;
+    }
+    if 3 < block.set {
+        return false;
+    }
+    if 1 < block.transposed {
+        return false;
+    }
+    if has_low(block) {
+        return takes_low(block);
+    }
+    true
+}
+
+// 1 to 4, 30, 5, 20, 31 and 6, or 0.
 pub fn field_refusal(block: TransformBlock, numbers: usize) -> u32
     ensures { λ r. ⌜ r ≡ numberOf (handedTests block numbers) ⌝ }
 {
@@ -94,6 +144,12 @@ pub fn field_refusal(block: TransformBlock, numbers: usize) -> u32
     }
     if !reads(block) {
         return 20;
+    }
+    if !is_corner(block) {
+        return 20;
+    }
+    if !is_low(block) {
+        return 31;
     }
     let elements = block.width as usize * block.height as usize;
     if numbers != elements {

@@ -1,15 +1,17 @@
-// Every transform block of a stream whose transform is not skipped and that has no LFNST, in one call, in place: sides of 1 to 64, told
+// Every transform block of a stream whose transform is not skipped, in one call, in place: sides of 1 to 64, with LFNST or without, told
 // how many columns and rows to read. The contract of `inverse` is `transformOutcome` of specs/TransformBlock; read that first. Then
-// check (the refusals of the fields), hunt (27), short (blocks of document 01, in 16 bits by its call), work (which way a block takes,
-// and the fill); the stages of the others are `transform_stages`.
+// check (the refusals of the fields), hunt (27), low (LFNST, by `lfnst`), short (blocks of document 01, in 16 bits by its call), work
+// (which way a block takes, and the fill); the stages of the others are `transform_stages`.
 mod check;
 mod hunt;
+mod low;
 mod rules;
 mod short;
 mod work;
 
 use crate::check::field_refusal;
 use crate::hunt::first_beyond;
+use crate::low::after_low;
 use crate::work::work;
 use meaning::Answer;
 use meaning::accepted;
@@ -20,7 +22,8 @@ ghost use Rattle.meaning.specs.Answer.{Outcome};
 ghost use Rattle.transform_block.specs.TransformBlock.{blockOf, transformOutcome};
 
 /// What a transform block is: its sides, a kind for each direction, its bit depth, the extended-precision switch (0 off, any other
-/// number on), and how many columns and rows are read. Any numbers.
+/// number on), how many columns and rows are read, and LFNST: its index (0 none), the set of its matrices, and whether its values go
+/// column by column (1). Any numbers.
 #[repr(C)]
 pub struct TransformBlock {
     pub width: u32,
@@ -31,10 +34,13 @@ pub struct TransformBlock {
     pub extended: u32,
     pub columns: u32,
     pub rows: u32,
+    pub lfnst: u32,
+    pub set: u32,
+    pub transposed: u32,
 }
 
 impl TransformBlock {
-    /// The most columns and rows, and the switch off.
+    /// The most columns and rows, the switch off, and no LFNST.
     pub fn new(
         width: u32,
         height: u32,
@@ -53,6 +59,9 @@ impl TransformBlock {
             extended: 0,
             columns: most_kept(horizontal, width),
             rows: most_kept(vertical, height),
+            lfnst: 0,
+            set: 0,
+            transposed: 0,
         }
     }
 }
@@ -69,5 +78,6 @@ pub fn inverse(block: TransformBlock, numbers: &mut [i32]) -> Answer
     if place < numbers.len() {
         return refused(27, place as u32);
     }
-    accepted(work(block, numbers))
+    let behind = after_low(block, numbers);
+    accepted(work(behind, numbers))
 }

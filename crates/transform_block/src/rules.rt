@@ -1,9 +1,9 @@
-// R, the last shift, and how many stages there are.
+// R, the last shift, how many stages there are, and whether LFNST is one more.
 use crate::TransformBlock;
 use long_stages::rules::reach_of;
 ghost use mathlib.Core.Path.{_≡_};
 ghost use Prim.Native.Nat.{_≤_};
-ghost use Rattle.transform_block.specs.TransformBlock.{isOn, isThin, reachOf, lastOf};
+ghost use Rattle.transform_block.specs.TransformBlock.{isOn, isThin, hasLow, reachOf, lastOf};
 
 pub fn is_on(block: TransformBlock) -> bool
     ensures { λ r. ⌜ r ≡ isOn block ⌝ }
@@ -18,6 +18,12 @@ pub fn one_stage(block: TransformBlock) -> bool
         return true;
     }
     block.height == 1
+}
+
+pub fn has_low(block: TransformBlock) -> bool
+    ensures { λ r. ⌜ r ≡ hasLow block ⌝ }
+{
+    block.lfnst != 0
 }
 
 pub fn reach(block: TransformBlock) -> u32

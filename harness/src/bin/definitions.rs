@@ -6,7 +6,7 @@
 use hoengtila_harness::direction::Direction::{self, Forward, Inverse};
 use hoengtila_harness::model::block::middle;
 use hoengtila_harness::model::weights::weight;
-use hoengtila_harness::model::{self, Answer, Shape};
+use hoengtila_harness::model::{self, Answer, Lfnst, Shape};
 use hoengtila_harness::patterns::{self, is_kept, Ends, SIXTEEN_BITS};
 use hoengtila_harness::random::{seed, Random, SEED_VARIABLE};
 use hoengtila_harness::wrong::{Wrong, KINDS, NO_DEPTH, NO_KIND, NO_SIZE, ORDER, SIZES};
@@ -28,7 +28,11 @@ use Rattle.meaning.specs.Answer.{forwardLineOutcome, inverseLineOutcome}
 use Rattle.meaning.specs.Inverse.{columnSum, middle, middleAt, rails, rowSum, residual, inverseBlock, inverseOutcome}
 use Rattle.meaning.specs.Long.{longOutcome}
 use Rattle.meaning.specs.Forward.{rowValue, columnValue, coefficient, forwardBlock, forwardOutcome}
-use Rattle.transform_block.specs.TransformBlock.{isBlockSide, isOn, isThin, sideSum, sideResidual, sideBlock, transformOutcome}
+use Rattle.transform_block.specs.TransformBlock.{isBlockSide, isOn, isThin, hasLow, isCorner, takesLow, isLow, sideSum, sideResidual, sideBlock, readAt, lowNumbers, lowSide, transformOutcome}
+use Rattle.lfnst.specs.LowFrequency.{order, input, inputs, isWide, lowSum, lowValue, isWritten, rowByRow, standing, lowAt}
+use Rattle.lfnst_tables.specs.Lfnst.{entry}
+use Rattle.lfnst_tables.specs.Lfnst4 as four
+use Rattle.lfnst_tables.specs.Lfnst8 as eight
 ";
 
 /// The definitions that the checker opens only where a proof names them.
@@ -42,7 +46,8 @@ const BLOCK: &str =
     rowValue columnValue coefficient forwardBlock";
 
 /// Beside those of a block.
-const TRANSFORM: &str = "isBlockSide isOn isThin sideSum sideResidual sideBlock";
+const TRANSFORM: &str = "isBlockSide isOn isThin hasLow isCorner takesLow isLow sideSum sideResidual sideBlock readAt lowNumbers \
+    lowSide order input inputs isWide lowSum lowValue isWritten rowByRow standing lowAt entry";
 
 // ---- writing terms
 
@@ -67,11 +72,12 @@ fn shape_term(shape: &Shape) -> String {
     )
 }
 
-fn transform_term(extended: i64, shape: &Shape) -> String {
+fn transform_term(extended: i64, lfnst: &Lfnst, shape: &Shape) -> String {
     let [width, height, horizontal, vertical, depth, columns, rows] = shape.numbers();
     format!(
         "(record {{ width = {width}; height = {height}; horizontal = {horizontal}; vertical = {vertical}; depth = {depth}; \
-         extended = {extended}; columns = {columns}; rows = {rows} }})"
+         extended = {extended}; columns = {columns}; rows = {rows}; lfnst = {}; set = {}; transposed = {} }})",
+        lfnst.index, lfnst.set, lfnst.transposed
     )
 }
 
@@ -92,7 +98,7 @@ struct Theorems {
     count: usize,
     random: Random,
     /// how many cases have each number, and how many have a rail count above 0
-    met: [usize; 31],
+    met: [usize; 32],
     railed: usize,
 }
 
@@ -102,7 +108,7 @@ impl Theorems {
             text: String::new(),
             count: 0,
             random: Random::new(seed),
-            met: [0; 31],
+            met: [0; 32],
             railed: 0,
         }
     }
@@ -133,7 +139,7 @@ impl Theorems {
     /// How often each refusal was met. An answer that no case has would be compared by nothing.
     fn met_line(&self) -> String {
         assert!(self.met[0] > 0 && self.railed > 0);
-        let numbers = [&ORDER[..], &[27, 30]].concat();
+        let numbers = [&ORDER[..], &[27, 30, 31]].concat();
         assert!(numbers.iter().all(|number| self.met[*number] > 0));
         let count = |number: &usize| format!(" {}", self.met[*number]);
         let counts: String = numbers.iter().map(count).collect();
@@ -191,13 +197,33 @@ fn long_case(t: &mut Theorems, extended: bool, shape: &Shape, input: &[i64], hel
     t.state_outcome(BLOCK, &left, &answer, &output);
 }
 
+/// The matrices of a set and an index, of 16 columns and of 48, where there are any.
+fn matrices(lfnst: &Lfnst) -> String {
+    match (lfnst.index, lfnst.set) {
+        (1..=2, 0..=3) => {
+            let k = 2 * lfnst.set + lfnst.index - 1;
+            format!(" four.of16 four.of-{k} eight.of48 eight.of-{k}")
+        }
+        _ => String::new(),
+    }
+}
+
 /// The outcome of a transform block.
 fn transform_case(t: &mut Theorems, extended: i64, shape: &Shape, numbers: &[i64]) {
+    low_case(t, extended, &Lfnst::default(), shape, numbers);
+}
+
+/// The same with LFNST.
+fn low_case(t: &mut Theorems, extended: i64, lfnst: &Lfnst, shape: &Shape, numbers: &[i64]) {
     let mut output = numbers.to_vec();
-    let answer = model::inverse_transform(shape, extended != 0, &mut output);
-    let call = format!("transformOutcome {}", transform_term(extended, shape));
+    let answer = model::inverse_transform(shape, extended != 0, lfnst, &mut output);
+    let call = format!(
+        "transformOutcome {}",
+        transform_term(extended, lfnst, shape)
+    );
     let left = format!("{call} {}", list(numbers));
-    t.state_outcome(&format!("{BLOCK} {TRANSFORM}"), &left, &answer, &output);
+    let unfolding = format!("{BLOCK} {TRANSFORM}{}", matrices(lfnst));
+    t.state_outcome(&unfolding, &left, &answer, &output);
 }
 
 // ---- random numbers that calls take
@@ -472,6 +498,7 @@ fn transforms(t: &mut Theorems) {
             transform_blocks(t, extended, &shape);
         }
     }
+    low_frequencies(t);
     // the one pair of 2 points whose middle value is clipped
     let shape = Shape::new(2, 2, 0, 0, 10);
     transform_case(t, 0, &shape, &[32767, 0, -32768, 0]);
@@ -491,6 +518,55 @@ fn transform_blocks(t: &mut Theorems, extended: i64, shape: &Shape) {
     let last = shape.columns - 1 + (shape.rows - 1) * shape.width;
     input[t.random.choose(&[0, last]) as usize] = t.random.choose(&[low - 1, high + 1]);
     transform_case(t, extended, shape, &input);
+}
+
+/// LFNST at the sizes at which its rule changes, with other numbers beyond what is read; then each refusal of it.
+fn low_frequencies(t: &mut Theorems) {
+    let sizes = [[4, 4], [8, 8], [4, 8], [8, 4], [8, 16], [16, 8], [4, 16]];
+    for (k, [width, height]) in sizes.into_iter().enumerate() {
+        for turn in 0..2 {
+            let lfnst = Lfnst {
+                index: 1 + (k as i64 + turn) % 2,
+                set: (k as i64 + 2 * turn) % 4,
+                transposed: (k as i64 / 2 + turn) % 2,
+            };
+            let (depth, part) = (
+                8 + (2 * k as i64 + 5 * turn) % 9,
+                [[4, 4], [3, 4]][turn as usize],
+            );
+            let shape = Shape::new(width, height, 0, 0, depth).keeping(part[0], part[1]);
+            let [low, high] = model::long::ends(turn != 0, depth);
+            let mut input = extremes(&mut t.random, shape.elements() as usize, [low, high]);
+            for (place, number) in input.iter_mut().enumerate() {
+                if !is_kept(&shape.into(), place) {
+                    *number = t.random.choose(&[low - 1, high + 1, 5]);
+                }
+            }
+            low_case(t, turn, &lfnst, &shape, &input);
+        }
+    }
+    for [w, h, x, y, columns, rows, index, set, transposed] in [
+        [4, 4, 0, 0, 4, 4, 3, 0, 0],
+        [4, 8, 0, 0, 4, 4, 2, 4, 1],
+        [8, 4, 1, 2, 4, 4, 0, 4, 1],
+        [4, 4, 0, 0, 4, 4, 0, 3, 2],
+        [2, 4, 0, 0, 2, 4, 1, 3, 1],
+        [16, 2, 0, 0, 4, 2, 2, 0, 0],
+        [4, 4, 1, 0, 1, 1, 1, 0, 0],
+        [4, 4, 0, 2, 1, 1, 2, 0, 0],
+        [8, 8, 0, 0, 5, 4, 1, 0, 0],
+        [8, 8, 0, 0, 4, 5, 1, 9, 0],
+        [8, 8, 0, 0, 5, 5, 0, 3, 1],
+    ] {
+        let lfnst = Lfnst {
+            index,
+            set,
+            transposed,
+        };
+        let shape = Shape::new(w, h, x, y, 10).keeping(columns, rows);
+        let numbers = t.random.numbers(shape.elements() as usize, -9, 9);
+        low_case(t, 0, &lfnst, &shape, &numbers);
+    }
 }
 
 /// Each refusal of the fields and of the length, and two at once in their order.

@@ -1,17 +1,35 @@
 //! Every transform block of a stream in one call, in place: what a decoder of H.266 does with one (`docs/DECISIONS.md`). It is a shape,
-//! whose kept columns and rows are those that are read, and the extended-precision switch.
+//! whose kept columns and rows are those that are read, the extended-precision switch, and LFNST.
 
 use super::block::nearest;
 use super::call::{first_refusal, is_kind, is_size, refusal_at, Answer, Shape};
 use super::line::inverse_sums;
 use super::long::{ends, reach};
+use crate::lfnst::LowFrequency;
+
+/// A block's three numbers of LFNST: any numbers.
+#[derive(Clone, Copy, Debug, Default)]
+pub struct Lfnst {
+    /// "0 none, 1 or 2: the index"
+    pub index: i64,
+    pub set: i64,
+    pub transposed: i64,
+}
 
 /// The inverse of a transform block: coefficients, and then residuals in their place.
-pub fn inverse_transform(shape: &Shape, extended: bool, numbers: &mut [i64]) -> Answer {
-    let refusal =
-        refusal(shape, numbers.len()).or_else(|| refusal_at(27, beyond(shape, extended, numbers)));
+pub fn inverse_transform(
+    shape: &Shape,
+    extended: bool,
+    lfnst: &Lfnst,
+    numbers: &mut [i64],
+) -> Answer {
+    let refusal = refusal(shape, lfnst, numbers.len())
+        .or_else(|| refusal_at(27, beyond(shape, extended, numbers)));
     refusal.unwrap_or_else(|| {
-        let columns = read(shape, numbers);
+        let columns = match lfnst.index {
+            0 => read(shape, numbers),
+            _ => low_frequency(shape, extended, lfnst, numbers),
+        };
         let (residuals, rails) = match is_thin(shape) {
             true => (one_stage(shape, extended, &columns.concat()), 0),
             false => two_stages(shape, extended, &columns),
@@ -31,8 +49,18 @@ fn has_no_line(kind: i64, n: i64) -> bool {
     kind != 0 && [2, 64].contains(&n)
 }
 
-/// 1, 2, 3, 4, 30, 5, 20 and 6: the first that applies.
-fn refusal(shape: &Shape, count: usize) -> Option<Answer> {
+/// "lfnst above 2, set above 3, transposed above 1 (these three with lfnst 0 too), a side below 4, or a kind other than 0"
+fn has_no_lfnst(shape: &Shape, lfnst: &Lfnst) -> bool {
+    let sides = [shape.width, shape.height];
+    let kinds = [shape.horizontal, shape.vertical];
+    lfnst.index > 2
+        || lfnst.set > 3
+        || lfnst.transposed > 1
+        || lfnst.index != 0 && (sides.iter().any(|n| *n < 4) || kinds != [0, 0])
+}
+
+/// 1, 2, 3, 4, 30, 5, 20, 31 and 6: the first that applies.
+fn refusal(shape: &Shape, lfnst: &Lfnst, count: usize) -> Option<Answer> {
     let [w, h] = [shape.width, shape.height];
     let [x, y] = [shape.horizontal, shape.vertical];
     first_refusal(&[
@@ -43,6 +71,8 @@ fn refusal(shape: &Shape, count: usize) -> Option<Answer> {
         (30, has_no_line(x, w) || has_no_line(y, h)),
         (5, !(8..=16).contains(&shape.depth)),
         (20, !shape.keeps()),
+        (20, lfnst.index != 0 && shape.columns.max(shape.rows) > 4),
+        (31, has_no_lfnst(shape, lfnst)),
         (6, count as i64 != shape.elements()),
     ])
 }
@@ -60,6 +90,31 @@ fn read(shape: &Shape, numbers: &[i64]) -> Vec<Vec<i64>> {
     let at = |x, y| numbers[(x + y * shape.width) as usize];
     let column = |x| (0..shape.rows).map(|y| at(x, y)).collect();
     (0..shape.columns).map(column).collect()
+}
+
+/// The low-frequency stage over what is read, all else being 0: as many columns and rows as a block has at most, 0 but for its values.
+fn low_frequency(shape: &Shape, extended: bool, lfnst: &Lfnst, numbers: &[i64]) -> Vec<Vec<i64>> {
+    let stage = LowFrequency {
+        width: shape.width as usize,
+        height: shape.height as usize,
+        index: lfnst.index as usize,
+        set: lfnst.set as usize,
+        transposed: lfnst.transposed == 1,
+        reach: reach(extended, shape.depth) as u32,
+    };
+    let coefficients = read(shape, numbers);
+    let coefficient = |x: usize, y: usize| {
+        let column = coefficients.get(x);
+        column
+            .and_then(|column| column.get(y))
+            .copied()
+            .unwrap_or(0)
+    };
+    let values = stage.values(coefficient);
+    let [columns, rows] = [shape.width, shape.height].map(|n| n.min(32) as usize);
+    let at = |x, y| values.get(&(x, y)).copied().unwrap_or(0);
+    let column = |x| (0..rows).map(|y| at(x, y)).collect();
+    (0..columns).map(column).collect()
 }
 
 fn is_thin(shape: &Shape) -> bool {
@@ -104,9 +159,15 @@ mod tests {
     use crate::model::{inverse, inverse_long, inverse_thin};
     use crate::random;
 
+    const NONE: Lfnst = Lfnst {
+        index: 0,
+        set: 0,
+        transposed: 0,
+    };
+
     fn taken(shape: &Shape, extended: bool, c: &[i64]) -> (i64, Vec<i64>) {
         let mut numbers = c.to_vec();
-        let answer = inverse_transform(shape, extended, &mut numbers);
+        let answer = inverse_transform(shape, extended, &NONE, &mut numbers);
         assert_eq!([answer.number, answer.place], [0, 0], "{shape:?}");
         (answer.rails, numbers)
     }
@@ -176,7 +237,7 @@ mod tests {
     fn refusals() {
         let number = |w, h, x, y, d| {
             let shape = Shape::new(w, h, x, y, d);
-            inverse_transform(&shape, false, &mut []).number
+            inverse_transform(&shape, false, &NONE, &mut []).number
         };
         assert_eq!([number(3, 3, 0, 0, 8), number(4, 0, 0, 0, 8)], [1, 2]);
         assert_eq!([number(1, 1, 0, 0, 8), number(1, 1, 9, 0, 8)], [2, 2]);
@@ -187,13 +248,72 @@ mod tests {
         let shape = Shape::new(4, 4, 1, 1, 8).keeping(2, 2);
         let mut c = vec![99_999; 16];
         for place in [0, 1, 4, 5] {
-            let answer = inverse_transform(&shape, false, &mut c);
+            let answer = inverse_transform(&shape, false, &NONE, &mut c);
             assert_eq!(answer, Answer::refused(27, place));
             c[place as usize] = 0;
         }
-        assert_eq!(inverse_transform(&shape, false, &mut c).number, 0);
+        assert_eq!(inverse_transform(&shape, false, &NONE, &mut c).number, 0);
         assert_eq!(c, [0; 16]);
         let none = shape.keeping(5, 1);
-        assert_eq!(inverse_transform(&none, false, &mut []).number, 20);
+        assert_eq!(inverse_transform(&none, false, &NONE, &mut []).number, 20);
+    }
+    /// 4 by 4 with one coefficient, by hand: the values are a row of the matrix of set 0 and index 1, times 128 and over 128, row by row.
+    #[test]
+    fn a_block_with_lfnst() {
+        let lfnst = Lfnst { index: 1, ..NONE };
+        let shape = Shape::new(4, 4, 0, 0, 10);
+        let mut c = vec![0; 16];
+        c[0] = 128;
+        let mut numbers = c.clone();
+        let answer = inverse_transform(&shape, false, &lfnst, &mut numbers);
+        assert_eq!([answer.number, answer.rails], [0, 0]);
+        let row = [
+            108, -44, -15, 1, -44, 19, 7, -1, -11, 6, 2, -1, 0, -1, -1, 0,
+        ];
+        assert_eq!(taken(&shape, false, &row), (0, numbers.clone()));
+        // transposed: column by column; and what is not read counts as 0
+        let turned = Lfnst {
+            transposed: 1,
+            ..lfnst
+        };
+        let mut spoilt = vec![i32::MAX.into(); 16];
+        spoilt[0] = 128;
+        inverse_transform(&shape.keeping(1, 1), false, &turned, &mut spoilt);
+        let column: Vec<i64> = (0..16).map(|k| row[k / 4 + k % 4 * 4]).collect();
+        assert_eq!(taken(&shape, false, &column), (0, spoilt));
+    }
+
+    #[test]
+    fn refusals_of_lfnst() {
+        let number = |w, h, [x, y]: [i64; 2], [index, set, transposed]: [i64; 3]| {
+            let shape = Shape::new(w, h, x, y, 8);
+            let shape = shape.keeping(shape.columns.min(4), shape.rows.min(4));
+            let lfnst = Lfnst {
+                index,
+                set,
+                transposed,
+            };
+            inverse_transform(&shape, false, &lfnst, &mut []).number
+        };
+        for low in [[3, 0, 0], [1, 4, 0], [2, 3, 2], [0, 4, 0], [0, 0, 2]] {
+            assert_eq!(number(4, 8, [0, 0], low), 31);
+        }
+        assert_eq!(number(2, 4, [0, 0], [1, 0, 0]), 31);
+        assert_eq!(number(4, 2, [0, 0], [1, 0, 0]), 31);
+        assert_eq!(number(4, 4, [1, 0], [1, 0, 0]), 31);
+        assert_eq!(number(4, 4, [0, 2], [2, 0, 0]), 31);
+        assert_eq!(number(4, 4, [0, 2], [0, 3, 1]), 6);
+        assert_eq!(number(64, 4, [0, 0], [2, 3, 1]), 6);
+        // 20 before 31, and 31 before 6
+        let wide = Shape::new(8, 8, 0, 0, 8).keeping(5, 4);
+        let lfnst = Lfnst {
+            index: 1,
+            set: 9,
+            transposed: 0,
+        };
+        assert_eq!(inverse_transform(&wide, false, &lfnst, &mut []).number, 20);
+        let low = wide.keeping(4, 4);
+        assert_eq!(inverse_transform(&low, false, &lfnst, &mut []).number, 31);
+        assert_eq!(inverse_transform(&low, false, &NONE, &mut []).number, 6);
     }
 }

@@ -134,13 +134,14 @@ fn orders_of_other_blocks() {
     c.close(&[0, 1, 2, 3, 4, 5, 6, 7, 8, 15, 19, 20, 27]);
 }
 
-/// 8 by 4, of which 4 columns and 2 rows are read; for 30 the sides are 64 and 2, as far as 1 and 2 leave them. No number spoils what
-/// another one spoils.
+/// 8 by 4, of which 4 columns and 2 rows are read; for 30 the sides are 64 and 2, as far as 1 and 2 leave them; for 31 the set is 4. No
+/// number spoils what another one spoils.
 fn transform_block(set: &Set) -> TransformBlock {
     let shape = shape(set);
     TransformBlock {
         width: set.pick(1, 5, set.pick(30, 64, 8)),
         height: set.pick(2, 5, set.pick(30, 2, 4)),
+        set: set.pick(31, 4, 3),
         ..TransformBlock::of(shape, 1)
     }
 }
@@ -155,7 +156,7 @@ fn orders_of_transform_blocks() {
         numbers[0] = set.pick(27, i32::MIN, 0);
         c.outcome(&TransformCall { block, numbers }).number()
     });
-    c.close(&[0, 1, 2, 3, 4, 5, 6, 20, 27, 30]);
+    c.close(&[0, 1, 2, 3, 4, 5, 6, 20, 27, 30, 31]);
 }
 
 #[test]

@@ -1,10 +1,12 @@
 //! Transform blocks: every pair of sides with every kind, depth and switch, any part of it read, what is not read full of any
-//! numbers; middle values about the ends of the range, the other calls beside it, and every set of refusals.
+//! numbers; LFNST with every index, set and flag; middle values about the ends of the range, the other calls beside it, and every set of
+//! refusals.
 
 use crate::calls::{elements, held, KINDS};
 use hoengtila_harness::call::{Call, Outcome, What};
 use hoengtila_harness::compare::Comparison;
 use hoengtila_harness::header::numbers;
+use hoengtila_harness::lfnst::LowFrequency;
 use hoengtila_harness::library::{Shape, TransformBlock};
 use hoengtila_harness::long_call::LongCall;
 use hoengtila_harness::model::long::ends;
@@ -121,6 +123,194 @@ fn transform_blocks() {
     }
     assert!(rails > 1000);
     c.close(&[0]);
+}
+
+/// Every pair of sides that LFNST takes, 4 to 64, with every index, set and flag.
+fn blocks_with_lfnst() -> Vec<TransformBlock> {
+    let sides = pairs().into_iter().filter(|[w, h]| *w.min(h) >= 4);
+    let lows = (1..=2).flat_map(|i| (0..4).flat_map(move |s| [false, true].map(|t| (i, s, t))));
+    let block = |[w, h]: [u32; 2], (index, set, transposed)| {
+        TransformBlock::of(shape_of([w, h, 0, 0, 8]).keeping(4, 4), 0).lfnst(index, set, transposed)
+    };
+    let of = |sides| lows.clone().map(move |low| block(sides, low));
+    sides.flat_map(of).collect()
+}
+
+/// With every depth and switch, and 4 columns and rows or fewer; numbers of every layout, and the ends with the signs of a column of
+/// the matrix, so that the stage clips.
+#[test]
+fn transform_blocks_with_lfnst() {
+    let mut c = Comparison::open("transform blocks with LFNST");
+    let (mut rails, mut k) = (0, 0);
+    for block_of in blocks_with_lfnst() {
+        for (depth, extended) in (8..=16).flat_map(|d| [(d, 0), (d, 1)]) {
+            let [columns, rows] = [0, 1].map(|_| {
+                let any = c.random.between(1, 4) as u32;
+                c.random.choose(&[4, 4, any])
+            });
+            let block_of = TransformBlock {
+                depth,
+                extended,
+                ..block_of.reading(columns, rows)
+            };
+            let (shape, ends) = (block_of.shape(), ends_of(&block_of));
+            let numbers = match k % 3 {
+                0 => lfnst_extremes(&mut c.random, &block_of, ends),
+                _ => block(&mut c.random, LAYOUTS[k / 3 % LAYOUTS.len()], &shape, ends),
+            };
+            rails += compare(&mut c, block_of, &numbers).answer.rails;
+            k += 1;
+        }
+    }
+    assert!(rails > 1000);
+    c.close(&[0]);
+}
+
+/// The ends of the range with the signs of a value's weights: what is read makes the largest sum that there is.
+fn lfnst_extremes(random: &mut Random, block: &TransformBlock, [low, high]: Ends) -> Vec<i64> {
+    let stage = LowFrequency {
+        width: block.width as usize,
+        height: block.height as usize,
+        index: block.lfnst as usize,
+        set: block.set as usize,
+        transposed: block.transposed == 1,
+        reach: 15,
+    };
+    let value = random.below(stage.values(|_, _| 0).len());
+    let all = random.choose(&[1, -1]);
+    let mut numbers = vec![0; elements(&block.shape())];
+    for (x, y) in (0..4).flat_map(|x| (0..4).map(move |y| (x, y))) {
+        let one = stage.values(|column, row| if (column, row) == (x, y) { 128 } else { 0 });
+        let weight = one.values().nth(value).unwrap() * all;
+        numbers[x + y * block.width as usize] = match weight.signum() {
+            1 => high,
+            -1 => low,
+            _ => 0,
+        };
+    }
+    numbers
+}
+
+/// One coefficient alone, at every place of the corner: with 4 columns and rows, and with no more than it needs.
+#[test]
+fn transform_blocks_with_lfnst_of_one_coefficient() {
+    let mut c = Comparison::open("transform blocks with LFNST, of one coefficient");
+    for block_of in blocks_with_lfnst() {
+        for (x, y) in (0..4).flat_map(|x| (0..4).map(move |y| (x, y))) {
+            let [columns, rows] = c.random.choose(&[[4, 4], [x + 1, y + 1]]);
+            let block_of = TransformBlock {
+                extended: c.random.choose(&SWITCHES),
+                ..block_of.reading(columns, rows)
+            };
+            let [low, high] = ends_of(&block_of);
+            let any = c.random.between(low, high);
+            let mut numbers = vec![0; elements(&block_of.shape())];
+            numbers[(x + y * block_of.width) as usize] = c.random.choose(&[1, -1, low, high, any]);
+            compare(&mut c, block_of, &numbers);
+        }
+    }
+    c.close(&[0]);
+}
+
+/// Every block that H.266 allows, by sides, kinds and LFNST, is accepted: sides of 2 to 64, 1 by 16 to 1 by 64 and these turned; kinds
+/// other than 0 at sides of 4 to 32 and without LFNST.
+#[test]
+fn transform_blocks_of_h266() {
+    let mut c = Comparison::open("transform blocks, all that H.266 has");
+    let thin = |[w, h]: &[u32; 2]| w.min(h) > &1 || w.max(h) >= &16;
+    let plain = pairs().into_iter().filter(thin).flat_map(|[w, h]| {
+        let kinds = |n: u32| {
+            if (4..=32).contains(&n) {
+                &KINDS[..]
+            } else {
+                &KINDS[..1]
+            }
+        };
+        let of = move |x| kinds(h).iter().map(move |y| shape_of([w, h, x, *y, 10]));
+        kinds(w).iter().flat_map(move |x| of(*x))
+    });
+    let plain = plain.map(|shape| TransformBlock::of(shape, 0));
+    let all: Vec<TransformBlock> = plain.chain(blocks_with_lfnst()).collect();
+    assert_eq!(all.len(), 14 * 14 + 14 + 25 * 16);
+    for block_of in all {
+        let (shape, ends) = (pattern_shape(&block_of), ends_of(&block_of));
+        let layout = c.random.choose(&LAYOUTS);
+        let numbers = block(&mut c.random, layout, &shape, ends);
+        compare(&mut c, block_of, &numbers);
+    }
+    c.close(&[0]);
+}
+
+/// Each number of LFNST that there is not, one side or kind that it does not take, and a column or row too many.
+#[test]
+fn refused_lfnst() {
+    let mut c = Comparison::open("transform blocks, refused for LFNST");
+    let none = [0, 5, 255, 65_536, u32::MAX];
+    for block_of in blocks_with_lfnst() {
+        let (any, off) = (
+            c.random.choose(&none),
+            c.random.choose(&[0, block_of.lfnst]),
+        );
+        let [x, y] = c.random.choose(&[[1, 0], [0, 1], [2, 2], [0, 2]]);
+        let [width, height] = c
+            .random
+            .choose(&[[2, 8], [8, 2], [2, 2], [1, 16], [32, 1], [64, 2]]);
+        let [columns, rows] = c.random.choose(&[[5, 4], [4, 5], [1, 8], [32, 32]]);
+        let mut refused = |wanted, block: TransformBlock| {
+            let count = (block.width * block.height) as usize;
+            let numbers: Vec<i32> = (0..count).map(|_| c.random.bits() as i32).collect();
+            let call = TransformCall { block, numbers };
+            let found = c.outcome(&call);
+            assert_eq!(found.answer.number, wanted, "{block:?}");
+            assert_eq!(found.output, call.numbers);
+        };
+        let [low, set, transposed] = [3, 4, 2].map(|least| any.max(least));
+        refused(
+            31,
+            TransformBlock {
+                lfnst: low,
+                ..block_of
+            },
+        );
+        refused(
+            31,
+            TransformBlock {
+                lfnst: off,
+                set,
+                ..block_of
+            },
+        );
+        refused(
+            31,
+            TransformBlock {
+                lfnst: off,
+                transposed,
+                ..block_of
+            },
+        );
+        let kinds = TransformBlock {
+            horizontal: x,
+            vertical: y,
+            ..block_of
+        };
+        let no_line = x != 0 && block_of.width == 64 || y != 0 && block_of.height == 64;
+        refused(if no_line { 30 } else { 31 }, kinds);
+        let sides = TransformBlock {
+            width,
+            height,
+            ..block_of
+        };
+        refused(31, sides.reading(width.min(4), height.min(4)));
+        refused(20, block_of.reading(columns, rows));
+        refused(
+            20,
+            TransformBlock {
+                set,
+                ..block_of.reading(columns, rows)
+            },
+        );
+    }
+    c.close(&[20, 30, 31]);
 }
 
 /// Every number of columns and of rows that can be read of each pair of sides.
@@ -249,9 +439,9 @@ fn beside(c: &mut Comparison, block: TransformBlock, input: &[i64], found: &Outc
 #[test]
 fn refused_transform_blocks() {
     let mut c = Comparison::open("transform blocks, refused for every set of reasons");
-    for (bits, extended) in (0..512).flat_map(|bits| SWITCHES.map(|extended| (bits, extended))) {
-        for _ in 0..8 {
-            let wrong = Wrong::among(&[1, 2, 3, 4, 30, 5, 20, 6, 27], bits);
+    for (bits, extended) in (0..1024).flat_map(|bits| SWITCHES.map(|extended| (bits, extended))) {
+        for _ in 0..4 {
+            let wrong = Wrong::among(&[1, 2, 3, 4, 30, 5, 20, 31, 6, 27], bits);
             let call = call_with(&mut c.random, extended, &wrong);
             let found = c.outcome(&call);
             assert!(found.answer.number == 0 || found.output == call.numbers);
@@ -291,6 +481,45 @@ fn sides(random: &mut Random, wrong: &Wrong) -> ([u32; 2], [u32; 2]) {
     ([w, h], [x, y])
 }
 
+/// LFNST where the block takes it, or none; for 31 one of its three numbers is too large, or the block takes none.
+fn with_lfnst(random: &mut Random, wrong: &Wrong, block: TransformBlock) -> TransformBlock {
+    let [index, set, transposed] = [3, 4, 2].map(|n| random.below(n) as u32);
+    let low = TransformBlock {
+        set,
+        transposed,
+        ..block
+    };
+    if wrong.applies[31] {
+        let none = random.choose(&[4, 7, 65_536, u32::MAX]);
+        return match random.below(4) {
+            0 => TransformBlock { lfnst: none, ..low },
+            1 => TransformBlock {
+                lfnst: index,
+                set: none,
+                ..low
+            },
+            2 => TransformBlock {
+                lfnst: index,
+                transposed: none,
+                ..low
+            },
+            _ => TransformBlock {
+                lfnst: index,
+                ..low
+            },
+        };
+    }
+    let takes = block.width.min(block.height) >= 4 && [block.horizontal, block.vertical] == [0, 0];
+    let corner = block.columns.max(block.rows) <= 4 || wrong.applies[20];
+    match takes && corner {
+        true => TransformBlock {
+            lfnst: index,
+            ..low
+        },
+        false => low,
+    }
+}
+
 fn call_with(random: &mut Random, extended: u32, wrong: &Wrong) -> TransformCall {
     let ([w, h], [x, y]) = sides(random, wrong);
     let depths: Vec<i64> = (8..=16).collect();
@@ -298,6 +527,7 @@ fn call_with(random: &mut Random, extended: u32, wrong: &Wrong) -> TransformCall
     let most = shape_of([w, h, x, y, depth as u32]);
     let [columns, rows] = wrong.kept(random, [most.columns.into(), most.rows.into()]);
     let block = TransformBlock::of(most.keeping(columns as u32, rows as u32), extended);
+    let block = with_lfnst(random, wrong, block);
     let count = wrong.length(random, 6, right_length(&most));
     let [low, high] = ends_of(&block);
     let mut numbers = random.numbers(count, low, high);

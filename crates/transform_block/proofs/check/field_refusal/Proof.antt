@@ -1,26 +1,28 @@
 -- `field_refusal` meets its contract: each test after those before it. Assumes nothing.
 use borrow.Author.Needs.{needs}
-use mathlib.Core.Path.{_≡_, sym, _∙_}
-use mathlib.Core.Bool.{Bool, true, false, not, _||_}
+use mathlib.Core.Path.{_≡_, sym, ap, _∙_}
+use mathlib.Core.Bool.{Bool, true, false, not, _&&_, _||_}
 use mathlib.Core.List.{List, [], _∷_}
 use Prim.Native.Nat.{_*_, _≤_}
 use native.Mathlib.Nat.{lt-of-le-of-lt, mul-le-mul}
-use borrow.Author.Tests.{eq-eqb, ne-eqb}
+use borrow.Author.Tests.{eq-eqb, ne-eqb, not-false, not-true}
 use lib.Dec.{lit<}
 use Rattle.algebra.specs.Refusals.{Refusal, numberOf}
 use Rattle.meaning.specs.Shape.{isKind, isDepthTo}
 use Rattle.meaning.specs.Answer.{test, inputTest}
-use Rattle.transform_block.specs.TransformBlock.{noLine, isReadable, handedTests}
+use Rattle.transform_block.specs.TransformBlock.{noLine, isReadable, isCorner, isLow, handedTests}
 use Rattle.transform_block.proofs.check.field_refusal.Statement.{statement}
 use Rattle.transform_block.proofs.check.field_refusal.Tie as tie
 
--- the tests from 3 on, from 30 on, and from 5 on
+-- the tests from 3 on, from 30 on, from 5 on, from 20 on, by what it asks for, and from 31 on
+abbrev low : tie.Start → List Refusal
+low s = test (not (isLow (s .args .block))) 31 ∷ inputTest (s .args .block .width * s .args .block .height) (s .args .numbers) ∷ []
+
+abbrev read : tie.Start → Bool → Bool → List Refusal
+read s kept corner = test (not (kept && corner)) 20 ∷ low s
+
 abbrev fifth : tie.Start → List Refusal
-fifth s =
-    test (not (isDepthTo 16 (s .args .block .depth))) 5
-    ∷ test (not (isReadable (s .args .block))) 20
-    ∷ inputTest (s .args .block .width * s .args .block .height) (s .args .numbers)
-    ∷ []
+fifth s = test (not (isDepthTo 16 (s .args .block .depth))) 5 ∷ read s (isReadable (s .args .block)) (isCorner (s .args .block))
 
 abbrev lines : tie.Start → List Refusal
 lines s = test (noLine (s .args .block .horizontal) (s .args .block .width) || noLine (s .args .block .vertical) (s .args .block .height)) 30 ∷ fifth s
@@ -84,17 +86,39 @@ is-depth-requires c κs = search needs
 returns-7 : tie.Need-returns-7
 returns-7 c = sym (past6 (c .before .before) ∙ rw (← c .before .is-depth .ensures, c .if7 .taken))
 
+past7 : (c : tie.Else7) → let s = c .before .before .before .before .before .before .before .before .before .before .before .before .before .before in numberOf (all s) ≡ numberOf (read s (isReadable (s .args .block)) (isCorner (s .args .block)))
+past7 c = past6 (c .before .before) ∙ rw (← c .before .is-depth .ensures, c .if7 .left)
+
 reads-requires : tie.Need-reads-requires
 reads-requires c κs = search needs
 
 returns-8 : tie.Need-returns-8
 returns-8 c =
-    sym (past6 (c .before .before .before .before) ∙ rw (← c .before .before .before .is-depth .ensures, c .before .before .if7 .left, ← c .before .reads .ensures, c .if8 .taken))
+    let s = c .before .before .before .before .before .before .before .before .before .before .before .before .before .before .before .before in
+    sym (past7 (c .before .before) ∙ ap (λ (r : Bool). numberOf (read s r (isCorner (s .args .block)))) (sym (c .before .reads .ensures) ∙ not-true _ (c .if8 .taken)))
 
-past8 : (c : tie.Else8) → let s = c .before .before .before .before .before .before .before .before .before .before .before .before .before .before .before .before in
-    numberOf (all s) ≡ numberOf (inputTest (s .args .block .width * s .args .block .height) (s .args .numbers) ∷ [])
+past8 : (c : tie.Else8) → let s = c .before .before .before .before .before .before .before .before .before .before .before .before .before .before .before .before in numberOf (all s) ≡ numberOf (read s true (isCorner (s .args .block)))
 past8 c =
-    past6 (c .before .before .before .before) ∙ rw (← c .before .before .before .is-depth .ensures, c .before .before .if7 .left, ← c .before .reads .ensures, c .if8 .left)
+    let s = c .before .before .before .before .before .before .before .before .before .before .before .before .before .before .before .before in
+    past7 (c .before .before) ∙ ap (λ (r : Bool). numberOf (read s r (isCorner (s .args .block)))) (sym (c .before .reads .ensures) ∙ not-false _ (c .if8 .left))
+
+is-corner-requires : tie.Need-is-corner-requires
+is-corner-requires c κs = search needs
+
+returns-9 : tie.Need-returns-9
+returns-9 c = sym (past8 (c .before .before) ∙ rw (← c .before .is-corner .ensures, c .if9 .taken))
+
+past9 : (c : tie.Else9) → let s = c .before .before .before .before .before .before .before .before .before .before .before .before .before .before .before .before .before .before in numberOf (all s) ≡ numberOf (low s)
+past9 c = past8 (c .before .before) ∙ rw (← c .before .is-corner .ensures, c .if9 .left)
+
+is-low-requires : tie.Need-is-low-requires
+is-low-requires c κs = search needs
+
+returns-10 : tie.Need-returns-10
+returns-10 c = sym (past9 (c .before .before) ∙ rw (← c .before .is-low .ensures, c .if10 .taken))
+
+past10 : (c : tie.Else10) → let s = c .before .before .before .before .before .before .before .before .before .before .before .before .before .before .before .before .before .before .before .before in numberOf (all s) ≡ numberOf (inputTest (s .args .block .width * s .args .block .height) (s .args .numbers) ∷ [])
+past10 c = past9 (c .before .before) ∙ rw (← c .before .is-low .ensures, c .if10 .left)
 
 cast-elements : tie.Need-cast-elements
 cast-elements c = search needs
@@ -104,16 +128,16 @@ cast-elements-2 c = search needs
 
 mul-elements : tie.Need-mul-elements
 mul-elements c =
-    let s = c .before .before .before .before .before .before .before .before .before .before .before .before .before .before .before .before .before .before in
+    let s = c .before .before .before .before .before .before .before .before .before .before .before .before .before .before .before .before .before .before .before .before .before .before in
     let w : s .args .block .width ≤ 4294967295 = search needs in
     let h : s .args .block .height ≤ 4294967295 = search needs in
     record { fits = lt-of-le-of-lt (mul-le-mul w h) (lit< tt) }
 
-returns-9 : tie.Need-returns-9
-returns-9 c = sym (past8 (c .before .before .before) ∙ rw (ne-eqb _ _ (c .if9 .taken)))
+returns-11 : tie.Need-returns-11
+returns-11 c = sym (past10 (c .before .before .before) ∙ rw (ne-eqb _ _ (c .if11 .taken)))
 
-returns-10 : tie.Need-returns-10
-returns-10 c = sym (past8 (c .before .before .before) ∙ rw (eq-eqb _ _ (c .if9 .left)))
+returns-12 : tie.Need-returns-12
+returns-12 c = sym (past10 (c .before .before .before) ∙ rw (eq-eqb _ _ (c .if11 .left)))
 
 pub field-refusal-spec : {M : Type 1} → statement M
 field-refusal-spec =
@@ -135,8 +159,12 @@ field-refusal-spec =
     returns-7
     reads-requires
     returns-8
+    is-corner-requires
+    returns-9
+    is-low-requires
+    returns-10
     cast-elements
     cast-elements-2
     mul-elements
-    returns-9
-    returns-10)
+    returns-11
+    returns-12)
