@@ -30,7 +30,7 @@ use Rattle.layout.specs.Part.{Part}
 use Rattle.layout.proofs.Alive.{column-is, mid, row-is, rail, rails-are}
 use Rattle.layout.proofs.Zipping.{size-even}
 use Rattle.inverse_stage.specs.Given.{GivenStages}
-use Rattle.inverse_stage.proofs.Work.{keeps}
+use Rattle.inverse_stage.proofs.Work.{plan-given, keeps}
 use Rattle.kernel_picks.specs.Picks.{isKernel}
 use Rattle.dct2_block.specs.Stages.{middleOf, residualBy, Inner, Asked, wholeOf}
 use Rattle.dct2_block.specs.Alone.{flatOf}
@@ -75,22 +75,22 @@ module _ {sh : Shape} {rows columns : ℕ} {c r : List ℤ} (g : GivenStages sh 
     -- the middle values of any part outside of which the block is zero
     module _ (wide high : ℕ) (part : Part w h wide high c) where
       abbrev middles : ℕ → ℕ → ℤ
-      middles x y = mid p (keeps g) c wide high part (g .kept) x y
+      middles x y = mid p (keeps (plan-given g)) c wide high part (g .kept) x y
 
       middle-so : (x y : ℕ) → x < w → middleOf h w high c x y ≡ middles x y
       unfolding inverseSum
       middle-so x y a =
-          ap (middle shortRange) ((λ t. sum high (λ i. weight (sym down t) h i y *ℤ at c (x + i * w))) ∙ column-is p (keeps g) c wide high part (g .kept) x y a)
+          ap (middle shortRange) ((λ t. sum high (λ i. weight (sym down t) h i y *ℤ at c (x + i * w))) ∙ column-is p (keeps (plan-given g)) c wide high part (g .kept) x y a)
 
       pub residual-so : (x y : ℕ) → residualBy w h (p .last) w high wide c x y ≡ residual p c x y
       unfolding inverseSum residual
       residual-so x y =
           ap (nearest (p .last)) (sum-cong wide _ _ (λ i a. (λ t. weight (sym across t) w i x *ℤ middle-so i y (omega (arith, part .narrow)) t))
-          ∙ row-is p (keeps g) c wide high part (g .kept) x y)
+          ∙ row-is p (keeps (plan-given g)) c wide high part (g .kept) x y)
 
       pub no-rail : ((x y : ℕ) → x < wide → y < h → clip shortRange (rounded (columnSum p c x y)) ≡ rounded (columnSum p c x y)) → rails p c ≡ 0
       no-rail u =
-          sym (rails-are p (keeps g) c wide high part (g .kept))
+          sym (rails-are p (keeps (plan-given g)) c wide high part (g .kept))
           ∙ zero-sum h _ (λ y b. zero-sum wide _ (λ x a. none-counts (eqZ (middles x y) (rounded (columnSum p c x y))) (eq→eqZ (middles x y) (rounded (columnSum p c x y)) (u x y a b))))
 
     -- ---- both stages
@@ -129,7 +129,7 @@ module _ {sh : Shape} {rows columns : ℕ} {c r : List ℤ} (g : GivenStages sh 
       column-one : (y : ℕ) → columnSum p c 0 y ≡ pos 64 *ℤ at c 0
       unfolding sum
       column-one y =
-          sym (column-is p (keeps g) c 1 1 one (g .kept) 0 y (omega (arith, one .narrow))) ∙ +ℤ-idl (weight (sh .vertical) h 0 y *ℤ at c (0 + 0 * w))
+          sym (column-is p (keeps (plan-given g)) c 1 1 one (g .kept) 0 y (omega (arith, one .narrow))) ∙ +ℤ-idl (weight (sh .vertical) h 0 y *ℤ at c (0 + 0 * w))
           ∙ (λ t. weight (down t) h 0 y *ℤ at c (0 + zero-mul w t)) ∙ ap (λ (z : ℤ). z *ℤ at c 0) (first-weight h y)
 
       one-clip : (y : ℕ) → clip shortRange (rounded (columnSum p c 0 y)) ≡ rounded (columnSum p c 0 y)
@@ -142,7 +142,7 @@ module _ {sh : Shape} {rows columns : ℕ} {c r : List ℤ} (g : GivenStages sh 
       unfolding residual sum
       flat-residual x y =
           ap (nearest (p .last)) (sym (+ℤ-idl (pos 64 *ℤ rounded (pos 64 *ℤ at c 0)))
-          ∙ (λ t. pos 0 +ℤ sym (first-weight w x) t *ℤ rounded (sym (column-one y) t)) ∙ (λ t. pos 0 +ℤ weight (sym across t) w 0 x *ℤ sym (one-clip y) t) ∙ row-is p (keeps g) c 1 1 one (g .kept) x y)
+          ∙ (λ t. pos 0 +ℤ sym (first-weight w x) t *ℤ rounded (sym (column-one y) t)) ∙ (λ t. pos 0 +ℤ weight (sym across t) w 0 x *ℤ sym (one-clip y) t) ∙ row-is p (keeps (plan-given g)) c 1 1 one (g .kept) x y)
 
       pub flat-rails : rails p c ≡ 0
       flat-rails = no-rail 1 1 one flat-clip

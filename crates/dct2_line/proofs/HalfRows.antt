@@ -54,7 +54,7 @@ module _ {W : ℕ → ℕ → ℤ} {h : ℕ} {t : List ℤ} (p : Half W h t) (pa
         few = omega (arith, p .few);
         there = λ i l. omega (arith, spot-two i, tab-long h a f dealt);
         held = λ i j l g. p .held i j (omega arith) (omega arith);
-        light = λ i j l g. inl (subst (λ (z : ℤ). natAbs z ≤ 90) (sym (p .right i j (omega arith) (omega arith))) (p .light i j));
+        light = λ i j l g. inl (subst (λ (z : ℤ). natAbs z ≤ 91) (sym (p .right i j (omega arith) (omega arith))) (omega (arith, p .light i j)));
       }
 
   pub pairs-hold : (o : List ℤ) → o ≡ tabulate m (λ j. shifted (pos 0) 0 (lineSum a 0 2 t (2 * h) pairs j)) → (j : ℕ) → j < m → at o j ≡ sum h (λ i. W i j *ℤ f i)

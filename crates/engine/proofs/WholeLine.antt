@@ -18,7 +18,6 @@ use Rattle.meaning.specs.Taken.{TakenLine}
 use Rattle.product.specs.Product.{spot, Laid, lineSum, shifted, Line}
 use Rattle.product.proofs.Laid.{spot-two, exact}
 use Rattle.tables.specs.Term.{term}
-use Rattle.meaning.proofs.Sizes.{even-places}
 use Rattle.tables.proofs.Terms.{laid-size}
 use Rattle.engine.specs.Lines.{Place, lineOf}
 
@@ -37,12 +36,11 @@ module _ {n m : ℕ} (q : n ≡ m) (pairs : ℕ) (two : 2 * pairs ≡ m) (few : 
   pub whole-given : Line (length y) pairs x 0 2 t (2 * m)
   whole-given =
       let room : length y ≡ m = w .room ∙ q in
-      let even : 64 / m % 2 ≡ 0 = subst (λ (k : ℕ). 64 / k % 2 ≡ 0) q (even-places n (w .size)) in
       record {
         few = few;
         there = λ i l. omega (arith, spot-two i, w .long);
         held = λ i j l g. z .held i j l (omega (arith, room));
-        light = λ i j l g. inl (laid-size forward kind z even i j l (omega (arith, room)));
+        light = λ i j l g. inl (laid-size forward kind z i j l (omega (arith, room)));
       }
 
   output : (j : ℕ) → j < m → shifted (pos 0) 0 (lineSum x 0 2 t (2 * m) pairs j) ≡ sum m (λ i. term forward kind m j i *ℤ at x i)

@@ -24,7 +24,7 @@ use Rattle.meaning.specs.Line.{forwardSum}
 use Rattle.meaning.specs.Forward.{rowShift, columnShift, rowValue, columnValue, coefficient, forwardBlock}
 use Rattle.meaning.proofs.Cases.{size-in, depth-cases}
 use Rattle.meaning.proofs.KeptPart.{columns-kept, rows-kept}
-use Rattle.meaning.proofs.Sizes.{weightSize, even-places}
+use Rattle.meaning.proofs.Sizes.{weightMost}
 use Rattle.meaning.proofs.Stages.{log-in, rowValue-fits, columnValue-fits}
 use Rattle.product.specs.Product.{Laid}
 use Rattle.product.proofs.Laid.{laid-less, block-laid, lines-given, line-is}
@@ -85,7 +85,7 @@ module _ {sh : Shape} {r t u : List ℤ} {room : ℕ} (g : Residuals sh r) (m : 
       let l = log-in w in
       let d = depth-cases (sh .depth) (g .taken .depth) in
       record {
-        lines = lines-given row-laid (laid-few (sh .horizontal) (columns-kept sh (g .taken) .within) (m .along)) (omega (arith, wide)) (omega (arith, size-in w (g .taken .width))) (λ i x y. inl (weightSize (sh .horizontal) w (even-places w (g .taken .width)) x i));
+        lines = lines-given row-laid (laid-few (sh .horizontal) (columns-kept sh (g .taken) .within) (m .along)) (omega (arith, wide)) (omega (arith, size-in w (g .taken .width))) (λ i x y. inl (weightMost (sh .horizontal) w x i));
         few = few;
         narrow = omega arith;
         held = omega (arith, mul-le-mul-left h (columns-kept sh (g .taken) .within), elements);
@@ -115,7 +115,7 @@ module _ {sh : Shape} {r t u : List ℤ} {room : ℕ} (g : Residuals sh r) (m : 
       column-put size e =
           let l = log-in h in
           record {
-            lines = lines-given (laid-few (sh .vertical) (rows-kept sh (g .taken) .within) (m .down)) zipped (omega (arith, high)) (omega (arith, size-in h (g .taken .height))) (λ i x y. inr (weightSize (sh .vertical) h (even-places h (g .taken .height)) y i));
+            lines = lines-given (laid-few (sh .vertical) (rows-kept sh (g .taken) .within) (m .down)) zipped (omega (arith, high)) (omega (arith, size-in h (g .taken .height))) (λ i x y. inr (weightMost (sh .vertical) h y i));
             few = few;
             narrow = columns-kept sh (g .taken) .within;
             held = omega (arith, mul-le-mul-right w (rows-kept sh (g .taken) .within), elements);

@@ -1,3 +1,4 @@
-// Internal: the work behind `block::inverse`, for calls that its tests and the hunt have passed, so with a `requires`.
-// Nothing but `block` depends on it. Read `inverse_stage` first, then stages.
+// Internal: the work behind `block::inverse` and the blocks of `transform_block`, for calls that tests and a hunt have passed, so with a
+// `requires`. Read `inverse_stage` first, then stages, then larger.
+pub mod larger;
 pub mod stages;

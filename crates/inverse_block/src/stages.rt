@@ -24,8 +24,8 @@ ghost use Rattle.inverse_stage.specs.Given.{GivenStages, Room};
 
 // Where every list that a stage needs has room in 128 numbers: buffers have to be zeroed, and those of `large` would take as long
 // as a small block does.
-fn small(shape: Shape, rows: usize, columns: usize, c: &[i16], r: &mut [i32]) -> u32
-    requires { ⌜ GivenStages shape rows columns (now c) (now r) × Room 128 shape rows columns ⌝ }
+pub fn small(shape: Shape, rows: usize, columns: usize, c: &[i16], r: &mut [i32]) -> u32
+    requires { ⌜ GivenStages shape rows columns (now c) (now r) × Room 128 (planOf shape) rows columns ⌝ }
     ensures { λ n. ⌜ (n ≡ rails (planOf shape) (now (c .entry))) × (now (r .exit) ≡ inverseBlock (planOf shape) (now (c .entry))) ⌝ }
 {
     let w = shape.width as usize;
@@ -55,7 +55,7 @@ fn small(shape: Shape, rows: usize, columns: usize, c: &[i16], r: &mut [i32]) ->
     rails
 }
 
-fn large(shape: Shape, rows: usize, columns: usize, c: &[i16], r: &mut [i32]) -> u32
+pub fn large(shape: Shape, rows: usize, columns: usize, c: &[i16], r: &mut [i32]) -> u32
     requires { ⌜ GivenStages shape rows columns (now c) (now r) ⌝ }
     ensures { λ n. ⌜ (n ≡ rails (planOf shape) (now (c .entry))) × (now (r .exit) ≡ inverseBlock (planOf shape) (now (c .entry))) ⌝ }
 {

@@ -20,12 +20,12 @@ use Rattle.meaning.specs.Line.{inverseSum}
 use Rattle.meaning.specs.Plan.{planOf}
 use Rattle.meaning.specs.Inverse.{rounded, inverseBlock, residual}
 use Rattle.meaning.proofs.Cases.{kind-cases}
-use Rattle.meaning.proofs.Sizes.{weightSize}
+use Rattle.meaning.proofs.Sizes.{weightMost}
 use Rattle.product.specs.Product.{Laid, lineSum, shifted, Lines}
 use Rattle.product.proofs.Laid.{block-laid, lines-given, lines-are}
 use Rattle.inverse_stage.specs.Given.{GivenStages}
 use Rattle.inverse_squares.specs.Square.{Square, downBlock, alongBlock}
-use Rattle.inverse_stage.proofs.Work.{keeps, sums, middles, middle-at}
+use Rattle.inverse_stage.proofs.Work.{plan-given, keeps, sums, middles, middle-at}
 use Rattle.layout.proofs.Alive.{column-is, row-is}
 
 -- ---- the weights of a kind
@@ -48,8 +48,8 @@ of-square {n} {sh} P q p = subst (P (sh .width)) (sym (q .height)) (subst (λ (w
 -- ---- as lines
 module _ {n pairs : ℕ} (kind : ℕ) (e : 2 * pairs ≡ n) (some : 0 < pairs) (few : pairs ≤ 16) {t : List ℤ} (weights : Of kind n pairs t) where
   module _ (c : List ℤ) {z : List ℤ} (zipped : Laid n pairs 2 (2 * n) (λ i x. at c (x + i * n)) z) where
-    pub down-lines : 64 / n % 2 ≡ 0 → Lines n n pairs t 2 (2 * n) z (2 * n)
-    down-lines even = lines-given weights zipped some few (λ i j l. inr (weightSize kind n even i l))
+    pub down-lines : Lines n n pairs t 2 (2 * n) z (2 * n)
+    down-lines = lines-given weights zipped some few (λ i j l. inr (weightMost kind n i l))
 
     pub down-sums : block n n (λ x y. shifted (pos 64) 7 (lineSum t (2 * y) (2 * n) z (2 * n) pairs x)) ≡ downBlock kind n n c
     unfolding inverseSum
@@ -59,8 +59,8 @@ module _ {n pairs : ℕ} (kind : ℕ) (e : 2 * pairs ≡ n) (some : 0 < pairs) (
     rows : Laid n pairs n 2 (λ i y. at m (i + y * n)) m
     rows = block-laid (omega arith) (omega arith)
 
-    pub along-lines : 64 / n % 2 ≡ 0 → Lines n n pairs m n 2 t (2 * n)
-    along-lines even = lines-given rows weights some few (λ i j l. inl (weightSize kind n even i j))
+    pub along-lines : Lines n n pairs m n 2 t (2 * n)
+    along-lines = lines-given rows weights some few (λ i j l. inl (weightMost kind n i j))
 
     pub along-sums : {half : ℤ} (last : ℕ) → half ≡ pos (2 ^ (last - 1))
         → block n n (λ x y. shifted half last (lineSum m (n * y) 2 t (2 * n) pairs x)) ≡ alongBlock kind n n m last
@@ -72,13 +72,13 @@ module _ {n pairs : ℕ} (kind : ℕ) (e : 2 * pairs ≡ n) (some : 0 < pairs) (
 
 -- ---- as the stages of a block
 module _ {sh : Shape} {c r : List ℤ} (g : GivenStages sh (sh .height) (sh .width) c r) where
-  pub whole-sums : downBlock (sh .vertical) (sh .width) (sh .height) c ≡ sums g
+  pub whole-sums : downBlock (sh .vertical) (sh .width) (sh .height) c ≡ sums (plan-given g)
   unfolding inverseSum
-  whole-sums = block-cong (sh .width) (sh .height) _ _ (λ x y h _. ap rounded (column-is (planOf sh) (keeps g) c (sh .width) (sh .height) (g .live) (g .kept) x y h))
+  whole-sums = block-cong (sh .width) (sh .height) _ _ (λ x y h _. ap rounded (column-is (planOf sh) (keeps (plan-given g)) c (sh .width) (sh .height) (g .live) (g .kept) x y h))
 
-  pub whole-block : alongBlock (sh .horizontal) (sh .width) (sh .height) (middles g) (20 - sh .depth) ≡ inverseBlock (planOf sh) c
+  pub whole-block : alongBlock (sh .horizontal) (sh .width) (sh .height) (middles (plan-given g)) (20 - sh .depth) ≡ inverseBlock (planOf sh) c
   unfolding inverseBlock residual inverseSum
   whole-block =
       block-cong (sh .width) (sh .height) _ _ (λ x y _ v. ap (nearest (20 - sh .depth))
-      (sum-cong (sh .width) _ _ (λ i h. ap (λ (z : ℤ). weight (sh .horizontal) (sh .width) i x *ℤ z) (middle-at g i y h v))
-      ∙ row-is (planOf sh) (keeps g) c (sh .width) (sh .height) (g .live) (g .kept) x y))
+      (sum-cong (sh .width) _ _ (λ i h. ap (λ (z : ℤ). weight (sh .horizontal) (sh .width) i x *ℤ z) (middle-at (plan-given g) i y h v))
+      ∙ row-is (planOf sh) (keeps (plan-given g)) c (sh .width) (sh .height) (g .live) (g .kept) x y))

@@ -57,7 +57,7 @@ fn any_rail(e: &[i32], m: &[i16]) -> bool
 }
 
 fn counted(e: &[i32], m: &[i16]) -> u32
-    requires { ⌜ (length (now e) ≡ length (now m)) × (length (now e) ≤ 1024) ⌝ }
+    requires { ⌜ (length (now e) ≡ length (now m)) × (length (now e) ≤ 2048) ⌝ }
     ensures { λ r. ⌜ r ≡ railsOf (length (now (e .entry))) (now (e .entry)) (now (m .entry)) ⌝ }
 {
     let mut n: u32 = 0;
@@ -73,7 +73,7 @@ fn counted(e: &[i32], m: &[i16]) -> u32
 
 // Middle values from rounded sums; hands back the rail count.
 pub fn settle(e: &[i32], m: &mut [i16]) -> u32
-    requires { ⌜ (length (now e) ≡ length (now m)) × (length (now e) ≤ 1024) ⌝ }
+    requires { ⌜ (length (now e) ≡ length (now m)) × (length (now e) ≤ 2048) ⌝ }
     ensures { λ r. ⌜ (now (m .exit) ≡ tabulate (length (now (e .entry))) (λ x. clip shortRange (at (now (e .entry)) x))) × (r ≡ railsOf (length (now (e .entry))) (now (e .entry)) (now (m .exit))) ⌝ }
 {
     clipped(e, m);

@@ -31,24 +31,24 @@ module _ (gap k : ℕ) where
       rw (q, r) (omega arith)
 
 -- ---- sizes
--- 90 * 32768
-pub product-size : {x y : ℤ} → SFits w16 x → SFits w16 y → Light x y → natAbs (x *ℤ y) ≤ 2949120
+-- 91 * 32768
+pub product-size : {x y : ℤ} → SFits w16 x → SFits w16 y → Light x y → natAbs (x *ℤ y) ≤ 2981888
 product-size {x} {y} f g light =
     ⊎-elim
-    (λ h. let q : natAbs x * natAbs y ≤ 90 * 32768 = mul-le-mul h (in-fits g .within) in omega (arith, abs-mul x y))
-    (λ h. let q : natAbs x * natAbs y ≤ 32768 * 90 = mul-le-mul (in-fits f .within) h in omega (arith, abs-mul x y))
+    (λ h. let q : natAbs x * natAbs y ≤ 91 * 32768 = mul-le-mul h (in-fits g .within) in omega (arith, abs-mul x y))
+    (λ h. let q : natAbs x * natAbs y ≤ 32768 * 91 = mul-le-mul (in-fits f .within) h in omega (arith, abs-mul x y))
     light
 
-pub pair-size : (x y : ℤ) → natAbs x ≤ 2949120 → natAbs y ≤ 2949120 → natAbs (x +ℤ y) ≤ 5898240
+pub pair-size : (x y : ℤ) → natAbs x ≤ 2981888 → natAbs y ≤ 2981888 → natAbs (x +ℤ y) ≤ 5963776
 pair-size x y h g = omega (arith, abs-add x y)
 
-pub small-pair : {z : ℤ} → natAbs z ≤ 5898240 → SFits w32 z
-small-pair {z} h = small {w = w32} {B = 5898240} (omega arith) h
+pub small-pair : {z : ℤ} → natAbs z ≤ 5963776 → SFits w32 z
+small-pair {z} h = small {w = w32} {B = 5963776} (omega arith) h
 
-pub small-total : (f : ℕ → ℤ) (n : ℕ) → n ≤ 16 → ((k : ℕ) → k < n → natAbs (f k) ≤ 5898240) → natAbs (sum n f) ≤ 94371840
+pub small-total : (f : ℕ → ℤ) (n : ℕ) → n ≤ 16 → ((k : ℕ) → k < n → natAbs (f k) ≤ 5963776) → natAbs (sum n f) ≤ 95420416
 small-total f n l h =
-    let g : n * 5898240 ≤ 16 * 5898240 = omega arith in
-    le-trans (sum-in n f 5898240 h) g
+    let g : n * 5963776 ≤ 16 * 5963776 = omega arith in
+    le-trans (sum-in n f 5963776 h) g
 
 -- ---- the sum of the pairs before k
 pub sum-none-yet : (f : ℕ → ℤ) → pos 0 ≡ sum 0 f

@@ -32,9 +32,9 @@ shifted half shift z = (z +ℤ half) >> shift
 abbrev pub pairAt : List ℤ → ℕ → ℕ → List ℤ → ℕ → ℕ → ℕ → ℤ
 pairAt a p gap b o apart k = at b (o + k * apart + 1) *ℤ at a (p + k * gap + 1) +ℤ at b (o + k * apart) *ℤ at a (p + k * gap)
 
--- either is a weight, of size at most 90
+-- either is a weight, of size at most 91, as 64 points have it
 abbrev pub Light : ℤ → ℤ → Type 0
-Light x y = (natAbs x ≤ 90) ⊎ (natAbs y ≤ 90)
+Light x y = (natAbs x ≤ 91) ⊎ (natAbs y ≤ 91)
 
 -- the pairs of one output, whose weights start at o
 pub record Column (pairs : ℕ) (a : List ℤ) (p gap : ℕ) (b : List ℤ) (o apart : ℕ) : Type 0 where

@@ -16,7 +16,7 @@ ghost use Rattle.product.specs.Product.{lineSum, shifted, pairAt, Column
 
 // a * v + b * w, exact.
 pub fn pair(a: i16, v: i16, b: i16, w: i16) -> i32
-    requires { ⌜ (natAbs (a *ℤ v) ≤ 2949120) × (natAbs (b *ℤ w) ≤ 2949120) ⌝ }
+    requires { ⌜ (natAbs (a *ℤ v) ≤ 2981888) × (natAbs (b *ℤ w) ≤ 2981888) ⌝ }
     ensures { λ r. ⌜ r ≡ a *ℤ v +ℤ b *ℤ w ⌝ }
 {
     (a as i32) * (v as i32) + (b as i32) * (w as i32)
@@ -56,7 +56,7 @@ fn products(
     s: &mut [i32; 16],
 )
     requires { ⌜ Column pairs (now a) p gap (now b) o apart × (length (now s) ≡ 16) ⌝ }
-    ensures { λ _. ⌜ ((k : ℕ) → k < pairs → (at (now (s .exit)) k ≡ pairAt (now (a .entry)) p gap (now (b .entry)) o apart k) × (natAbs (at (now (s .exit)) k) ≤ 5898240)) ⌝ }
+    ensures { λ _. ⌜ ((k : ℕ) → k < pairs → (at (now (s .exit)) k ≡ pairAt (now (a .entry)) p gap (now (b .entry)) o apart k) × (natAbs (at (now (s .exit)) k) ≤ 5963776)) ⌝ }
 {
     let mut k = 0;
     while k < pairs {
@@ -68,7 +68,7 @@ fn products(
 }
 
 fn total(s: &[i32; 16], pairs: usize) -> i32
-    requires { ⌜ (pairs ≤ 16) × ((k : ℕ) → k < pairs → natAbs (at (now s) k) ≤ 5898240) ⌝ }
+    requires { ⌜ (pairs ≤ 16) × ((k : ℕ) → k < pairs → natAbs (at (now s) k) ≤ 5963776) ⌝ }
     ensures { λ r. ⌜ r ≡ sum pairs (at (now (s .entry))) ⌝ }
 {
     let mut sum = 0;

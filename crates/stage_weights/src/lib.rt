@@ -26,7 +26,7 @@ pub fn front(t: &[i16], most: usize, u: &mut [i16])
 }
 
 // The weights of up to 8 points, for which every room is large enough.
-fn few(kind: u32, forward: bool, n: usize, u: &mut [i16])
+pub fn few(kind: u32, forward: bool, n: usize, u: &mut [i16])
     requires { ⌜ ((isSize n ≡ true) × (n ≤ 8)) × (64 ≤ length (now u)) ⌝ }
     ensures { λ _. ⌜ (length (now (u .exit)) ≡ length (now (u .entry))) × Weights (length (now (u .entry))) n forward kind n (now (u .exit)) ⌝ }
 {

@@ -1,7 +1,7 @@
 pub mod Taken
-pub mod Unread
 pub mod Hunting
 pub mod Narrowed
+pub mod PairedBlock
 pub mod Accepted
 pub mod Behind
 pub mod NearExact

@@ -1,4 +1,5 @@
--- Blocks of document 01: numbers that were narrowed stand as they were, all else is 0, and its call gives the block. Assumes nothing.
+-- Blocks of document 01: numbers that were narrowed stand as they were, all else is 0, and its call and its stages give the block.
+-- Assumes nothing.
 use native.Mathlib.Omega.{arith}
 use mathlib.Core.Path.{_≡_, refl, sym, ap, _∙_, subst}
 use mathlib.Core.Bool.{Bool, true, false, not, cond, _&&_, true≢false}
@@ -10,34 +11,53 @@ use native.Mathlib.Decide.{ℕ-discrete}
 use borrow.Author.Tests.{lt-ltb, le-ltb, ne-eqb}
 use lib.Dec.{eqb, ltb}
 use lib.IntN.{ℤ, pos, natAbs}
-use lib.ListN.{length, take, replicate, length-replicate}
+use lib.ListN.{length, take}
 use lib.Seq.{getD-take, length-take-le}
 use mir.Syntax.{w16}
 use mir.Val.{SFits}
-use Rattle.algebra.specs.Lists.{at}
+use Rattle.algebra.specs.Lists.{at, block}
 use Rattle.algebra.proofs.First.{first-past}
 use Rattle.algebra.proofs.Order.{le-parts, parts-fit}
-use Rattle.algebra.proofs.Lists.{zeros-at, column-of, row-of, row-in, place-in, every-place}
+use Rattle.algebra.proofs.Lists.{column-of, row-of, row-in, place-in, every-place}
 use Rattle.meaning.specs.declared.Shape.{Shape}
 use Rattle.meaning.specs.Shape.{isSize, isDepth, keeps}
 use Rattle.meaning.specs.Plan.{Plan, planOf, rangeOf, shortRange, reach}
 use Rattle.meaning.specs.Taken.{TakenBlock}
 use Rattle.meaning.specs.Long.{beyond}
-use Rattle.meaning.specs.Inverse.{outside, firstOutside}
-use Rattle.meaning.proofs.Cases.{and-cases, size-some, size-in, le-or-lt}
+use Rattle.meaning.specs.Answer.{Outcome, accepted}
+use Rattle.meaning.specs.Inverse.{firstOutside, rails, inverseBlock, inverseOutcome}
+use Rattle.meaning.proofs.AcceptedCalls.{inverse-done}
+use Rattle.meaning.proofs.Cases.{and-cases, size-cases, size-some, size-in, le-or-lt}
 use Rattle.meaning.proofs.LongCall.{inside}
+use Rattle.layout.proofs.Inside.{none-outside}
+use Rattle.inverse_stage.specs.Given.{GivenStages}
+use Rattle.dct2_block.specs.Stages.{middleOf, residualBy, Inner}
+use Rattle.dct2_block.proofs.Block.{worked-block, worked-rails}
 use Rattle.transform_stages.specs.Work.{Copied}
 use Rattle.transform_block.specs.declared.TransformBlock.{TransformBlock}
 use Rattle.transform_block.specs.TransformBlock.{isOn, isThin, transformPlan}
-use Rattle.transform_block.specs.Given.{TakenFields, isShort, Short}
+use Rattle.transform_block.specs.Given.{TakenFields, GivenWork, isShort}
+use Rattle.transform_block.specs.Room.{NarrowRows, Short, GivenStaged}
 use Rattle.transform_block.proofs.Taken.{columns-read, rows-read}
 
 -- ---- rows that were narrowed
-pub short-none : (c : List ℤ) (w columns : ℕ) → Short c w columns 0 (replicate 1024 (pos 0))
-short-none c w columns =
-    record { long = length-replicate 1024 (pos 0); inside = λ x y h g. absurd (not-suc-le-zero g); right = λ x y l h. zeros-at 1024 (x + y * w); below = λ k h. zeros-at 1024 k }
+pub short-none : (c r : List ℤ) (w columns : ℕ) → ((k : ℕ) → at r k ≡ pos 0) → Short c w columns 0 (length r) r
+short-none c r w columns zeros = record { long = refl; inside = λ x y h g. absurd (not-suc-le-zero g); right = λ x y l h. zeros (x + y * w); below = λ k h. zeros k }
 
-pub short-next : {c r r₁ : List ℤ} (w columns y : ℕ) → columns ≤ w → Short c w columns y r → Copied c (y * w) columns (y * w) r r₁ → Short c w columns (y + 1) r₁
+-- whole rows are one stretch
+pub short-whole : {c r r₁ : List ℤ} (w columns rows : ℕ) → columns ≡ w → ((k : ℕ) → at r k ≡ pos 0) → Copied c 0 (rows * w) 0 r r₁ → Short c w columns rows (length r) r₁
+short-whole {c} {r} {r₁} w columns rows e zeros q =
+    record {
+      long = q .long;
+      inside = λ x y h g.
+          let k = x + y * w in
+          let l : k < rows * w = place-in {x = x} {y = y} {w = w} {h = rows} (omega (arith, e)) g in
+          ap (at r₁) (sym (zero-add k)) ∙ q .done k l ∙ ap (at c) (zero-add k);
+      right = λ x y l h. absurd (omega (arith, e));
+      below = λ k h. q .after k (omega (arith, h)) ∙ zeros k;
+    }
+
+pub short-next : {c r r₁ : List ℤ} {n : ℕ} (w columns y : ℕ) → columns ≤ w → Short c w columns y n r → Copied c (y * w) columns (y * w) r r₁ → Short c w columns (y + 1) n r₁
 short-next {c} {r} {r₁} w columns y n p q =
     record {
       long = q .long ∙ p .long;
@@ -116,46 +136,121 @@ module _ (b : TransformBlock) (short : isShort b ≡ true) where
     pub few : b .height * b .width ≤ 1024
     few = mul-le-mul (size-in (b .height) (parts .1 .1 .0)) (size-in (b .width) (parts .1 .0))
 
-    module _ (r : List ℤ) (s : Short c (b .width) (b .columns) (b .rows) r) where
+    module _ (n : ℕ) (enough : length c ≤ n) (r : List ℤ) (s : Short c (b .width) (b .columns) (b .rows) n r) where
       abbrev l : List ℤ
       l = take (length c) r
 
       l-at : (k : ℕ) → k < b .height * b .width → at l k ≡ at r k
       l-at k h = getD-take (length c) r k (pos 0) (omega (arith, t .long, mul-comm (b .width) (b .height)))
 
+      l-long : length l ≡ length c
+      l-long = length-take-le (length c) r (omega (arith, s .long, enough))
+
       pub l-same : (x y : ℕ) → x < b .columns → y < b .rows → at l (x + y * b .width) ≡ at c (x + y * b .width)
       l-same x y h g = l-at (x + y * b .width) (place-in (lt-of-lt-of-le h (columns-read b c t .within)) (lt-of-lt-of-le g (rows-read b c t .within))) ∙ s .inside x y h g
 
-      pub taken : (out : List ℤ) → length out ≡ length c → TakenBlock (shaped b) l out
-      unfolding keeps
-      taken out e =
+      -- what its stages are given
+      zero-right : (x y : ℕ) → b .columns ≤ x → x < b .width → y < b .height → at l (x + y * b .width) ≡ pos 0
+      zero-right x y o h v = l-at (x + y * b .width) (place-in h v) ∙ s .right x y o h
+
+      zero-below : (x y : ℕ) → x < b .width → b .rows ≤ y → y < b .height → at l (x + y * b .width) ≡ pos 0
+      zero-below x y h u v = l-at (x + y * b .width) (place-in h v) ∙ s .below (x + y * b .width) (omega (arith, mul-le-mul-right (b .width) u))
+
+      pub given-staged : GivenStaged b l c
+      given-staged =
           record {
-            taken = record { width = parts .1 .0; height = parts .1 .1 .0; horizontal = t .horizontal; vertical = t .vertical; depth = parts .1 .1 .1; kept = t .kept };
-            long = length-take-le (length c) r (omega (arith, s .long, t .long, mul-comm (b .width) (b .height), few)) ∙ t .long;
-            room = e ∙ t .long;
+            taken = record { width = t .width; pair = t .pair; horizontal = t .horizontal; vertical = t .vertical; along = t .along; down = t .down; depth = t .depth; kept = t .kept; corner = t .corner; low = t .low; long = l-long ∙ t .long };
+            short = short;
+            part = record { narrow = columns-read b c t .within; low = rows-read b c t .within; right = zero-right; below = zero-below };
+            room = sym l-long;
           }
 
-      pub none-outside : ltb (firstOutside (planOf (shaped b)) l) (length l) ≡ false
-      none-outside =
-          le-ltb (firstOutside (planOf (shaped b)) l) (length l) (omega (arith, first-past (outside (planOf (shaped b))) l 0 each))
-        where
-          Off : ℕ → Type 0
-          Off k = outside (planOf (shaped b)) k (at l k) ≡ false
+-- ---- what `narrow` takes: numbers that the hunt has passed, and a room of zeros
+pub given-rows : (b : TransformBlock) (c r : List ℤ) → isShort b ≡ true → GivenWork b c → length c ≤ length r → ((k : ℕ) → at r k ≡ pos 0) → NarrowRows c (b .width) (b .columns) (b .rows) r
+given-rows b c r short g enough zeros =
+    let t = g .taken in
+    let low : b .rows * b .width ≤ length c = omega (arith, mul-le-mul-right (b .width) (rows-read b c t .within), t .long, mul-comm (b .width) (b .height)) in
+    record {
+      within = columns-read b c t .within;
+      there = low;
+      room = omega (arith, low, enough);
+      zeros = zeros;
+      fits = λ x y h v. sixteen (at c (x + y * b .width)) (subst (λ (r : ℕ). beyond (rangeOf r) (at c (x + y * b .width)) ≡ false) (reach-15 b short) (g .inside x y h v));
+    }
 
-          zero : (x y : ℕ) → x < b .width → y < b .height → at r (x + y * b .width) ≡ pos 0 → Off (x + y * b .width)
-          zero x y h v e = rw (l-at (x + y * b .width) (place-in h v), e)
+-- ---- what the stages of 16-bit numbers take: the smallest sizes that what is read fits in
+abbrev pub Least : ℕ → ℕ → Type 0
+Least n r = (isSize r ≡ true) × ((n ≤ r) × ((m : ℕ) → isSize m ≡ true → n ≤ m → r ≤ m))
 
-          one : (x y : ℕ) → x < b .width → y < b .height → (b .columns ≤ x) ⊎ (x < b .columns) → (b .rows ≤ y) ⊎ (y < b .rows) → Off (x + y * b .width)
-          one x y h v (inl o) _ = zero x y h v (s .right x y o h)
-          one x y h v (inr o) (inl u) = zero x y h v (s .below (x + y * b .width) (omega (arith, mul-le-mul-right (b .width) u)))
-          one x y h v (inr o) (inr u) = rw (column-of y h, row-of y h, lt-ltb x (b .columns) o, lt-ltb y (b .rows) u) (no-more (eqb (natAbs (at l (x + y * b .width))) 0))
-            where
-              no-more : (t : Bool) → not t && false ≡ false
-              no-more true = refl
-              no-more false = refl
+taken-block : (b : TransformBlock) (c r : List ℤ) → GivenStaged b c r → TakenBlock (shaped b) c r
+unfolding keeps
+taken-block b c r g =
+    let t = g .taken in
+    let p = parts b (g .short) in
+    record {
+      taken = record { width = p .1 .0; height = p .1 .1 .0; horizontal = t .horizontal; vertical = t .vertical; depth = p .1 .1 .1; kept = t .kept };
+      long = t .long;
+      room = g .room ∙ t .long;
+    }
 
-          each : (i : ℕ) → i < length l → outside (planOf (shaped b)) (0 + i) (at l i) ≡ false
-          each i h =
-              subst (λ (k : ℕ). outside (planOf (shaped b)) k (at l i) ≡ false) (sym (zero-add i))
-              (every-place (b .width) (b .height) Off (λ x y p q. one x y p q (le-or-lt (b .columns) x) (le-or-lt (b .rows) y)) i
-              (omega (arith, h, taken c refl .long, mul-comm (b .width) (b .height))))
+pub given-stages : (b : TransformBlock) (c r : List ℤ) → GivenStaged b c r → (rows columns : ℕ) → Least (b .rows) rows → Least (b .columns) columns → GivenStages (shaped b) rows columns c r
+given-stages b c r g rows columns lr lc =
+    let t = g .taken in
+    let p = parts b (g .short) in
+    record {
+      block = taken-block b c r g;
+      size-rows = lr .0;
+      size-columns = lc .0;
+      live = record {
+        narrow = lc .1 .1 (b .width) (p .1 .0) (columns-read b c t .within);
+        low = lr .1 .1 (b .height) (p .1 .1 .0) (rows-read b c t .within);
+        right = λ x y o h v. g .part .right x y (omega (arith, o, lc .1 .0)) h v;
+        below = λ x y h u v. g .part .below x y h (omega (arith, u, lr .1 .0)) v;
+      };
+      kept = g .part;
+    }
+
+-- the same where the output has been written to
+pub given-again : (b : TransformBlock) (c r r₁ : List ℤ) → length r₁ ≡ length r → GivenStaged b c r → GivenStaged b c r₁
+given-again b c r r₁ e g = record { taken = g .taken; short = g .short; part = g .part; room = e ∙ g .room }
+
+-- document 01's call refuses none of them
+pub called : (b : TransformBlock) (c r : List ℤ) → GivenStaged b c r → inverseOutcome (shaped b) c r ≡ (accepted (rails (transformPlan b) c), inverseBlock (transformPlan b) c)
+called b c r g =
+    let p = planOf (shaped b) in
+    inverse-done (shaped b) c r (taken-block b c r g, le-ltb (firstOutside p c) (length c) (omega (arith, none-outside p c (g .taken .long) {columns = b .columns} {rows = b .rows} (g .part) (omega arith) (omega arith))))
+    ∙ ap (λ (p : Plan). (accepted (rails p c), inverseBlock p c)) (sym (same-plan b (g .short)))
+
+-- ---- 4 by 4
+four-by-four : (w h : ℕ) → isSize w ≡ true → isSize h ≡ true → w * h ≤ 16 → (w ≡ 4) × (h ≡ 4)
+four-by-four w h sw sh =
+    size-cases (λ w. w * h ≤ 16 → (w ≡ 4) × (h ≡ 4))
+    (size-cases (λ h. 4 * h ≤ 16 → (_≡_ {A = ℕ} 4 4) × (h ≡ 4)) (λ _. (refl, refl)) (λ l. absurd (omega (arith, l))) (λ l. absurd (omega (arith, l))) (λ l. absurd (omega (arith, l))) h sh)
+    (λ l. absurd (omega (arith, l, size-some h sh))) (λ l. absurd (omega (arith, l, size-some h sh))) (λ l. absurd (omega (arith, l, size-some h sh))) w sw
+
+module _ (b : TransformBlock) (c r : List ℤ) (g : GivenStaged b c r) (few : length c ≤ 16) where
+  pub square : (b .width ≡ 4) × (b .height ≡ 4)
+  square = let p = parts b (g .short) in four-by-four (b .width) (b .height) (p .1 .0) (p .1 .1 .0) (omega (arith, few, g .taken .long))
+
+  -- of kind 0 both ways, without a middle value at an end of its range
+  module _ (across : b .horizontal ≡ 0) (down : b .vertical ≡ 0) where
+    four-stages : GivenStages (shaped b) (b .height) (b .width) c r
+    four-stages =
+        record {
+          block = taken-block b c r g;
+          size-rows = parts b (g .short) .1 .1 .0;
+          size-columns = parts b (g .short) .1 .0;
+          live = record { narrow = omega arith; low = omega arith; right = λ x y o h v. absurd (omega (arith, o, h)); below = λ x y h u v. absurd (omega (arith, u, v)) };
+          kept = g .part;
+        }
+
+    pub four-block : (out : List ℤ) → out ≡ block 4 4 (residualBy 4 4 (20 - b .depth) 4 4 4 c) → out ≡ inverseBlock (transformPlan b) c
+    four-block out e =
+        e ∙ (λ i. block (sym (square .0) i) (sym (square .1) i) (residualBy (sym (square .0) i) (sym (square .1) i) (20 - b .depth) (sym (square .0) i) (sym (square .1) i) (sym (square .0) i) c))
+        ∙ worked-block four-stages across down ∙ ap (λ (p : Plan). inverseBlock p c) (sym (same-plan b (g .short)))
+
+    pub four-rails : ((x y : ℕ) → x < 4 → y < 4 → Inner (middleOf 4 4 4 c x y)) → 0 ≡ rails (transformPlan b) c
+    four-rails n =
+        sym (worked-rails four-stages across down
+        (λ x y h v. subst (λ (k : ℕ). Inner (middleOf k (b .width) k c x y)) (sym (square .1)) (subst (λ (k : ℕ). Inner (middleOf 4 k 4 c x y)) (sym (square .0)) (n x y (omega (arith, square .0)) (omega (arith, square .1))))))
+        ∙ ap (λ (p : Plan). rails p c) (sym (same-plan b (g .short)))

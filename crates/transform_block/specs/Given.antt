@@ -3,10 +3,8 @@ use mathlib.Core.Path.{_≡_}
 use mathlib.Core.Bool.{Bool, true, false, not, _&&_}
 use mathlib.Core.List.{List}
 use Prim.Native.Nat.{ℕ, _+_, _*_, _≤_, _<_}
-use lib.IntN.{ℤ, pos}
+use lib.IntN.{ℤ}
 use lib.ListN.{length}
-use mir.Syntax.{w16}
-use mir.Val.{SFits}
 use Rattle.algebra.specs.Lists.{at}
 use Rattle.meaning.specs.Plan.{rangeOf}
 use Rattle.meaning.specs.Shape.{isSize, isKind, isDepth, isDepthTo}
@@ -74,25 +72,12 @@ isShort b = not (isOn b) && (isSize (b .width) && (isSize (b .height) && isDepth
 abbrev pub GivenShort : TransformBlock → List ℤ → Type 0
 GivenShort b c = GivenWork b c × (isShort b ≡ true)
 
--- `count` numbers from o on, of 16 bits each, with room at the same places
-pub record Narrow (c : List ℤ) (o count : ℕ) (r : List ℤ) : Type 0 where
-  pub there : o + count ≤ length c
-  pub room : o + count ≤ length r
-  pub fits : (k : ℕ) → k < count → SFits w16 (at c (o + k))
+-- ---- two stages with the switch off
+unfoldable pub isPaired : TransformBlock → Bool
+isPaired b = not (isOn b) && not (isThin b)
 
--- the first columns of the first rows
-pub record NarrowRows (c : List ℤ) (w columns rows : ℕ) : Type 0 where
-  pub within : columns ≤ w
-  pub there : rows * w ≤ length c
-  pub room : rows * w ≤ 1024
-  pub fits : (x y : ℕ) → x < columns → y < rows → SFits w16 (at c (x + y * w))
-
--- they stand in a room that is 0 beside and below them
-pub record Short (c : List ℤ) (w columns rows : ℕ) (r : List ℤ) : Type 0 where
-  pub long : length r ≡ 1024
-  pub inside : (x y : ℕ) → x < columns → y < rows → at r (x + y * w) ≡ at c (x + y * w)
-  pub right : (x y : ℕ) → columns ≤ x → x < w → at r (x + y * w) ≡ pos 0
-  pub below : (k : ℕ) → rows * w ≤ k → at r k ≡ pos 0
+abbrev pub GivenPaired : TransformBlock → List ℤ → Type 0
+GivenPaired b c = GivenWork b c × (isPaired b ≡ true)
 
 -- ---- one coefficient of kind 0, with two stages and the switch off
 pub record Flat (b : TransformBlock) : Type 0 where

@@ -1,2 +1,3 @@
 pub mod TransformBlock
 pub mod Given
+pub mod Room

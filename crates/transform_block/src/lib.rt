@@ -1,10 +1,13 @@
 // Every transform block of a stream whose transform is not skipped, in one call, in place: sides of 1 to 64, with LFNST or without, told
 // how many columns and rows to read. The contract of `inverse` is `transformOutcome` of specs/TransformBlock; read that first. Then
-// check (the refusals of the fields), hunt (27), low (LFNST, by `lfnst`), short (blocks of document 01, in 16 bits by its call), work
-// (which way a block takes, and the fill); the stages of the others are `transform_stages`.
+// check (the refusals of the fields), hunt (27), low (LFNST, by `lfnst`), work (which way a block takes, and the fill), short (blocks of
+// document 01), paired (other blocks of two stages with the switch off, by `transform_pairs`), long (the rest, by `transform_stages`).
 mod check;
 mod hunt;
+mod long;
 mod low;
+mod narrow;
+mod paired;
 mod rules;
 mod short;
 mod work;

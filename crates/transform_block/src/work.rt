@@ -1,13 +1,14 @@
-// Which way a block takes: a fill, document 01's call, or the stages in long numbers.
+// Which way a block takes: a fill, document 01's call, the stages by pairs, or the stages in long numbers.
 use crate::TransformBlock;
+use crate::long::long;
+use crate::paired::is_paired;
+use crate::paired::paired;
 use crate::rules::is_on;
 use crate::rules::last;
 use crate::rules::one_stage;
-use crate::rules::reach;
 use crate::short::is_short;
 use crate::short::short;
 use dct2_block::alone::flat;
-use transform_stages::stages::stages;
 ghost use mathlib.Core.Path.{_≡_};
 ghost use Rattle.meaning.specs.Answer.{Outcome, accepted};
 ghost use Rattle.transform_block.specs.TransformBlock.{transformed};
@@ -41,6 +42,9 @@ pub fn work(block: TransformBlock, numbers: &mut [i32]) -> u32
     requires { ⌜ GivenWork block (now numbers) ⌝ }
     ensures { λ r. ⌜ _≡_ {A = Outcome} (accepted r, now (numbers .exit)) (transformed block (now (numbers .entry))) ⌝ }
 {
+    if one_stage(block) {
+        return long(block, numbers);
+    }
     if is_flat(block) {
         let first = numbers[0];
         flat(last(block), first, numbers);
@@ -49,15 +53,8 @@ pub fn work(block: TransformBlock, numbers: &mut [i32]) -> u32
     if is_short(block) {
         return short(block, numbers);
     }
-    stages(
-        block.width,
-        block.height,
-        block.horizontal,
-        block.vertical,
-        block.columns,
-        block.rows,
-        reach(block),
-        last(block),
-        numbers,
-    )
+    if is_paired(block) {
+        return paired(block, numbers);
+    }
+    long(block, numbers)
 }

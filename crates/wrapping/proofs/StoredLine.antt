@@ -2,7 +2,7 @@
 use mathlib.Core.Path.{_≡_, sym, ap, _∙_, subst}
 use mathlib.Core.Bool.{Bool}
 use mathlib.Core.List.{List}
-use Prim.Native.Nat.{ℕ, _*_, _/_, _%_, _≤_, _<_}
+use Prim.Native.Nat.{ℕ, _*_, _≤_, _<_}
 use native.Mathlib.Omega.{arith}
 use lib.ListN.{length}
 use lib.IntN.{ℤ, _*ℤ_}
@@ -19,13 +19,13 @@ use Rattle.wrapping.specs.Feed.{productAt, Feed, lineSums}
 -- m is the literal size of a branch, n the caller's number of that size
 module _ {n m : ℕ} (q : n ≡ m) (pairs : ℕ) (two : 2 * pairs ≡ m) (few : m ≤ 32) (kind : ℕ) (forward : Bool) {t : List ℤ}
     (z : Laid m pairs 2 (2 * m) (λ i j. term forward kind m j i) t) (x : List ℤ) (l : length x ≡ n) where
-  pub feed : 64 / m % 2 ≡ 0 → {order : List ℕ} → Order n order → Feed (length x) (2 * m) t order
-  feed even {order} o =
+  pub feed : {order : List ℕ} → Order n order → Feed (length x) (2 * m) t order
+  feed {order} o =
       let k : length x ≡ m = l ∙ q in
       record {
         few = omega arith;
         held = λ i j h g. z .held i j (omega arith) (omega arith);
-        light = λ i j h g. laid-size forward kind z even i j (omega arith) (omega arith);
+        light = λ i j h g. laid-size forward kind z i j (omega arith) (omega arith);
         each = subst (λ (k : ℕ). Order k order) (sym l) o;
       }
 

@@ -15,11 +15,11 @@ use Rattle.wrapping.specs.Order.{Order}
 abbrev pub productAt : List ℤ → ℕ → ℕ → List ℤ → ℕ → ℤ
 productAt t apart j x i = at t (2 * j + spot apart i) *ℤ at x i
 
--- n inputs and n outputs: each weight is there and of size at most 90, and the order is one
+-- n inputs and n outputs: each weight is there and of size at most 91, and the order is one
 pub record Feed (n apart : ℕ) (t : List ℤ) (order : List ℕ) : Type 0 where
   pub few : n ≤ 32
   pub held : (i j : ℕ) → i < n → j < n → 2 * j + spot apart i < length t
-  pub light : (i j : ℕ) → i < n → j < n → natAbs (at t (2 * j + spot apart i)) ≤ 90
+  pub light : (i j : ℕ) → i < n → j < n → natAbs (at t (2 * j + spot apart i)) ≤ 91
   pub each : Order n order
 
 -- what they come to: the line in either direction, by its terms

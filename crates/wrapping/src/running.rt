@@ -20,8 +20,8 @@ ghost use Rattle.wrapping.specs.Feed.{productAt, Feed, lineSums};
 
 // The product of input i in output j.
 fn product_at(t: &[i16], apart: usize, j: usize, x: &[i16], i: usize) -> u32
-    requires { ⌜ (2 * j + spot apart i < length (now t)) × ((i < length (now x)) × (natAbs (at (now t) (2 * j + spot apart i)) ≤ 90)) ⌝ }
-    ensures { λ r. ⌜ (r ≡ wrap (productAt (now (t .entry)) apart j (now (x .entry)) i)) × (natAbs (productAt (now (t .entry)) apart j (now (x .entry)) i) ≤ 2949120) ⌝ }
+    requires { ⌜ (2 * j + spot apart i < length (now t)) × ((i < length (now x)) × (natAbs (at (now t) (2 * j + spot apart i)) ≤ 91)) ⌝ }
+    ensures { λ r. ⌜ (r ≡ wrap (productAt (now (t .entry)) apart j (now (x .entry)) i)) × (natAbs (productAt (now (t .entry)) apart j (now (x .entry)) i) ≤ 2981888) ⌝ }
 {
     product(t[2 * j + (i / 2 * apart + i % 2)], x[i])
 }
@@ -29,7 +29,7 @@ fn product_at(t: &[i16], apart: usize, j: usize, x: &[i16], i: usize) -> u32
 // What the adder holds after the products of output j.
 fn fed(t: &[i16], apart: usize, j: usize, x: &[i16], order: &[u32], start: u32) -> u32
     requires { ⌜ Feed (length (now x)) apart (now t) (now order) × (j < length (now x)) ⌝ }
-    ensures { λ r. ⌜ (r ≡ adder start (now (order .entry)) (productAt (now (t .entry)) apart j (now (x .entry)))) × (natAbs (sum (length (now (x .entry))) (productAt (now (t .entry)) apart j (now (x .entry)))) ≤ length (now (x .entry)) * 2949120) ⌝ }
+    ensures { λ r. ⌜ (r ≡ adder start (now (order .entry)) (productAt (now (t .entry)) apart j (now (x .entry)))) × (natAbs (sum (length (now (x .entry))) (productAt (now (t .entry)) apart j (now (x .entry)))) ≤ length (now (x .entry)) * 2981888) ⌝ }
 {
     let mut held = start;
     let mut k = 0;

@@ -57,13 +57,13 @@ summed c =
     ∙ pairs-line (s .a .now) (s .p) (s .gap) (s .b .now) (s .apart) (L .loop .j) (s .pairs)
 
 sum-size : (c : tie.After-total Inv-loop μ-loop) → let L = c .before .before .before .before .before in let s = L .before .args in
-    natAbs (lineSum (s .a .now) (s .p) (s .gap) (s .b .now) (s .apart) (s .pairs) (L .loop .j)) ≤ 94371840
+    natAbs (lineSum (s .a .now) (s .p) (s .gap) (s .b .now) (s .apart) (s .pairs) (L .loop .j)) ≤ 95420416
 sum-size c =
     let L = c .before .before .before .before .before in
     let s = L .before .args in
-    subst (λ (z : ℤ). natAbs z ≤ 94371840) (pairs-line (s .a .now) (s .p) (s .gap) (s .b .now) (s .apart) (L .loop .j) (s .pairs))
+    subst (λ (z : ℤ). natAbs z ≤ 95420416) (pairs-line (s .a .now) (s .p) (s .gap) (s .b .now) (s .apart) (L .loop .j) (s .pairs))
     (small-total (pairAt (s .a .now) (s .p) (s .gap) (s .b .now) (2 * L .loop .j) (s .apart)) (s .pairs) (L .before .pre .0 .few)
-    (λ k h. let e = c .before .before .products .ensures k h in subst (λ (z : ℤ). natAbs z ≤ 5898240) (e .0) (e .1)))
+    (λ k h. let e = c .before .before .products .ensures k h in subst (λ (z : ℤ). natAbs z ≤ 5963776) (e .0) (e .1)))
 
 half-is : (c : tie.Start Inv-loop μ-loop) → toZ w32 (ofZ w32 (c .args .half)) ≡ c .args .half
 half-is c = toZ-ofZ w32 (c .args .half) (c .fits .half)

@@ -19,7 +19,7 @@ use Rattle.product.proofs.products.Tie as tie
 
 abbrev Inv-loop : tie.InvT-loop
 Inv-loop a p gap b o apart pairs s₀ k₀ s k =
-    (k ≤ pairs) × (Filled 0 k s s₀ (pairAt a p gap b o apart) × ((i : ℕ) → i < k → natAbs (pairAt a p gap b o apart i) ≤ 5898240))
+    (k ≤ pairs) × (Filled 0 k s s₀ (pairAt a p gap b o apart) × ((i : ℕ) → i < k → natAbs (pairAt a p gap b o apart i) ≤ 5963776))
 
 abbrev μ-loop : tie.MeasureT-loop
 μ-loop a p gap b o apart pairs s₀ k₀ s k = pairs - k
@@ -100,20 +100,20 @@ module _ (c : tie.After-pair-arg4 Inv-loop μ-loop) where
   even = λ t. toZ-ofZ w16 (wgt x) (record { sfits = c .before .pair-arg3 .given }) t *ℤ toZ-ofZ w16 (inp i) (record { sfits = c .pair-arg4 .given }) t
 
   -- their sizes
-  odd-size : natAbs (wgt (x + 1) *ℤ inp (i + 1)) ≤ 2949120
+  odd-size : natAbs (wgt (x + 1) *ℤ inp (i + 1)) ≤ 2981888
   odd-size =
       product-size {x = wgt (x + 1)} {y = inp (i + 1)} (record { sfits = c .before .before .before .pair-arg .given }) (record { sfits = c .before .before .pair-arg2 .given })
       (In .before .before .pre .0 .odd (In .before .loop .k) (In .loop-test .taken))
 
-  even-size : natAbs (wgt x *ℤ inp i) ≤ 2949120
+  even-size : natAbs (wgt x *ℤ inp i) ≤ 2981888
   even-size =
       product-size {x = wgt x} {y = inp i} (record { sfits = c .before .pair-arg3 .given }) (record { sfits = c .pair-arg4 .given })
       (In .before .before .pre .0 .even (In .before .loop .k) (In .loop-test .taken))
 
 pair-requires : tie.Need-pair-requires Inv-loop μ-loop
 pair-requires c κs = (
-  subst (λ (z : ℤ). natAbs z ≤ 2949120) (sym (odd c)) (odd-size c),
-  subst (λ (z : ℤ). natAbs z ≤ 2949120) (sym (even c)) (even-size c),
+  subst (λ (z : ℤ). natAbs z ≤ 2981888) (sym (odd c)) (odd-size c),
+  subst (λ (z : ℤ). natAbs z ≤ 2981888) (sym (even c)) (even-size c),
 )
 
 mul-t28 : tie.Need-mul-t28 Inv-loop μ-loop
@@ -137,7 +137,7 @@ loop-again c =
       omega arith,
       (
         fill-first _ (omega (arith, p .1, p .0 .few)) (L .inv .1 .0) (toZ-ofZ w32 (c .pair .result) (search needs) ∙ c .pair .ensures ∙ (λ t. odd (c .before) t +ℤ even (c .before) t)),
-        below-more (λ i. natAbs (pairAt (s .a .now) (s .p) (s .gap) (s .b .now) (s .o) (s .apart) i) ≤ 5898240) (L .k) (L .inv .1 .1)
+        below-more (λ i. natAbs (pairAt (s .a .now) (s .p) (s .gap) (s .b .now) (s .o) (s .apart) i) ≤ 5963776) (L .k) (L .inv .1 .1)
             (pair-size (wgt (c .before) (x (c .before) + 1) *ℤ inp (c .before) (i (c .before) + 1)) (wgt (c .before) (x (c .before)) *ℤ inp (c .before) (i (c .before))) (odd-size (c .before)) (even-size (c .before))),
       ),
     )
@@ -146,7 +146,7 @@ returns : tie.Need-returns Inv-loop μ-loop
 returns c k h =
     let L = c .before .loop in
     let e : at (L .s) k ≡ _ = ap (at (L .s)) (sym (zero-add k)) ∙ L .inv .1 .0 .done k (omega (arith, c .loop-test .left)) in
-    (e, subst (λ (z : ℤ). natAbs z ≤ 5898240) (sym e) (L .inv .1 .1 k (omega (arith, c .loop-test .left))))
+    (e, subst (λ (z : ℤ). natAbs z ≤ 5963776) (sym e) (L .inv .1 .1 k (omega (arith, c .loop-test .left))))
 
 pub products-spec : {M : Type 1} → statement M
 products-spec =

@@ -33,11 +33,15 @@ past c = let s = c .before .before .before in passed-first (of-order s) (λ numb
 is-order-requires : tie.Need-is-order-requires
 is-order-requires c κs = search needs
 
+-- what was asked of the order
+asked : (c : tie.After-is-order) → let s = c .before .before .before .before in c .is-order .result ≡ isOrder (s .args .n) (s .args .order .now)
+asked c = c .is-order .ensures
+
 returns-2 : tie.Need-returns-2
-returns-2 c = sym (past (c .before .before) ∙ rw (← c .before .is-order .ensures, c .if2 .taken))
+returns-2 c = sym (past (c .before .before) ∙ rw (← asked (c .before), c .if2 .taken))
 
 returns-3 : tie.Need-returns-3
-returns-3 c = sym (past (c .before .before) ∙ rw (← c .before .is-order .ensures, c .if2 .left))
+returns-3 c = sym (past (c .before .before) ∙ rw (← asked (c .before), c .if2 .left))
 
 pub wrapped-refusal-spec : {M : Type 1} → statement M
 wrapped-refusal-spec = tie.close (tie.spec line-refusal-requires returns is-order-requires returns-2 returns-3)

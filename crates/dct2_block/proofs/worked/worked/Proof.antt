@@ -15,7 +15,6 @@ use Rattle.algebra.proofs.Machine.{arg, cast, cast-fits, val}
 use Rattle.meaning.specs.Plan.{planOf}
 use Rattle.layout.proofs.Zipping.{size-even}
 use Rattle.inverse_stage.specs.Given.{GivenStages}
-use Rattle.inverse_stage.proofs.Work.{block-long}
 use Rattle.meaning.proofs.Cases.{size-in}
 use Rattle.kernel_picks.specs.Picks.{isKernel}
 use Rattle.kernel_picks.proofs.Cases.{few-live}

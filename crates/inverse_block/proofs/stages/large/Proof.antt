@@ -12,14 +12,14 @@ use Rattle.meaning.specs.Plan.{planOf}
 use Rattle.meaning.specs.Inverse.{rails}
 use Rattle.meaning.proofs.Cases.{size-in}
 use Rattle.inverse_stage.specs.Given.{GivenStages, Room}
-use Rattle.inverse_stage.proofs.Work.{four, eight, sixteen, thirty-two, all-rooms, zip-given, settled, counted, block-long, First, first-room, first-part, settle-given, Down, Along, down-asks, down-leaves, held-long, along-asks, along-leaves}
+use Rattle.inverse_stage.proofs.Work.{plan-given, four, eight, sixteen, thirty-two, all-rooms, zip-given, settled, counted, block-long, First, first-room, first-part, settle-given, Down, Along, room-weights, down-asks, down-leaves, held-long, along-asks, along-leaves}
 use Rattle.inverse_block.proofs.stages.large.Statement.{statement}
 use Rattle.inverse_block.proofs.stages.large.Tie as tie
 
 given : (s : tie.Start) → GivenStages (s .args .shape) (s .args .rows) (s .args .columns) (s .args .c .now) (s .args .r .now)
 given s = s .pre
 
-fits : (s : tie.Start) → Room 1024 (s .args .shape) (s .args .rows) (s .args .columns)
+fits : (s : tie.Start) → Room 1024 (planOf (s .args .shape)) (s .args .rows) (s .args .columns)
 fits s = all-rooms (s .pre)
 
 cast-w : tie.Need-cast-w
@@ -62,8 +62,13 @@ zipped-long c = let e : 1024 ≡ length (zipped c) = search needs in sym e
 tall : (c : tie.After-put-1024) → isSize (start c .args .rows) ≡ true
 tall c = given (start c) .size-rows
 
-down : (c : tie.After-put-1024) → Down (given (start c)) 1024 (c .put-1024 .last .1 .1 .1 .0) (zipped c)
-down c = record { fits = fits (start c); weights = c .put-1024 .ensures .1; zipped = c .before .before .before .zip .ensures }
+down : (c : tie.After-put-1024) → Down (plan-given (given (start c))) (c .put-1024 .last .1 .1 .1 .0) (zipped c)
+down c =
+    let s = start c in
+    record {
+      weights = room-weights 1024 (s .args .shape .vertical) (s .args .shape .height) (s .args .rows) (c .put-1024 .ensures .1) (given s .live .low) (fits s .down);
+      zipped = c .before .before .before .zip .ensures;
+    }
 
 slice-aggregate-lines : tie.Need-slice-aggregate-lines
 slice-aggregate-lines c = sym (c .before .before .put-1024 .ensures .0)
@@ -102,7 +107,7 @@ lines-requires-4 : tie.Need-lines-requires-4
 lines-requires-4 c κs = let I = c .before .before .before in down-asks (down (I .before .before .before)) 16 (thirty-two (tall (I .before .before .before)) (I .if3 .left))
 
 -- what stands in r after the first stage
-first : (c : tie.Joined1) → First (given (start (c .before))) (c .if1 .r)
+first : (c : tie.Joined1) → First (plan-given (given (start (c .before)))) (c .if1 .r)
 first c =
     let d = down (c .before) in
     let s = tall (c .before) in
@@ -122,7 +127,7 @@ part-settle-start : tie.Need-part-settle-start
 part-settle-start c = omega arith
 
 part-settle-end : tie.Need-part-settle-end
-part-settle-end c = first-room (given (start (c .before .before))) (first (c .before))
+part-settle-end c = first-room (plan-given (given (start (c .before .before)))) (first (c .before))
 
 sub-settle-2 : tie.Need-sub-settle-2
 sub-settle-2 c = omega arith
@@ -137,7 +142,7 @@ settle-requires : tie.Need-settle-requires
 settle-requires c κs =
     let J = c .before .before .before in
     let W = J .before in
-    settle-given (given (start W)) (first J) (zipped W) (fits (start W)) (zipped-long W) (omega arith)
+    settle-given (plan-given (given (start W))) (first J) (zipped W) (fits (start W)) (zipped-long W) (omega arith)
 
 abbrev joined : tie.After-settle → tie.Joined1
 joined c = c .before .before .before .before
@@ -162,16 +167,16 @@ wide : (c : tie.After-put-10242) → isSize (origin (middle c) .args .columns) �
 wide c = given (origin (middle c)) .size-columns
 
 along : (c : tie.After-put-10242) → let S = middle c in
-    Along (given (origin S)) 1024 (joined S .if1 .r) (S .settle .last .1 .0) (zipped (joined S .before)) (c .put-10242 .last .1 .1 .1 .0) (c .before .before .half .result) (c .before .before .before .last-shift .result)
+    Along (plan-given (given (origin S))) 1024 (joined S .if1 .r) (S .settle .last .1 .0) (zipped (joined S .before)) (c .put-10242 .last .1 .1 .1 .0) (c .before .before .half .result) (c .before .before .before .last-shift .result)
 along c =
     let S = middle c in
     let J = joined S in
     record {
       fits = fits (origin S);
       first = first J;
-      settled = settled (given (origin S)) (first-part (given (origin S)) (first J)) (S .settle .ensures);
+      settled = settled (plan-given (given (origin S))) (first-part (plan-given (given (origin S))) (first J)) (S .settle .ensures);
       long = zipped-long (J .before);
-      weights = c .put-10242 .ensures .1;
+      weights = room-weights 1024 (origin S .args .shape .horizontal) (origin S .args .shape .width) (origin S .args .columns) (c .put-10242 .ensures .1) (given (origin S) .live .narrow) (fits (origin S) .along);
       rounding = c .before .before .half .ensures;
       shift = c .before .before .before .last-shift .ensures .0;
     }
@@ -214,7 +219,7 @@ lines-requires-8 c κs = let I = c .before .before .before in along-asks (along 
 
 -- what is handed back
 rails-are : (c : tie.After-settle) → c .settle .result ≡ rails (planOf (origin c .args .shape)) (origin c .args .c .now)
-rails-are c = counted (given (origin c)) (first-part (given (origin c)) (first (joined c))) (c .settle .ensures)
+rails-are c = counted (plan-given (given (origin c))) (first-part (plan-given (given (origin c))) (first (joined c))) (c .settle .ensures)
 
 returns : tie.Need-returns
 returns c =
@@ -223,7 +228,7 @@ returns c =
     (rails-are (middle W), along-leaves (along W) 2 (four (wide W) (I .if4 .taken)) (c .before .lines5 .ensures))
 
 same-length : tie.Need-same-length
-same-length c = block-long (given (origin (middle (c .before .before .before .before .before .before)))) (returns c .1)
+same-length c = block-long (plan-given (given (origin (middle (c .before .before .before .before .before .before))))) (returns c .1)
 
 returns-2 : tie.Need-returns-2
 returns-2 c =
@@ -232,7 +237,7 @@ returns-2 c =
     (rails-are (middle W), along-leaves (along W) 4 (eight (wide W) (I .before .if4 .left) (I .if5 .taken)) (c .before .lines6 .ensures))
 
 same-length-2 : tie.Need-same-length-2
-same-length-2 c = block-long (given (origin (middle (c .before .before .before .before .before .before .before)))) (returns-2 c .1)
+same-length-2 c = block-long (plan-given (given (origin (middle (c .before .before .before .before .before .before .before))))) (returns-2 c .1)
 
 returns-3 : tie.Need-returns-3
 returns-3 c =
@@ -241,7 +246,7 @@ returns-3 c =
     (rails-are (middle W), along-leaves (along W) 8 (sixteen (wide W) (I .before .if5 .left) (I .if6 .taken)) (c .before .lines7 .ensures))
 
 same-length-3 : tie.Need-same-length-3
-same-length-3 c = block-long (given (origin (middle (c .before .before .before .before .before .before .before .before)))) (returns-3 c .1)
+same-length-3 c = block-long (plan-given (given (origin (middle (c .before .before .before .before .before .before .before .before))))) (returns-3 c .1)
 
 returns-4 : tie.Need-returns-4
 returns-4 c =
@@ -250,7 +255,7 @@ returns-4 c =
     (rails-are (middle W), along-leaves (along W) 16 (thirty-two (wide W) (I .if6 .left)) (c .before .lines8 .ensures))
 
 same-length-4 : tie.Need-same-length-4
-same-length-4 c = block-long (given (origin (middle (c .before .before .before .before .before .before .before .before)))) (returns-4 c .1)
+same-length-4 c = block-long (plan-given (given (origin (middle (c .before .before .before .before .before .before .before .before))))) (returns-4 c .1)
 
 pub large-spec : {M : Type 1} → statement M
 large-spec =

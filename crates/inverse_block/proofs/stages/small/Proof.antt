@@ -11,14 +11,14 @@ use Rattle.meaning.specs.Plan.{planOf}
 use Rattle.meaning.specs.Inverse.{rails}
 use Rattle.meaning.proofs.Cases.{size-in}
 use Rattle.inverse_stage.specs.Given.{GivenStages, Room}
-use Rattle.inverse_stage.proofs.Work.{four, eight-of, zip-given, settled, counted, block-long, First, first-room, first-part, settle-given, Down, Along, down-asks, down-leaves, held-long, along-asks, along-leaves}
+use Rattle.inverse_stage.proofs.Work.{plan-given, four, eight-of, zip-given, settled, counted, block-long, First, first-room, first-part, settle-given, Down, Along, room-weights, down-asks, down-leaves, held-long, along-asks, along-leaves}
 use Rattle.inverse_block.proofs.stages.small.Statement.{statement}
 use Rattle.inverse_block.proofs.stages.small.Tie as tie
 
 given : (s : tie.Start) → GivenStages (s .args .shape) (s .args .rows) (s .args .columns) (s .args .c .now) (s .args .r .now)
 given s = s .pre .0
 
-fits : (s : tie.Start) → Room 128 (s .args .shape) (s .args .rows) (s .args .columns)
+fits : (s : tie.Start) → Room 128 (planOf (s .args .shape)) (s .args .rows) (s .args .columns)
 fits s = s .pre .1
 
 eight-rows : (s : tie.Start) → 4 < s .args .rows → 2 * 4 ≡ s .args .rows
@@ -64,8 +64,13 @@ zipped c = c .before .before .before .zip .last .1 .1 .1 .1 .0
 zipped-long : (c : tie.After-put-128) → length (zipped c) ≡ 128
 zipped-long c = let e : 128 ≡ length (zipped c) = search needs in sym e
 
-down : (c : tie.After-put-128) → Down (given (start c)) 128 (c .put-128 .last .1 .1 .1 .0) (zipped c)
-down c = record { fits = fits (start c); weights = c .put-128 .ensures .1; zipped = c .before .before .before .zip .ensures }
+down : (c : tie.After-put-128) → Down (plan-given (given (start c))) (c .put-128 .last .1 .1 .1 .0) (zipped c)
+down c =
+    let s = start c in
+    record {
+      weights = room-weights 128 (s .args .shape .vertical) (s .args .shape .height) (s .args .rows) (c .put-128 .ensures .1) (given s .live .low) (fits s .down);
+      zipped = c .before .before .before .zip .ensures;
+    }
 
 slice-aggregate-lines : tie.Need-slice-aggregate-lines
 slice-aggregate-lines c = search needs
@@ -86,7 +91,7 @@ lines-requires-2 : tie.Need-lines-requires-2
 lines-requires-2 c κs = let I = c .before .before .before in down-asks (down (I .before)) 4 (eight-rows (start (I .before)) (I .if1 .left))
 
 -- what stands in r after the first stage
-first : (c : tie.Joined1) → First (given (start (c .before))) (c .if1 .r)
+first : (c : tie.Joined1) → First (plan-given (given (start (c .before)))) (c .if1 .r)
 first c =
     let d = down (c .before) in
     let s = start (c .before) in
@@ -102,7 +107,7 @@ part-settle-start : tie.Need-part-settle-start
 part-settle-start c = omega arith
 
 part-settle-end : tie.Need-part-settle-end
-part-settle-end c = first-room (given (start (c .before .before))) (first (c .before))
+part-settle-end c = first-room (plan-given (given (start (c .before .before)))) (first (c .before))
 
 sub-settle-2 : tie.Need-sub-settle-2
 sub-settle-2 c = omega arith
@@ -117,7 +122,7 @@ settle-requires : tie.Need-settle-requires
 settle-requires c κs =
     let J = c .before .before .before in
     let W = J .before in
-    settle-given (given (start W)) (first J) (zipped W) (fits (start W)) (zipped-long W) (omega arith)
+    settle-given (plan-given (given (start W))) (first J) (zipped W) (fits (start W)) (zipped-long W) (omega arith)
 
 abbrev joined : tie.After-settle → tie.Joined1
 joined c = c .before .before .before .before
@@ -139,16 +144,16 @@ abbrev middle : tie.After-put-1282 → tie.After-settle
 middle c = c .before .before .before .before .before
 
 along : (c : tie.After-put-1282) → let S = middle c in
-    Along (given (origin S)) 128 (joined S .if1 .r) (S .settle .last .1 .0) (zipped (joined S .before)) (c .put-1282 .last .1 .1 .1 .0) (c .before .before .half .result) (c .before .before .before .last-shift .result)
+    Along (plan-given (given (origin S))) 128 (joined S .if1 .r) (S .settle .last .1 .0) (zipped (joined S .before)) (c .put-1282 .last .1 .1 .1 .0) (c .before .before .half .result) (c .before .before .before .last-shift .result)
 along c =
     let S = middle c in
     let J = joined S in
     record {
       fits = fits (origin S);
       first = first J;
-      settled = settled (given (origin S)) (first-part (given (origin S)) (first J)) (S .settle .ensures);
+      settled = settled (plan-given (given (origin S))) (first-part (plan-given (given (origin S))) (first J)) (S .settle .ensures);
       long = zipped-long (J .before);
-      weights = c .put-1282 .ensures .1;
+      weights = room-weights 128 (origin S .args .shape .horizontal) (origin S .args .shape .width) (origin S .args .columns) (c .put-1282 .ensures .1) (given (origin S) .live .narrow) (fits (origin S) .along);
       rounding = c .before .before .half .ensures;
       shift = c .before .before .before .last-shift .ensures .0;
     }
@@ -173,7 +178,7 @@ lines-requires-4 c κs = let I = c .before .before .before in along-asks (along 
 
 -- what is handed back
 rails-are : (c : tie.After-settle) → c .settle .result ≡ rails (planOf (origin c .args .shape)) (origin c .args .c .now)
-rails-are c = counted (given (origin c)) (first-part (given (origin c)) (first (joined c))) (c .settle .ensures)
+rails-are c = counted (plan-given (given (origin c))) (first-part (plan-given (given (origin c))) (first (joined c))) (c .settle .ensures)
 
 returns : tie.Need-returns
 returns c =
@@ -182,7 +187,7 @@ returns c =
     (rails-are (middle W), along-leaves (along W) 2 (four (given (origin (middle W)) .size-columns) (I .if2 .taken)) (c .before .lines3 .ensures))
 
 same-length : tie.Need-same-length
-same-length c = block-long (given (origin (middle (c .before .before .before .before .before .before)))) (returns c .1)
+same-length c = block-long (plan-given (given (origin (middle (c .before .before .before .before .before .before))))) (returns c .1)
 
 returns-2 : tie.Need-returns-2
 returns-2 c =
@@ -191,7 +196,7 @@ returns-2 c =
     (rails-are (middle W), along-leaves (along W) 4 (eight-columns (origin (middle W)) (I .if2 .left)) (c .before .lines4 .ensures))
 
 same-length-2 : tie.Need-same-length-2
-same-length-2 c = block-long (given (origin (middle (c .before .before .before .before .before .before)))) (returns-2 c .1)
+same-length-2 c = block-long (plan-given (given (origin (middle (c .before .before .before .before .before .before))))) (returns-2 c .1)
 
 pub small-spec : {M : Type 1} → statement M
 small-spec =

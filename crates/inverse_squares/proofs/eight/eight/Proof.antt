@@ -15,7 +15,7 @@ use Rattle.product.specs.Product.{Laid, lineSum, shifted, Lines}
 use Rattle.product.proofs.Laid.{half-is, half-rounds}
 use Rattle.inverse_stage.specs.Given.{GivenStages}
 use Rattle.inverse_squares.specs.Square.{Square, downBlock, alongBlock}
-use Rattle.inverse_stage.proofs.Work.{all-written, sums, sums-long, settled, counted, block-long}
+use Rattle.inverse_stage.proofs.Work.{plan-given, all-written, sums, sums-long, settled, counted, block-long}
 use Rattle.inverse_squares.proofs.Square.{of-square, down-lines, down-sums, along-lines, along-sums, whole-sums, whole-block}
 use Rattle.inverse_squares.proofs.eight.eight.Statement.{statement}
 use Rattle.inverse_squares.proofs.eight.eight.Tie as tie
@@ -75,14 +75,14 @@ lines-requires c κs =
     let P = c .before .before .before in
     let s = start P in (
       of-square (λ w h. Lines h w 4 (P .put .last .1 .0) 2 16 (zipped P) 16) (square s)
-          (down-lines (s .args .shape .vertical) refl (omega arith) (omega arith) (P .put .ensures .1) (s .args .c .now) (columns P) refl),
+          (down-lines (s .args .shape .vertical) refl (omega arith) (omega arith) (P .put .ensures .1) (s .args .c .now) (columns P)),
       (record { small = omega arith; short = omega arith }, omega (arith, room s)),
     )
 
 abbrev down : tie.After-lines → tie.After-put
 down c = c .before .before .before .before
 
-first : (c : tie.After-lines) → c .lines .last .1 .1 .1 .1 .1 .1 .1 .1 .1 .1 .0 ≡ sums (given (start (down c)))
+first : (c : tie.After-lines) → c .lines .last .1 .1 .1 .1 .1 .1 .1 .1 .1 .1 .0 ≡ sums (plan-given (given (start (down c))))
 first c =
     let P = down c in
     let s = start P in
@@ -93,7 +93,7 @@ first c =
     ∙ whole-sums (given s)
 
 first-long : (c : tie.After-lines) → length (c .lines .last .1 .1 .1 .1 .1 .1 .1 .1 .1 .1 .0) ≡ start (down c) .args .shape .height * start (down c) .args .shape .width
-first-long c = ap length (first c) ∙ sums-long (given (start (down c)))
+first-long c = ap length (first c) ∙ sums-long (plan-given (given (start (down c))))
 
 -- ---- between the stages
 slice-aggregate-settle : tie.Need-slice-aggregate-settle
@@ -143,7 +143,7 @@ lines-requires-2 c κs =
     let S = middle P in
     let s = origin S in (
       of-square (λ w h. Lines h w 4 (S .settle .last .1 .0) 8 2 (P .put2 .last .1 .0) 16) (square s)
-          (along-lines (s .args .horizontal) refl (omega arith) (omega arith) (P .put2 .ensures .1) (S .settle .last .1 .0) (settled-long S) refl),
+          (along-lines (s .args .horizontal) refl (omega arith) (omega arith) (P .put2 .ensures .1) (S .settle .last .1 .0) (settled-long S)),
       (half-rounds (P .before .before .half .ensures), omega (arith, first-long (work S))),
     )
 
@@ -153,8 +153,8 @@ returns c =
     let S = middle P in
     let s = origin S in
     let last = shift P in
-    let m = settled (given s) (first (work S)) (S .settle .ensures) in (
-      counted (given s) (first (work S)) (S .settle .ensures),
+    let m = settled (plan-given (given s)) (first (work S)) (S .settle .ensures) in (
+      counted (plan-given (given s)) (first (work S)) (S .settle .ensures),
       c .before .lines2 .ensures
           ∙ all-written (s .args .shape .height * s .args .shape .width) _ (work S .lines .last .1 .1 .1 .1 .1 .1 .1 .1 .1 .1 .0) (omega (arith, first-long (work S)))
           ∙ of-square (λ w h. block w h (λ x y. shifted (toZ w32 (ofZ w32 (P .before .before .half .result))) last (lineSum (S .settle .last .1 .0) (8 * y) 2 (P .put2 .last .1 .0) 16 4 x)) ≡ alongBlock (s .args .horizontal) w h (S .settle .last .1 .0) last) (square s)
@@ -164,7 +164,7 @@ returns c =
     )
 
 same-length : tie.Need-same-length
-same-length c = block-long (given (origin (middle (c .before .before .before .before .before)))) (returns c .1)
+same-length c = block-long (plan-given (given (origin (middle (c .before .before .before .before .before))))) (returns c .1)
 
 pub eight-spec : {M : Type 1} → statement M
 eight-spec =

@@ -38,7 +38,7 @@ module _ (c : tie.After-half) {t : List ℤ} (weights : Of (c .before .args .kin
 
   asks : Lines 4 4 2 m 4 2 t 8 × (Rounding held last × (16 ≤ length r))
   asks = (
-    along-lines (c .before .args .kind) refl (omega arith) (omega arith) weights m (c .before .pre .1 .1 .0) refl,
+    along-lines (c .before .args .kind) refl (omega arith) (omega arith) weights m (c .before .pre .1 .1 .0),
     (half-rounds (c .half .ensures), omega (arith, c .before .pre .1 .1 .1)),
   )
 

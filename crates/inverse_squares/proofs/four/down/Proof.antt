@@ -24,7 +24,7 @@ module _ (c : tie.After-zip) {t : List ℤ} (weights : Of (c .before .before .ar
 
   asks : Lines 4 4 2 t 2 8 z 8 × (Rounding (pos 64) 7 × (16 ≤ length (s .args .e .now)))
   asks = (
-    down-lines (s .args .kind) refl (omega arith) (omega arith) weights (s .args .c .now) (c .zip .ensures) refl,
+    down-lines (s .args .kind) refl (omega arith) (omega arith) weights (s .args .c .now) (c .zip .ensures),
     (record { small = omega arith; short = omega arith }, omega (arith, s .pre .1 .1)),
   )
 

@@ -7,7 +7,7 @@ use lib.ListN.{length}
 use Rattle.algebra.proofs.Lists.{block-length, tab-length}
 use Rattle.inverse_stage.specs.Given.{GivenStages}
 use Rattle.inverse_squares.specs.Square.{Square, downBlock, alongBlock}
-use Rattle.inverse_stage.proofs.Work.{sums, settled, counted, block-long}
+use Rattle.inverse_stage.proofs.Work.{plan-given, sums, settled, counted, block-long}
 use Rattle.inverse_squares.proofs.Square.{whole-sums, whole-block}
 use Rattle.inverse_squares.proofs.four.four.Statement.{statement}
 use Rattle.inverse_squares.proofs.four.four.Tie as tie
@@ -31,7 +31,7 @@ start c = c .before .before
 first-long : (c : tie.After-down) → length (c .down .last .1 .1 .0) ≡ 16
 first-long c = ap length (c .down .ensures) ∙ block-length 4 4 _
 
-first : (c : tie.After-down) → c .down .last .1 .1 .0 ≡ sums (given (start c))
+first : (c : tie.After-down) → c .down .last .1 .1 .0 ≡ sums (plan-given (given (start c)))
 first c =
     let s = start c in
     c .down .ensures ∙ sym (λ i. downBlock (s .args .shape .vertical) (square s .width i) (square s .height i) (s .args .c .now)) ∙ whole-sums (given s)
@@ -66,15 +66,15 @@ returns c =
     let A = c .before in
     let S = A .before .before .before .before .before in
     let s = start (downed S) in
-    let m = settled (given s) (first (downed S)) (S .settle .ensures) in (
-      counted (given s) (first (downed S)) (S .settle .ensures),
+    let m = settled (plan-given (given s)) (first (downed S)) (S .settle .ensures) in (
+      counted (plan-given (given s)) (first (downed S)) (S .settle .ensures),
       A .along .ensures
           ∙ sym (λ i. alongBlock (s .args .shape .horizontal) (square s .width i) (square s .height i) (sym m i) (sym (A .before .before .last-shift .ensures .0) i))
           ∙ whole-block (given s),
     )
 
 same-length : tie.Need-same-length
-same-length c = block-long (given (start (downed (c .before .before .before .before .before .before)))) (returns c .1)
+same-length c = block-long (plan-given (given (start (downed (c .before .before .before .before .before .before))))) (returns c .1)
 
 pub four-spec : {M : Type 1} → statement M
 four-spec =

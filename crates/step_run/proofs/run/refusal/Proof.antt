@@ -4,7 +4,7 @@ use Rattle.step_run.proofs.run.refusal.Statement.{statement}
 use Rattle.step_run.proofs.run.refusal.Tie as tie
 
 returns : tie.Need-returns
-returns c = rw (lt-ltb _ _ (c .if1 .taken))
+returns c = rw (lt-ltb 2048 (c .before .args .steps) (c .if1 .taken))
 
 returns-2 : tie.Need-returns-2
 returns-2 c = rw (le-ltb _ _ (c .before .if1 .left), lt-ltb _ _ (c .if2 .taken))

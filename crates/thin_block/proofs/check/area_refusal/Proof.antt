@@ -10,7 +10,7 @@ returns-2 : tie.Need-returns-2
 returns-2 c = rw (eq-eqb _ _ (c .before .if1 .left), lt-ltb _ _ (c .if2 .taken))
 
 returns-3 : tie.Need-returns-3
-returns-3 c = rw (eq-eqb _ _ (c .before .before .if1 .left), le-ltb _ _ (c .before .if2 .left), lt-ltb _ _ (c .if3 .taken))
+returns-3 c = let s = c .before .before .before .args in rw (eq-eqb _ _ (c .before .before .if1 .left), le-ltb _ _ (c .before .if2 .left), lt-ltb (s .second) (s .n) (c .if3 .taken))
 
 returns-4 : tie.Need-returns-4
 returns-4 c = rw (eq-eqb _ _ (c .before .before .if1 .left), le-ltb _ _ (c .before .if2 .left), le-ltb _ _ (c .if3 .left))

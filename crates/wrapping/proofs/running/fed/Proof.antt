@@ -15,7 +15,7 @@ use Rattle.wrapping.proofs.running.fed.Tie as tie
 abbrev Inv-loop : tie.InvT-loop
 Inv-loop t apart j x order start held₀ k₀ held k =
     (k ≤ length order) × ((adder held (drop k order) (productAt t apart j x) ≡ adder start order (productAt t apart j x))
-    × (sumOver order (λ i. natAbs (productAt t apart j x i)) ≤ k * 2949120 + sumOver (drop k order) (λ i. natAbs (productAt t apart j x i))))
+    × (sumOver order (λ i. natAbs (productAt t apart j x i)) ≤ k * 2981888 + sumOver (drop k order) (λ i. natAbs (productAt t apart j x i))))
 
 abbrev μ-loop : tie.MeasureT-loop
 μ-loop t apart j x order start held₀ k₀ held k = length order - k
@@ -76,7 +76,7 @@ returns c =
     let p : ℕ → ℤ = productAt (S .args .t .now) (S .args .apart) (S .args .j) (S .args .x .now) in
     let end : length l ≤ L .k = c .loop-test .left in (
       sym (adder-end l p (L .held) (L .k) end) ∙ L .inv .1 .0,
-      sum-size (S .pre .0 .each) p (length (S .args .x .now) * 2949120) (omega (arith, L .inv .1 .1, over-end l (λ i. natAbs (p i)) (L .k) end, S .pre .0 .each .long)),
+      sum-size (S .pre .0 .each) p (length (S .args .x .now) * 2981888) (omega (arith, L .inv .1 .1, over-end l (λ i. natAbs (p i)) (L .k) end, S .pre .0 .each .long)),
     )
 
 pub fed-spec : {M : Type 1} → statement M

@@ -21,7 +21,7 @@ slice-aggregate-line-of c = search needs
 line-of-requires : tie.Need-line-of-requires
 line-of-requires c κs =
     let S = c .before .before .before .before .before in
-    (feed (c .before .before .before .if1 .taken) 2 refl (omega arith) (S .args .kind) (S .args .forward) (c .before .before .zipped-4 .ensures) (S .args .x .now) (S .pre .0 .long) refl (S .pre .1), S .pre .0 .room ∙ sym (S .pre .0 .long))
+    (feed (c .before .before .before .if1 .taken) 2 refl (omega arith) (S .args .kind) (S .args .forward) (c .before .before .zipped-4 .ensures) (S .args .x .now) (S .pre .0 .long) (S .pre .1), S .pre .0 .room ∙ sym (S .pre .0 .long))
 
 zipped-8-requires : tie.Need-zipped-8-requires
 zipped-8-requires c κs = search needs
@@ -32,7 +32,7 @@ slice-aggregate-line-of-2 c = search needs
 line-of-requires-2 : tie.Need-line-of-requires-2
 line-of-requires-2 c κs =
     let S = c .before .before .before .before .before .before in
-    (feed (c .before .before .before .if2 .taken) 4 refl (omega arith) (S .args .kind) (S .args .forward) (c .before .before .zipped-8 .ensures) (S .args .x .now) (S .pre .0 .long) refl (S .pre .1), S .pre .0 .room ∙ sym (S .pre .0 .long))
+    (feed (c .before .before .before .if2 .taken) 4 refl (omega arith) (S .args .kind) (S .args .forward) (c .before .before .zipped-8 .ensures) (S .args .x .now) (S .pre .0 .long) (S .pre .1), S .pre .0 .room ∙ sym (S .pre .0 .long))
 
 zipped-16-requires : tie.Need-zipped-16-requires
 zipped-16-requires c κs = search needs
@@ -43,7 +43,7 @@ slice-aggregate-line-of-3 c = search needs
 line-of-requires-3 : tie.Need-line-of-requires-3
 line-of-requires-3 c κs =
     let S = c .before .before .before .before .before .before .before in
-    (feed (c .before .before .before .if3 .taken) 8 refl (omega arith) (S .args .kind) (S .args .forward) (c .before .before .zipped-16 .ensures) (S .args .x .now) (S .pre .0 .long) refl (S .pre .1), S .pre .0 .room ∙ sym (S .pre .0 .long))
+    (feed (c .before .before .before .if3 .taken) 8 refl (omega arith) (S .args .kind) (S .args .forward) (c .before .before .zipped-16 .ensures) (S .args .x .now) (S .pre .0 .long) (S .pre .1), S .pre .0 .room ∙ sym (S .pre .0 .long))
 
 put-1024-requires : tie.Need-put-1024-requires
 put-1024-requires c κs = (c .before .before .before .before .before .pre .0 .size, refl)
@@ -55,7 +55,7 @@ line-of-requires-4 : tie.Need-line-of-requires-4
 line-of-requires-4 c κs =
     let S = c .before .before .before .before .before .before .before .before in
     let e = last S (c .before .before .before .before .before .before .if1 .left) (c .before .before .before .before .before .if2 .left) (c .before .before .before .before .if3 .left) in
-    (feed e 16 refl (omega arith) (S .args .kind) (S .args .forward) (all-32 (S .args .n) (S .args .kind) (S .args .forward) e (c .before .before .put-1024 .ensures .1)) (S .args .x .now) (S .pre .0 .long) refl (S .pre .1), S .pre .0 .room ∙ sym (S .pre .0 .long))
+    (feed e 16 refl (omega arith) (S .args .kind) (S .args .forward) (all-32 (S .args .n) (S .args .kind) (S .args .forward) e (c .before .before .put-1024 .ensures .1)) (S .args .x .now) (S .pre .0 .long) (S .pre .1), S .pre .0 .room ∙ sym (S .pre .0 .long))
 
 same-length : tie.Need-same-length
 same-length c = search needs

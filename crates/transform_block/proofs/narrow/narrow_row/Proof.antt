@@ -13,8 +13,8 @@ use mir.ValLaws.{toZ-ofZ}
 use Rattle.algebra.specs.Lists.{at}
 use Rattle.algebra.proofs.Lists.{Filled, fill-none, fill-next}
 use Rattle.algebra.proofs.Word.{Is, castV! }
-use Rattle.transform_block.proofs.short.narrow_row.Statement.{statement}
-use Rattle.transform_block.proofs.short.narrow_row.Tie as tie
+use Rattle.transform_block.proofs.narrow.narrow_row.Statement.{statement}
+use Rattle.transform_block.proofs.narrow.narrow_row.Tie as tie
 
 abbrev Inv-loop : tie.InvT-loop
 Inv-loop c o count room₀ e₀ k₀ room k = (o ≤ k) × ((k ≤ o + count) × Filled o (k - o) room room₀ (λ i. at c (o + i)))

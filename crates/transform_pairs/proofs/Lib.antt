@@ -1,0 +1,4 @@
+pub mod Unread
+pub mod Pairing
+pub mod Reading
+pub mod Whole
