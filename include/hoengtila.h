@@ -208,7 +208,7 @@ typedef struct {
 hoengtila_transform_block hoengtila_transform_block_of(uint32_t width, uint32_t height, uint32_t horizontal, uint32_t vertical, uint32_t depth);
 
 /* The inverse in place: `numbers` has width * height coefficients, row by row, and then the residuals. What is read is the first `columns`
- * columns and the first `rows` rows: coefficients beyond them are not looked at, whatever they are, and count as 0. Those that are read,
+ * columns and the first `rows` rows: coefficients beyond them may be anything, and count as 0. Those that are read,
  * and middle values, are -2^R .. 2^R - 1: with the switch on R is max(15, min(20, depth + 6)), with it off 15. Two stages as in
  * hoengtila_block_inverse_long, and the last shift 5 + R - depth; at every depth, also with the switch off. A block with a side of 1 has one
  * stage, the line of its other side, with the last shift 6 + R - depth, no middle values and the rail count 0; the kind of the side of 1

@@ -1,4 +1,4 @@
-// Which way a block takes: a fill, document 01's call, the stages by pairs, or the stages in long numbers.
+// Which way a block takes: the stages in long numbers, a fill, 16-bit numbers in a room of its size, or the stages by pairs.
 use crate::TransformBlock;
 use crate::long::long;
 use crate::paired::is_paired;
