@@ -64,8 +64,8 @@ extern "C" {
 /* ---- The version ---- */
 
 /* As a number, 10000 times the first number, 100 times the second, and the third; and as text. */
-#define HOENGTILA_VERSION 300
-#define HOENGTILA_VERSION_STRING "0.3.0"
+#define HOENGTILA_VERSION 301
+#define HOENGTILA_VERSION_STRING "0.3.1"
 
 /* The version of the library that is linked, which is HOENGTILA_VERSION of its own header. Before version 1 a program may call it where
  * HOENGTILA_VERSION / 100 of the header that it was compiled with is the same. Nothing is refused. */

@@ -1,6 +1,6 @@
 //! The lists of steps of the forward DST-VII (document 02, Wish 6), made by folding, and written down as they are stored: as
 //! definitions (`crates/steps/specs/Lists.antt`), as data (`crates/step_lists/src/stored.rt`) and as the command prints them
-//! (`crates/print_steps/stdout`).
+//! (`crates/blocks_steps/stdout`).
 //!
 //! With L = 2N+1 = p*q the rows fall into three classes. Rows whose 2i+1 neither p nor q divides are folded over their first
 //! N-h places, h = (q-1)/2; those that p divides over the first h, those that only q divides over the first (p-1)/2. Inputs are

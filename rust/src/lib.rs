@@ -20,7 +20,7 @@
 //! that a program that calls none of them needs no archive.
 
 /// The version of this crate and of the library that it is for: 10000 times the first number, 100 times the second, and the third.
-pub const VERSION: u32 = 300;
+pub const VERSION: u32 = 301;
 
 /// What a block is: its sides, a kind for each direction (0 DCT-II, 1 DST-VII, 2 DCT-VIII), its bit depth, and how many
 /// columns and rows are kept.

@@ -9,6 +9,7 @@ ghost use mathlib.Core.Path.{_≡_};
 ghost use Rattle.meaning.specs.Answer.{Outcome};
 ghost use Rattle.meaning.specs.Forward.{forwardOutcome};
 ghost use Rattle.meaning.specs.Inverse.{inverseOutcome};
+ghost use Rattle.block.specs.Answered.{answerOf};
 
 // The shape, number by number. A struct or a slice that is handed on as it came the compiler copies in vectors, which wait for the
 // stores that have just written it; so `inverse` reads `coefficients[0..]`, which is the same, too.
@@ -26,6 +27,18 @@ fn fields(shape: Shape) -> Shape
     }
 }
 
+// The answer, of which number and place stand in one number: so they are stored as one, as a caller in C reads them. What was stored
+// as two numbers and is read as one has to wait, for as long as a quarter of a small block.
+fn answered(code: u64, rails: u32) -> Answer
+    ensures { λ r. ⌜ r ≡ answerOf code rails ⌝ }
+{
+    Answer {
+        number: (code % 4294967296) as u32,
+        place: (code / 4294967296) as u32,
+        rails,
+    }
+}
+
 /// The inverse of a block: residuals from coefficients, with the rail count. Any numbers, any buffers.
 pub fn inverse(shape: Shape, coefficients: &[i16], residuals: &mut [i32]) -> Answer
     ensures { λ r. ⌜ _≡_ {A = Outcome} (r, now (residuals .exit)) (inverseOutcome shape (now (coefficients .entry)) (now (residuals .entry))) ⌝ }
@@ -33,19 +46,19 @@ pub fn inverse(shape: Shape, coefficients: &[i16], residuals: &mut [i32]) -> Ans
     let c = &coefficients[0..];
     let s = fields(shape);
     let number = block_refusal(s, false, c.len(), residuals.len());
-    if number != 0 {
-        return refused(number, 0);
+    let mut code = number as u64;
+    let mut rails: u32 = 0;
+    if number == 0 {
+        let rows = inverse_hunt::live::rows(s, c);
+        let columns = inverse_hunt::live::columns(s, rows, c);
+        let place = inverse_hunt::hunt::first_outside(s, columns, rows, c);
+        if place < c.len() {
+            code = place as u64 * 4294967296 + 8;
+        } else if !dct2_block::kernels::by_kernels(s, rows, columns, c, residuals) {
+            rails = inverse_block::stages::stages(s, rows, columns, c, residuals);
+        }
     }
-    let rows = inverse_hunt::live::rows(s, c);
-    let columns = inverse_hunt::live::columns(s, rows, c);
-    let place = inverse_hunt::hunt::first_outside(s, columns, rows, c);
-    if place < c.len() {
-        return refused(8, place as u32);
-    }
-    if dct2_block::kernels::by_kernels(s, rows, columns, c, residuals) {
-        return accepted(0);
-    }
-    accepted(inverse_block::stages::stages(s, rows, columns, c, residuals))
+    answered(code, rails)
 }
 
 /// The forward block: residuals to coefficients. Refusals 1 to 5, 20, 6, 7, then 9.

@@ -51,7 +51,7 @@ module _ {sh : Shape} {rows columns : ℕ} {c r : List ℤ} (g : GivenStages sh 
   whole-narrow : wholeOf w columns ≤ w
   whole-narrow = whole-in w columns (g .block .taken .width) (g .live .narrow) .1 .0
 
-  pub asked : {last high wide : ℕ} → (0 < last) × (last ≤ 20) → (isKernel (min w 8) h high ≡ true) × (rows ≤ high) → (isKernel (min h 8) w wide ≡ true) × (columns ≤ wide) → (wide + 7) / 8 * h ≤ 32
+  pub asked : {last high wide : ℕ} → (0 < last) × (last ≤ 20) → (isKernel (min w 8) h high ≡ true) × (rows ≤ high) → (isKernel (min h 8) w wide ≡ true) × (columns ≤ wide) → (wide + 7) / 8 * h ≤ 128
       → Asked w h last rows columns high wide w c r
   asked few down along room =
       record {

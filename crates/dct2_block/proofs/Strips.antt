@@ -21,10 +21,10 @@ use Rattle.kernel_picks.proofs.Cases.{kernel-cases}
 
 -- ---- a place of a strip lies in it
 pub in-strip : (count h high : ℕ) → isKernel count h high ≡ true → (x y : ℕ) → x < 8 → y < h → turnedPlace (min h 8) 8 x y < 8 * h
-in-strip = kernel-cases (λ h _. (x y : ℕ) → x < 8 → y < h → turnedPlace (min h 8) 8 x y < 8 * h) (λ x y a b. omega arith) (λ x y a b. omega arith) (λ x y a b. omega arith) (λ x y a b. omega arith)
+in-strip = kernel-cases (λ h _. (x y : ℕ) → x < 8 → y < h → turnedPlace (min h 8) 8 x y < 8 * h) (λ x y a b. omega arith) (λ x y a b. omega arith) (λ x y a b. omega arith) (λ x y a b. omega arith) (λ x y a b. omega arith) (λ x y a b. omega arith) (λ x y a b. omega arith)
 
 pub in-strip-4 : (count h high : ℕ) → isKernel count h high ≡ true → (x y : ℕ) → x < 4 → y < h → turnedPlace (min h 8) 4 x y < 4 * h
-in-strip-4 = kernel-cases (λ h _. (x y : ℕ) → x < 4 → y < h → turnedPlace (min h 8) 4 x y < 4 * h) (λ x y a b. omega arith) (λ x y a b. omega arith) (λ x y a b. omega arith) (λ x y a b. omega arith)
+in-strip-4 = kernel-cases (λ h _. (x y : ℕ) → x < 4 → y < h → turnedPlace (min h 8) 4 x y < 4 * h) (λ x y a b. omega arith) (λ x y a b. omega arith) (λ x y a b. omega arith) (λ x y a b. omega arith) (λ x y a b. omega arith) (λ x y a b. omega arith) (λ x y a b. omega arith)
 
 -- the strip of column x starts at x * h
 pub strip-at : (x h : ℕ) → x % 8 ≡ 0 → x / 8 * (8 * h) ≡ x * h

@@ -91,7 +91,7 @@ pub record Asked (w h shift rows columns high wide stride : ℕ) (c r : List ℤ
   pub low : rows ≤ high
   pub along : isKernel (min h 8) w wide ≡ true
   pub few : columns ≤ wide
-  pub room : (wide + 7) / 8 * h ≤ 32
+  pub room : (wide + 7) / 8 * h ≤ 128
   pub any : 0 < columns
   pub narrow : columns ≤ w
   pub there : (x y : ℕ) → x < wholeOf w columns → y < rows → x + y * stride < length c

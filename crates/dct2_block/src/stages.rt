@@ -1,4 +1,4 @@
-// Both stages, in a room for the middle values that is zeroed: the smaller of two that serves.
+// Both stages, in a room for the middle values that is zeroed: the smallest of three that serves.
 use crate::along::along;
 use crate::down::down;
 use crate::touched::touched;
@@ -79,6 +79,25 @@ fn small(
     both(w, h, shift, rows, columns, high, wide, stride, c, &mut m, r)
 }
 
+fn large(
+    w: usize,
+    h: usize,
+    shift: u32,
+    rows: usize,
+    columns: usize,
+    high: usize,
+    wide: usize,
+    stride: usize,
+    c: &[i16],
+    r: &mut [i32],
+) -> bool
+    requires { ⌜ InRoom 1024 w h shift rows columns high wide stride (now c) (now r) ⌝ }
+    ensures { λ t. ⌜ (now (r .exit) ≡ block w h (residualBy w h shift stride rows (min wide columns) (now (c .entry)))) × (t ≡ false → (x y : ℕ) → x < columns → y < h → Inner (middleOf h stride rows (now (c .entry)) x y)) ⌝ }
+{
+    let mut m = [0i16; 1024];
+    both(w, h, shift, rows, columns, high, wide, stride, c, &mut m, r)
+}
+
 // Columns, filled up to whole strips.
 fn whole_of(w: usize, columns: usize) -> usize
     requires { ⌜ (columns ≤ w) × (w ≤ 64) ⌝ }
@@ -112,5 +131,8 @@ pub fn stages(
     if size <= 8 {
         return tiny(w, h, shift, rows, whole, high, wide, stride, c, r);
     }
-    small(w, h, shift, rows, whole, high, wide, stride, c, r)
+    if size <= 32 {
+        return small(w, h, shift, rows, whole, high, wide, stride, c, r);
+    }
+    large(w, h, shift, rows, whole, high, wide, stride, c, r)
 }

@@ -14,10 +14,9 @@ ghost use Rattle.meaning.specs.Shape.{isSize};
 ghost use Rattle.inverse_stage.specs.Given.{GivenStages};
 ghost use Rattle.kernel_picks.specs.Picks.{isKernel};
 
-// How many inputs the kernel of n points has that serves the first k of them, `count` columns or rows at a time; 0 where there is none.
-fn live_of(count: usize, n: usize, k: usize) -> usize
-    requires { ⌜ (isSize n ≡ true) × (k ≤ n) ⌝ }
-    ensures { λ r. ⌜ (0 < r → (isKernel count n r ≡ true) × (k ≤ r)) ⌝ }
+// How many inputs the kernel of n points has, 4 columns or rows at a time; 0 where there is none.
+fn live_of_4(n: usize) -> usize
+    ensures { λ r. ⌜ (0 < r → ((count : ℕ) → isKernel count n r ≡ true) × (n ≤ r)) ⌝ }
 {
     if n == 8 {
         return 8;
@@ -25,22 +24,49 @@ fn live_of(count: usize, n: usize, k: usize) -> usize
     if n == 16 {
         return 16;
     }
-    if count != 8 {
-        return 0;
-    }
-    if n == 4 {
-        return 4;
-    }
-    if k <= 8 {
-        return 8;
-    }
     0
 }
 
-// Whether so little of a wide block is live that the lines of the product are quicker.
-fn is_corner(w: usize, h: usize, rows: usize, columns: usize) -> bool {
+// How many inputs the kernel has that serves the first k of n points, 8 at a time.
+fn live_of_8(n: usize, k: usize) -> usize
+    requires { ⌜ (isSize n ≡ true) × (k ≤ n) ⌝ }
+    ensures { λ r. ⌜ (isKernel 8 n r ≡ true) × (k ≤ r) ⌝ }
+{
+    if 16 < n {
+        if k <= 8 {
+            return 8;
+        }
+        return 32;
+    }
+    if k <= 4 {
+        return 4;
+    }
+    n
+}
+
+// The same, `count` at a time.
+fn live_of(count: usize, n: usize, k: usize) -> usize
+    requires { ⌜ (isSize n ≡ true) × (k ≤ n) ⌝ }
+    ensures { λ r. ⌜ (0 < r → (isKernel count n r ≡ true) × (k ≤ r)) ⌝ }
+{
+    if count == 8 {
+        return live_of_8(n, k);
+    }
+    live_of_4(n)
+}
+
+// Whether so little of a large block is live that the lines of the product are quicker.
+fn is_corner(w: usize, elements: usize, h: usize, rows: usize, columns: usize) -> bool {
     if w < 16 {
         return false;
+    }
+    if elements == 128 {
+        return false;
+    }
+    if elements == 1024 {
+        if columns == 16 {
+            return rows == 16;
+        }
     }
     if 4 < columns {
         return false;
@@ -60,7 +86,7 @@ pub fn worked(shape: Shape, rows: usize, columns: usize, c: &[i16], r: &mut [i32
         flat(last, c[0] as i32, r);
         return true;
     }
-    if is_corner(w, h, rows, columns) {
+    if is_corner(w, c.len(), h, rows, columns) {
         return false;
     }
     let high = live_of(strip_of(w), h, rows);
@@ -71,7 +97,7 @@ pub fn worked(shape: Shape, rows: usize, columns: usize, c: &[i16], r: &mut [i32
     if wide == 0 {
         return false;
     }
-    if 32 < (wide + 7) / 8 * h {
+    if 128 < (wide + 7) / 8 * h {
         return false;
     }
     if stages(w, h, last, rows, columns, high, wide, w, c, r) {

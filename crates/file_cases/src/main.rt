@@ -12,7 +12,7 @@ fn case(i: usize) {
         os::fail(&path[..n]);
         return;
     }
-    block_program::answer(fd, STDOUT_FILENO);
+    file_program::answer(fd, STDOUT_FILENO);
     libc::close(fd);
 }
 

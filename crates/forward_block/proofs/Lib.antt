@@ -2,4 +2,3 @@ pub mod Places
 pub mod OneLine
 pub mod TwoStages
 pub mod RoomsFor
-pub mod Turning

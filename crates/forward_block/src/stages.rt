@@ -1,8 +1,6 @@
 // Both stages of a forward block. Along a row the inputs of a line are its residuals; down the columns they are weights, and the
 // weights are the rows between the stages, zipped: output y of every column is one line. What stands between the stages is
 // written where the coefficients will stand.
-use crate::four::four;
-use crate::four::is_four;
 use forward_stage::place::clear_beyond;
 use forward_stage::place::narrow;
 use forward_stage::shift::column_shift;
@@ -175,9 +173,7 @@ pub fn stages(shape: Shape, residuals: &[i16], coefficients: &mut [i16])
     requires { ⌜ Residuals shape (now residuals) × (length (now coefficients) ≡ shape .width * shape .height) ⌝ }
     ensures { λ _. ⌜ now (coefficients .exit) ≡ forwardBlock shape (now (residuals .entry)) ⌝ }
 {
-    if is_four(shape) {
-        four(shape, residuals, coefficients);
-    } else if is_small(shape) {
+    if is_small(shape) {
         small(shape, residuals, coefficients);
     } else {
         large(shape, residuals, coefficients);

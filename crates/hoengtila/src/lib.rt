@@ -46,7 +46,7 @@ ghost use Rattle.hoengtila.specs.Version.{version};
 pub extern "C" fn hoengtila_version() -> u32
     ensures { λ r. ⌜ r ≡ version ⌝ }
 {
-    300
+    301
 }
 
 #[no_mangle]

@@ -3,8 +3,8 @@
 // that have their own way for 4 by 4 come here.
 use crate::stages::large;
 use crate::stages::small;
-use inverse_squares::eight::eight;
-use inverse_squares::eight::is_eight;
+use inverse_4_8::eight::eight;
+use inverse_4_8::eight::is_eight;
 use meaning::Shape;
 ghost use mathlib.Core.Path.{_≡_};
 ghost use Rattle.meaning.specs.Plan.{planOf};

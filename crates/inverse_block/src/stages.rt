@@ -3,10 +3,10 @@
 // first stage writes rounded sums where the residuals will stand; each line of residuals is then written into its own stretch.
 // What lines read stands in arrays of the function that names their number of pairs: what is lent might overlap the output, as far
 // as the compiler knows, and it then takes one number at a time (docs/DECISIONS.md). So the two rooms have a function each.
-use inverse_squares::eight::eight;
-use inverse_squares::eight::is_eight;
-use inverse_squares::four::four;
-use inverse_squares::four::is_four;
+use inverse_4_8::eight::eight;
+use inverse_4_8::eight::is_eight;
+use inverse_4_8::four::four;
+use inverse_4_8::four::is_four;
 use inverse_stage::settle::settle;
 use inverse_stage::shift::last_shift;
 use layout::small::is_small;

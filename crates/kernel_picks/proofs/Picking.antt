@@ -1,8 +1,8 @@
--- What the tests of a ladder leave of the kernels, and what holds of a kernel's numbers. (λ e. absurd (omega arith))ssumes nothing.
+-- What the tests of a ladder leave of the kernels, and what holds of a kernel's numbers. Assumes nothing.
 use mathlib.Core.Path.{_≡_, refl, sym, ap, _∙_, subst}
 use mathlib.Core.Bool.{true}
 use mathlib.Core.List.{List}
-use Prim.Native.Nat.{ℕ, _*_, min}
+use Prim.Native.Nat.{ℕ, _+_, _*_, _≤_, min}
 use native.Mathlib.Omega.{arith}
 use lib.IntN.{ℤ}
 use Rattle.algebra.specs.Lists.{block}
@@ -11,27 +11,38 @@ use Rattle.meaning.specs.Inverse.{middle}
 use Rattle.product.specs.Product.{shifted}
 use Rattle.kernel_levels.specs.Kernels.{Strip, stripSum, Turned, Rowed, rowsSum}
 use Rattle.kernel_picks.specs.Picks.{isKernel}
-use Rattle.kernel_picks.proofs.Cases.{kernel-cases, four-cases}
+use Rattle.kernel_picks.proofs.Cases.{kernel-cases, four-cases, few-points, few-live}
 
--- ---- which one is left
-pub live-of-4 : (count n l : ℕ) → isKernel count n l ≡ true → n ≡ 4 → l ≡ 4
-live-of-4 = kernel-cases (λ n l. n ≡ 4 → l ≡ 4) (λ e. refl) (λ e. absurd (omega arith)) (λ e. absurd (omega arith)) (λ e. absurd (omega arith))
+-- ---- which one is left: points and live inputs together tell it
+pub few-picks : (count n l : ℕ) → isKernel count n l ≡ true → n + l ≤ 64
+few-picks count n l h = omega (arith, few-points count n l h, few-live count n l h)
 
-pub live-of-8 : (count n l : ℕ) → isKernel count n l ≡ true → n ≡ 8 → l ≡ 8
-live-of-8 = kernel-cases (λ n l. n ≡ 8 → l ≡ 8) (λ e. absurd (omega arith)) (λ e. refl) (λ e. absurd (omega arith)) (λ e. absurd (omega arith))
+pub pick-8 : (count n l : ℕ) → isKernel count n l ≡ true → n + l ≡ 8 → (n ≡ 4) × (l ≡ 4)
+pick-8 = kernel-cases (λ n l. n + l ≡ 8 → (n ≡ 4) × (l ≡ 4)) (λ e. (refl, refl)) (λ e. absurd (omega arith)) (λ e. absurd (omega arith)) (λ e. absurd (omega arith)) (λ e. absurd (omega arith)) (λ e. absurd (omega arith)) (λ e. absurd (omega arith))
 
-pub live-of-16 : (count n l : ℕ) → isKernel count n l ≡ true → n ≡ 16 → l ≡ 16
-live-of-16 = kernel-cases (λ n l. n ≡ 16 → l ≡ 16) (λ e. absurd (omega arith)) (λ e. absurd (omega arith)) (λ e. refl) (λ e. absurd (omega arith))
+pub pick-12 : (count n l : ℕ) → isKernel count n l ≡ true → n + l ≡ 12 → (n ≡ 8) × (l ≡ 4)
+pick-12 = kernel-cases (λ n l. n + l ≡ 12 → (n ≡ 8) × (l ≡ 4)) (λ e. absurd (omega arith)) (λ e. (refl, refl)) (λ e. absurd (omega arith)) (λ e. absurd (omega arith)) (λ e. absurd (omega arith)) (λ e. absurd (omega arith)) (λ e. absurd (omega arith))
 
-pub live-of-32 : (count n l : ℕ) → isKernel count n l ≡ true → n ≡ 32 → l ≡ 8
-live-of-32 = kernel-cases (λ n l. n ≡ 32 → l ≡ 8) (λ e. absurd (omega arith)) (λ e. absurd (omega arith)) (λ e. absurd (omega arith)) (λ e. refl)
+pub pick-16 : (count n l : ℕ) → isKernel count n l ≡ true → n + l ≡ 16 → (n ≡ 8) × (l ≡ 8)
+pick-16 = kernel-cases (λ n l. n + l ≡ 16 → (n ≡ 8) × (l ≡ 8)) (λ e. absurd (omega arith)) (λ e. absurd (omega arith)) (λ e. (refl, refl)) (λ e. absurd (omega arith)) (λ e. absurd (omega arith)) (λ e. absurd (omega arith)) (λ e. absurd (omega arith))
 
-pub last-8 : (n l : ℕ) → isKernel 8 n l ≡ true → (n ≡ 4 → ⊥) → (n ≡ 8 → ⊥) → (n ≡ 16 → ⊥) → n ≡ 32
-last-8 =
-    kernel-cases (λ n l. (n ≡ 4 → ⊥) → (n ≡ 8 → ⊥) → (n ≡ 16 → ⊥) → n ≡ 32) (λ a b d. absurd (a refl)) (λ a b d. absurd (b refl)) (λ a b d. absurd (d refl)) (λ a b d. refl) 8
+pub pick-20 : (count n l : ℕ) → isKernel count n l ≡ true → n + l ≡ 20 → (n ≡ 16) × (l ≡ 4)
+pick-20 = kernel-cases (λ n l. n + l ≡ 20 → (n ≡ 16) × (l ≡ 4)) (λ e. absurd (omega arith)) (λ e. absurd (omega arith)) (λ e. absurd (omega arith)) (λ e. (refl, refl)) (λ e. absurd (omega arith)) (λ e. absurd (omega arith)) (λ e. absurd (omega arith))
 
-pub last-4 : (n l : ℕ) → isKernel 4 n l ≡ true → (n ≡ 8 → ⊥) → n ≡ 16
-last-4 = four-cases (λ n l. (n ≡ 8 → ⊥) → n ≡ 16) (λ a. absurd (a refl)) (λ a. refl)
+pub pick-32 : (count n l : ℕ) → isKernel count n l ≡ true → n + l ≡ 32 → (n ≡ 16) × (l ≡ 16)
+pick-32 = kernel-cases (λ n l. n + l ≡ 32 → (n ≡ 16) × (l ≡ 16)) (λ e. absurd (omega arith)) (λ e. absurd (omega arith)) (λ e. absurd (omega arith)) (λ e. absurd (omega arith)) (λ e. (refl, refl)) (λ e. absurd (omega arith)) (λ e. absurd (omega arith))
+
+pub pick-40 : (count n l : ℕ) → isKernel count n l ≡ true → n + l ≡ 40 → (n ≡ 32) × (l ≡ 8)
+pick-40 = kernel-cases (λ n l. n + l ≡ 40 → (n ≡ 32) × (l ≡ 8)) (λ e. absurd (omega arith)) (λ e. absurd (omega arith)) (λ e. absurd (omega arith)) (λ e. absurd (omega arith)) (λ e. absurd (omega arith)) (λ e. (refl, refl)) (λ e. absurd (omega arith))
+
+pub pick-64 : (count n l : ℕ) → isKernel count n l ≡ true → n + l ≡ 64 → (n ≡ 32) × (l ≡ 32)
+pick-64 = kernel-cases (λ n l. n + l ≡ 64 → (n ≡ 32) × (l ≡ 32)) (λ e. absurd (omega arith)) (λ e. absurd (omega arith)) (λ e. absurd (omega arith)) (λ e. absurd (omega arith)) (λ e. absurd (omega arith)) (λ e. absurd (omega arith)) (λ e. (refl, refl))
+
+pub last-8 : (n l : ℕ) → isKernel 8 n l ≡ true → (n + l ≡ 8 → ⊥) → (n + l ≡ 12 → ⊥) → (n + l ≡ 16 → ⊥) → (n + l ≡ 20 → ⊥) → (n + l ≡ 32 → ⊥) → (n + l ≡ 40 → ⊥) → n + l ≡ 64
+last-8 n l h = kernel-cases (λ n l. (n + l ≡ 8 → ⊥) → (n + l ≡ 12 → ⊥) → (n + l ≡ 16 → ⊥) → (n + l ≡ 20 → ⊥) → (n + l ≡ 32 → ⊥) → (n + l ≡ 40 → ⊥) → n + l ≡ 64) (λ h0 h1 h2 h3 h4 h5. absurd (h0 refl)) (λ h0 h1 h2 h3 h4 h5. absurd (h1 refl)) (λ h0 h1 h2 h3 h4 h5. absurd (h2 refl)) (λ h0 h1 h2 h3 h4 h5. absurd (h3 refl)) (λ h0 h1 h2 h3 h4 h5. absurd (h4 refl)) (λ h0 h1 h2 h3 h4 h5. absurd (h5 refl)) (λ h0 h1 h2 h3 h4 h5. refl) 8 n l h
+
+pub last-4 : (n l : ℕ) → isKernel 4 n l ≡ true → (n + l ≡ 16 → ⊥) → n + l ≡ 32
+last-4 = four-cases (λ n l. (n + l ≡ 16 → ⊥) → n + l ≡ 32) (λ h0. absurd (h0 refl)) (λ h0. refl)
 
 -- ---- what holds of n points and l live inputs, of the kernel's numbers
 pub strip-so : {n l N L wide stride x rows k : ℕ} {c : List ℤ} → n ≡ N → l ≡ L → Strip l wide stride x rows c × (k ≡ wide * n) → Strip L wide stride x rows c × (k ≡ wide * N)

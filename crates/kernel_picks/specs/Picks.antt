@@ -7,4 +7,4 @@ unfoldable pub isKernel : ℕ → ℕ → ℕ → Bool
 isKernel count n live =
     eqb n 8 && eqb live 8
     || (eqb n 16 && eqb live 16
-    || eqb count 8 && (eqb n 4 && eqb live 4 || eqb n 32 && eqb live 8))
+    || eqb count 8 && (eqb n 4 && eqb live 4 || (eqb n 8 && eqb live 4 || (eqb n 16 && eqb live 4 || (eqb n 32 && eqb live 8 || eqb n 32 && eqb live 32)))))

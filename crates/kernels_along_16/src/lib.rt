@@ -4,6 +4,7 @@
 use kernel_steps::butterfly;
 use kernel_steps::deal;
 use kernel_steps::lift;
+use kernel_steps::mirror;
 use kernel_steps::round;
 use kernel_steps::some;
 use kernel_steps::spread_8_4;
@@ -16,6 +17,27 @@ ghost use Rattle.product.specs.Product.{shifted};
 ghost use Rattle.kernel_levels.specs.Kernels.{Rowed, rowsSum};
 
 const FIRST_2_2: [i16; 4] = [64, 64, 64, -64];
+
+const ODD_8_2: [i16; 8] = [89, 75, 75, -18, 50, -89, 18, -50];
+
+const ODD_16_2: [i16; 16] = [
+    90, // rows 1 and 3 of 16
+    87,
+    87,
+    57,
+    80,
+    9,
+    70,
+    -43,
+    57,
+    -80,
+    43,
+    -90,
+    25,
+    -70,
+    9,
+    -25,
+];
 
 const ODD_4_2: [i16; 4] = [83, 36, 36, -83];
 
@@ -104,6 +126,49 @@ const ODD_16_8: [i16; 64] = [
     87,
     -90,
 ];
+
+// 8 rows of 16 numbers, the first 4 of them live.
+pub fn along_16_4_8(m: &[i16], apart: usize, many: usize, half: i32, shift: u32, r: &mut [i32])
+    requires { ⌜ Rowed 4 8 apart half shift (now m) × (length (now r) ≡ 128) ⌝ }
+    ensures { λ _. ⌜ now (r .exit) ≡ block 16 8 (λ j l. shifted half shift (rowsSum 16 4 8 apart (now (m .entry)) j l)) ⌝ }
+{
+    let mut r0 = [0i32; 64];
+    let mut r1 = [0i32; 64];
+    let mut l = 0;
+    while l < 8 {
+        let mut a = [0i16; 4];
+        let i0 = l;
+        take(&m[i0..], 8, 0, 4, &mut a);
+        let mut b2 = [0i16; 2];
+        deal(&a, 0, 8, 1, &mut b2);
+        let t2 = FIRST_2_2;
+        let mut e2 = [0i32; 2];
+        some(1, 4, &b2, &t2, 0, 2, &mut e2);
+        lift(half, 2, &mut e2);
+        let mut e4 = [0i32; 4];
+        mirror(&e2, 2, 0, 2, &mut e4);
+        let mut e8 = [0i32; 8];
+        let mut z8 = [0i16; 2];
+        deal(&a, 2, 4, 1, &mut z8);
+        let w8 = ODD_8_2;
+        let mut o8 = [0i32; 4];
+        some(1, 8, &z8, &w8, 0, 4, &mut o8);
+        butterfly(&e4, &o8, 4, 0, 4, &mut e8);
+        let mut y = [0i32; 16];
+        let mut z16 = [0i16; 2];
+        deal(&a, 1, 2, 2, &mut z16);
+        let w16 = ODD_16_2;
+        let mut o16 = [0i32; 8];
+        some(1, 16, &z16, &w16, 0, 4, &mut o16);
+        some(1, 16, &z16, &w16, 4, 8, &mut o16);
+        butterfly(&e8, &o16, 8, 0, 8, &mut y);
+        round(&y, 0, 8, half, shift, 8 * l, &mut r0);
+        round(&y, 8, 8, half, shift, 8 * l, &mut r1);
+        l += 1;
+    }
+    spread_8_8(&r0, 0, 16, r);
+    spread_8_8(&r1, 8, 16, r);
+}
 
 // 8 rows of 16 numbers, the first 16 of them live.
 pub fn along_16_16_8(m: &[i16], apart: usize, many: usize, half: i32, shift: u32, r: &mut [i32])

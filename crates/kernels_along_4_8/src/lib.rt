@@ -20,6 +20,8 @@ const FIRST_2_2: [i16; 4] = [64, 64, 64, -64];
 
 const ODD_4_2: [i16; 4] = [83, 36, 36, -83];
 
+const ODD_8_2: [i16; 8] = [89, 75, 75, -18, 50, -89, 18, -50];
+
 const ODD_8_4: [i16; 16] = [
     89, // rows 1 and 3 of 8
     75,
@@ -67,6 +69,43 @@ pub fn along_4_4_8(m: &[i16], apart: usize, many: usize, half: i32, shift: u32, 
         l += 1;
     }
     spread_4_8(&r0, 0, 4, r);
+}
+
+// 8 rows of 8 numbers, the first 4 of them live.
+pub fn along_8_4_8(m: &[i16], apart: usize, many: usize, half: i32, shift: u32, r: &mut [i32])
+    requires { ⌜ Rowed 4 8 apart half shift (now m) × (length (now r) ≡ 64) ⌝ }
+    ensures { λ _. ⌜ now (r .exit) ≡ block 8 8 (λ j l. shifted half shift (rowsSum 8 4 8 apart (now (m .entry)) j l)) ⌝ }
+{
+    let mut r0 = [0i32; 64];
+    let mut l = 0;
+    while l < 8 {
+        let mut a = [0i16; 4];
+        let i0 = l;
+        take(&m[i0..], 8, 0, 4, &mut a);
+        let mut b2 = [0i16; 2];
+        deal(&a, 0, 4, 1, &mut b2);
+        let t2 = FIRST_2_2;
+        let mut e2 = [0i32; 2];
+        some(1, 4, &b2, &t2, 0, 2, &mut e2);
+        lift(half, 2, &mut e2);
+        let mut e4 = [0i32; 4];
+        let mut z4 = [0i16; 2];
+        deal(&a, 2, 4, 1, &mut z4);
+        let w4 = ODD_4_2;
+        let mut o4 = [0i32; 2];
+        some(1, 4, &z4, &w4, 0, 2, &mut o4);
+        butterfly(&e2, &o4, 2, 0, 2, &mut e4);
+        let mut y = [0i32; 8];
+        let mut z8 = [0i16; 2];
+        deal(&a, 1, 2, 2, &mut z8);
+        let w8 = ODD_8_2;
+        let mut o8 = [0i32; 4];
+        some(1, 8, &z8, &w8, 0, 4, &mut o8);
+        butterfly(&e4, &o8, 4, 0, 4, &mut y);
+        round(&y, 0, 8, half, shift, 8 * l, &mut r0);
+        l += 1;
+    }
+    spread_8_8(&r0, 0, 8, r);
 }
 
 // 8 rows of 8 numbers, the first 8 of them live.

@@ -4,6 +4,7 @@
 use kernel_steps::butterfly;
 use kernel_steps::deal;
 use kernel_steps::lift;
+use kernel_steps::mirror;
 use kernel_steps::put;
 use kernel_steps::some;
 use kernel_steps::strip_4;
@@ -15,6 +16,27 @@ ghost use Rattle.meaning.specs.Inverse.{middle};
 ghost use Rattle.kernel_levels.specs.Kernels.{Strip, stripSum, Turned};
 
 const FIRST_2_2: [i16; 4] = [64, 64, 64, -64];
+
+const ODD_8_2: [i16; 8] = [89, 75, 75, -18, 50, -89, 18, -50];
+
+const ODD_16_2: [i16; 16] = [
+    90, // rows 1 and 3 of 16
+    87,
+    87,
+    57,
+    80,
+    9,
+    70,
+    -43,
+    57,
+    -80,
+    43,
+    -90,
+    25,
+    -70,
+    9,
+    -25,
+];
 
 const ODD_4_2: [i16; 4] = [83, 36, 36, -83];
 
@@ -103,6 +125,46 @@ const ODD_16_8: [i16; 64] = [
     87,
     -90,
 ];
+
+// 8 columns of 16 rows, the first 4 of them live.
+pub fn down_16_4_8(c: &[i16], w: usize, x0: usize, rows: usize, many: usize, m: &mut [i16])
+    requires { ⌜ Strip 4 8 w x0 rows (now c) × (length (now m) ≡ 128) ⌝ }
+    ensures { λ _. ⌜ Turned 8 8 16 (λ x y. middle shortRange (stripSum 16 w x0 rows (now (c .entry)) x y)) (now (m .exit)) ⌝ }
+{
+    let mut b = [0i16; 32];
+    strip_8(c, w, x0, rows, &mut b);
+    let mut x = 0;
+    while x < 8 {
+        let mut a = [0i16; 4];
+        deal(&b, x, 8, 4, &mut a);
+        let mut b2 = [0i16; 2];
+        deal(&a, 0, 8, 1, &mut b2);
+        let t2 = FIRST_2_2;
+        let mut e2 = [0i32; 2];
+        some(1, 4, &b2, &t2, 0, 2, &mut e2);
+        lift(64, 2, &mut e2);
+        let mut e4 = [0i32; 4];
+        mirror(&e2, 2, 0, 2, &mut e4);
+        let mut e8 = [0i32; 8];
+        let mut z8 = [0i16; 2];
+        deal(&a, 2, 4, 1, &mut z8);
+        let w8 = ODD_8_2;
+        let mut o8 = [0i32; 4];
+        some(1, 8, &z8, &w8, 0, 4, &mut o8);
+        butterfly(&e4, &o8, 4, 0, 4, &mut e8);
+        let mut y = [0i32; 16];
+        let mut z16 = [0i16; 2];
+        deal(&a, 1, 2, 2, &mut z16);
+        let w16 = ODD_16_2;
+        let mut o16 = [0i32; 8];
+        some(1, 16, &z16, &w16, 0, 4, &mut o16);
+        some(1, 16, &z16, &w16, 4, 8, &mut o16);
+        butterfly(&e8, &o16, 8, 0, 8, &mut y);
+        put(&y, 0, 8, 8 * x, m);
+        put(&y, 8, 8, 64 + 8 * x, m);
+        x += 1;
+    }
+}
 
 // 8 columns of 16 rows, the first 16 of them live.
 pub fn down_16_16_8(c: &[i16], w: usize, x0: usize, rows: usize, many: usize, m: &mut [i16])

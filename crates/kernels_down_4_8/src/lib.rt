@@ -18,6 +18,8 @@ const FIRST_2_2: [i16; 4] = [64, 64, 64, -64];
 
 const ODD_4_2: [i16; 4] = [83, 36, 36, -83];
 
+const ODD_8_2: [i16; 8] = [89, 75, 75, -18, 50, -89, 18, -50];
+
 const ODD_8_4: [i16; 16] = [
     89, // rows 1 and 3 of 8
     75,
@@ -62,6 +64,42 @@ pub fn down_4_4_8(c: &[i16], w: usize, x0: usize, rows: usize, many: usize, m: &
         some(1, 4, &z4, &w4, 0, 2, &mut o4);
         butterfly(&e2, &o4, 2, 0, 2, &mut y);
         put(&y, 0, 4, 4 * x, m);
+        x += 1;
+    }
+}
+
+// 8 columns of 8 rows, the first 4 of them live.
+pub fn down_8_4_8(c: &[i16], w: usize, x0: usize, rows: usize, many: usize, m: &mut [i16])
+    requires { ⌜ Strip 4 8 w x0 rows (now c) × (length (now m) ≡ 64) ⌝ }
+    ensures { λ _. ⌜ Turned 8 8 8 (λ x y. middle shortRange (stripSum 8 w x0 rows (now (c .entry)) x y)) (now (m .exit)) ⌝ }
+{
+    let mut b = [0i16; 32];
+    strip_8(c, w, x0, rows, &mut b);
+    let mut x = 0;
+    while x < 8 {
+        let mut a = [0i16; 4];
+        deal(&b, x, 8, 4, &mut a);
+        let mut b2 = [0i16; 2];
+        deal(&a, 0, 4, 1, &mut b2);
+        let t2 = FIRST_2_2;
+        let mut e2 = [0i32; 2];
+        some(1, 4, &b2, &t2, 0, 2, &mut e2);
+        lift(64, 2, &mut e2);
+        let mut e4 = [0i32; 4];
+        let mut z4 = [0i16; 2];
+        deal(&a, 2, 4, 1, &mut z4);
+        let w4 = ODD_4_2;
+        let mut o4 = [0i32; 2];
+        some(1, 4, &z4, &w4, 0, 2, &mut o4);
+        butterfly(&e2, &o4, 2, 0, 2, &mut e4);
+        let mut y = [0i32; 8];
+        let mut z8 = [0i16; 2];
+        deal(&a, 1, 2, 2, &mut z8);
+        let w8 = ODD_8_2;
+        let mut o8 = [0i32; 4];
+        some(1, 8, &z8, &w8, 0, 4, &mut o8);
+        butterfly(&e4, &o8, 4, 0, 4, &mut y);
+        put(&y, 0, 8, 8 * x, m);
         x += 1;
     }
 }

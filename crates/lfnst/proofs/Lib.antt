@@ -1,5 +1,6 @@
 pub mod Reading
 pub mod Standing
+pub mod Placing
 pub mod Summing
 pub mod Whole
 pub mod Left

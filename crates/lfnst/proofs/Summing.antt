@@ -1,4 +1,4 @@
--- The sums of the stage in the two ways in which it takes them, and how large they are. Assumes nothing.
+-- The sums of the stage in 64 bits, and how large they are. Assumes nothing.
 use mathlib.Core.Path.{_≡_, refl, sym, ap, _∙_, subst}
 use mathlib.Core.Logic.{_⊎_, inl, inr, ⊎-elim}
 use mathlib.Core.Bool.{Bool, true, false}
@@ -12,10 +12,13 @@ use lib.Pow.{pow-mono, pow-pos}
 use mir.Syntax.{w16, w32}
 use mir.Val.{SFits}
 use Rattle.algebra.specs.Sum.{sum}
-use Rattle.algebra.specs.Lists.{at}
+use Rattle.algebra.specs.Lists.{at, tabulate}
 use Rattle.algebra.proofs.Order.{le-parts, parts-fit, parts-abs}
 use Rattle.algebra.proofs.Sum.{sum-cong}
+use Rattle.algebra.proofs.Lists.{tab-at, tab-length}
 use Rattle.algebra.proofs.Word.{small}
+use Rattle.meaning.specs.Plan.{rangeOf}
+use Rattle.meaning.specs.Inverse.{middle}
 use Rattle.product.specs.Product.{spot, Laid, lineSum}
 use Rattle.product.proofs.Summing.{odd-place}
 use Rattle.product.proofs.Laid.{spot-two}
@@ -23,7 +26,9 @@ use Rattle.kernel_steps.specs.Weighed.{Weighed, Small}
 use Rattle.kernel_steps.specs.Written.{WroteFrom}
 use Rattle.long_stages.specs.Sums.{dotted, Dot}
 use Rattle.lfnst_tables.specs.Lfnst.{entry, outputsOf}
+use Rattle.lfnst_tables.specs.Line.{GivenInputs}
 use Rattle.lfnst_tables.proofs.Sizes.{largest, entry-size, column-part}
+use Rattle.lfnst.specs.LowFrequency.{input}
 use Rattle.lfnst.specs.Work.{Ranged, GivenSums}
 
 pub few-pairs : {pairs : ℕ} → (pairs ≡ 4) ⊎ (pairs ≡ 8) → pairs ≤ 8
@@ -32,52 +37,8 @@ few-pairs = ⊎-elim (λ e. omega arith) (λ e. omega arith)
 pub few-outputs : {n : ℕ} → (n ≡ 16) ⊎ (n ≡ 48) → n ≤ 48
 few-outputs = ⊎-elim (λ e. omega arith) (λ e. omega arith)
 
--- what is written is the same where the values and their number are
-pub wrote-same : {n m : ℕ} {a a₀ : List ℤ} {f g : ℕ → ℤ} → n ≡ m → ((k : ℕ) → k < n → f k ≡ g k) → WroteFrom 0 n a a₀ f → WroteFrom 0 m a a₀ g
-wrote-same {n} {m} {a} {a₀} {f} {g} e s p =
-    record {
-      long = p .long;
-      done = λ k h. let l : k < n = omega arith in p .done k l ∙ s k l;
-      before = p .before;
-      after = λ k h. p .after k (omega arith);
-    }
-
--- values made of what was written
-pub wrote-again : {n : ℕ} {a a₁ a₀ : List ℤ} {f h : ℕ → ℤ} (g : ℤ → ℤ) → WroteFrom 0 n a₁ a₀ f → WroteFrom 0 n a a₁ (λ j. g (at a₁ j)) → ((k : ℕ) → k < n → f k ≡ h k) → WroteFrom 0 n a a₀ (λ j. g (h j))
-wrote-again {n} {a} {a₁} {a₀} {f} {h} g p q s =
-    record {
-      long = q .long ∙ p .long;
-      done = λ k l. q .done k l ∙ ap g (ap (at a₁) (sym (zero-add k)) ∙ p .done k l ∙ s k l);
-      before = λ k l. absurd (omega arith);
-      after = λ k l. q .after k l ∙ p .after k l;
-    }
-
--- 16 where it is not 48
-pub not-48 : {n : ℕ} → (n ≡ 16) ⊎ (n ≡ 48) → (n ≡ 48 → ⊥) → n ≡ 16
-not-48 h n = ⊎-elim (λ e. e) (λ e. absurd (n e)) h
-
-pub not-four : {pairs : ℕ} → (pairs ≡ 4) ⊎ (pairs ≡ 8) → (pairs ≡ 4 → ⊥) → pairs ≡ 8
-not-four h n = ⊎-elim (λ e. absurd (n e)) (λ e. e) h
-
--- ---- what each way is given
+-- ---- what they are given
 module _ {n pairs : ℕ} {t u v : List ℤ} (g : GivenSums n pairs t u v) where
-  -- by pairs, where outputs and pairs are as many as is written
-  pub by-pairs : (m p : ℕ) → n ≡ m → pairs ≡ p → Weighed m p u t (2 * m) × ((0 ≤ m) × (m ≤ length v))
-  by-pairs m p e f =
-      let q : p ≤ 8 = subst (λ (p : ℕ). p ≤ 8) f (few-pairs (g .half)) in
-      let w : Weighed m 8 u t (2 * m) = subst (λ (n : ℕ). Weighed n 8 u t (2 * n)) e (g .weighed) in (
-        record {
-          few = q;
-          there = omega (arith, g .inputs);
-          held = λ i j h k. w .held i j (omega arith) k;
-          light = λ i j h k. w .light i j (omega arith) k;
-        },
-        (zero-le, omega (arith, g .room)),
-      )
-
-  pub pairs-wrote : (m p : ℕ) {v′ : List ℤ} → n ≡ m → pairs ≡ p → WroteFrom 0 (m - 0) v′ v (λ k. lineSum u 0 2 t (2 * m) p (0 + k)) → WroteFrom 0 n v′ v (lineSum u 0 2 t (2 * n) pairs)
-  pairs-wrote m p e f = wrote-same (sub-zero m ∙ sym e) (λ k h i. lineSum u 0 2 t (2 * sym e i) (sym f i) (zero-add k i))
-
   -- in 64 bits
   pub by-dots : (j : ℕ) → j < n → Dot t (2 * j) (2 * n) u 0 1 pairs
   by-dots j h =
@@ -166,3 +127,21 @@ module _ (wide : Bool) {matrix pairs reach : ℕ} {t u : List ℤ} (m : matrix <
       sizes : (wide : Bool) → (outputsOf wide ≡ 16) ⊎ (outputsOf wide ≡ 48)
       sizes true = inr refl
       sizes false = inl refl
+
+-- ---- the inputs, put in order, are those of the corner
+pub by-inputs : (n matrix pairs reach : ℕ) (corner a : List ℤ) {v v₁ : List ℤ} → (pairs ≡ 4) ⊎ (pairs ≡ 8) → a ≡ tabulate 16 (input (λ x y. at corner (x + 4 * y)))
+    → WroteFrom 0 n v₁ v (λ j. middle (rangeOf reach) (sum (2 * pairs) (λ i. at a i *ℤ entry n matrix i j)))
+    → WroteFrom 0 n v₁ v (λ j. middle (rangeOf reach) (sum (2 * pairs) (λ i. input (λ x y. at corner (x + 4 * y)) i *ℤ entry n matrix i j)))
+by-inputs n matrix pairs reach corner a half r w =
+    record {
+      long = w .long;
+      done = λ j h. w .done j h ∙ ap (middle (rangeOf reach)) (sum-cong (2 * pairs) _ _ (λ i l s. read i l s *ℤ entry n matrix i j));
+      before = w .before;
+      after = w .after;
+    }
+  where
+    read : (i : ℕ) → i < 2 * pairs → at a i ≡ input (λ x y. at corner (x + 4 * y)) i
+    read i l = ap (λ (a : List ℤ). at a i) r ∙ tab-at 16 (input (λ x y. at corner (x + 4 * y))) i (omega (arith, few-pairs half))
+
+pub inputs-given : (n pairs : ℕ) (f : ℕ → ℤ) (a v : List ℤ) → (pairs ≡ 4) ⊎ (pairs ≡ 8) → a ≡ tabulate 16 f → n ≤ length v → GivenInputs n pairs a v
+inputs-given n pairs f a v half r room = record { half = half; long = ap (λ (a : List ℤ). length a) r ∙ tab-length 16 f; room = room }

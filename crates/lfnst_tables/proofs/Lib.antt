@@ -1,2 +1,3 @@
-pub mod Stored
 pub mod Sizes
+pub mod Stored
+pub mod Lined

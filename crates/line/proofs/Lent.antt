@@ -10,9 +10,9 @@ use lib.ListN.{length}
 use Rattle.meaning.specs.Shape.{isSize, isKind}
 use Rattle.meaning.specs.Taken.{TakenLine}
 use Rattle.meaning.proofs.Cases.{and-cases, size-cases, kind-cases}
-use Rattle.engine.specs.Lines.{Place}
-use Rattle.folding.specs.Lines as Folded
-use Rattle.folding.specs.Lines.{isShared, isFolded}
+use Rattle.full_line.specs.Lines.{Place}
+use Rattle.shared_steps.specs.Lines as Folded
+use Rattle.shared_steps.specs.Lines.{isShared, isFolded}
 use Rattle.line.specs.Line.{isPlace}
 
 -- a place of a matrix

@@ -10,7 +10,7 @@ use Rattle.algebra.specs.Lists.{at}
 use Rattle.meaning.specs.Weights.{weight}
 use Rattle.meaning.specs.Shape.{isSize, isKind}
 use Rattle.meaning.specs.Answer.{Outcome, outcome, accepted, lineTests}
-use Rattle.engine.specs.Lines.{lineOf}
+use Rattle.full_line.specs.Lines.{lineOf}
 
 -- row i and column j of a matrix that there is
 abbrev pub isPlace : ℕ → ℕ → ℕ → ℕ → Bool

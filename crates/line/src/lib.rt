@@ -1,8 +1,8 @@
 // Lines: the weights one by one, and lines of 4, 8, 16 and 32 points, over any numbers and any buffers. `forward` and `inverse` go
 // the fast path, `forward_product` and `inverse_product` the full product; the two of a direction have one contract. Read specs/Line,
-// then proofs/Agreement and proofs/Unique. The work behind them stands in `folded`, `dct2_line` and `engine`.
-use engine::eight;
-use engine::full;
+// then proofs/Agreement and proofs/Unique. The work behind them stands in `shared_line`, `dct2_line` and `full_line`.
+use full_line::eight;
+use full_line::full;
 use meaning::Answer;
 use meaning::accepted;
 use meaning::is_kind;
@@ -16,8 +16,8 @@ ghost use Rattle.algebra.specs.Lists.{at};
 ghost use Rattle.algebra.specs.Refusals.{numberOf};
 ghost use Rattle.meaning.specs.Shape.{isSize};
 ghost use Rattle.meaning.specs.Answer.{Outcome, lineTests, forwardLineOutcome, inverseLineOutcome};
-ghost use Rattle.engine.specs.Lines.{lineOf};
-ghost use Rattle.folding.specs.Lines.{isShared};
+ghost use Rattle.full_line.specs.Lines.{lineOf};
+ghost use Rattle.shared_steps.specs.Lines.{isShared};
 ghost use Rattle.line.specs.Line.{isPlace, weightOrZero, lineOutcome};
 
 fn is_place(kind: u32, n: u32, i: u32, j: u32) -> bool
@@ -42,7 +42,7 @@ pub fn weight(kind: u32, n: u32, i: u32, j: u32) -> i32
     if !is_place(kind, n, i, j) {
         return 0;
     }
-    engine::weight(n as usize, kind, i as usize, j as usize)
+    full_line::weight(n as usize, kind, i as usize, j as usize)
 }
 
 // The sizes with shared weights, of kinds 1 and 2: all but 8.
@@ -62,7 +62,7 @@ fn fast_forward(n: u32, kind: u32, x: &[i16], y: &mut [i32])
     if kind == 0 {
         dct2_line::forward::forward(n as usize, x, y);
     } else if is_shared(n) {
-        folded::forward::forward(n as usize, kind, x, y);
+        shared_line::forward::forward(n as usize, kind, x, y);
     } else {
         eight(kind, true, x, y);
     }
@@ -75,7 +75,7 @@ fn fast_inverse(n: u32, kind: u32, x: &[i16], y: &mut [i32])
     if kind == 0 {
         dct2_line::inverse::inverse(n as usize, x, y);
     } else if is_shared(n) {
-        folded::inverse::inverse(n as usize, kind, x, y);
+        shared_line::inverse::inverse(n as usize, kind, x, y);
     } else {
         eight(kind, false, x, y);
     }

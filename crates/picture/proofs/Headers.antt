@@ -6,7 +6,7 @@ use Prim.Native.Nat.{ℕ}
 use lib.ListN.{length}
 use Rattle.meaning.specs.Shape.{isSize}
 use Rattle.meaning.proofs.Cases.{size-cases}
-use Rattle.block_text.specs.Text.{digits, decimal}
+use Rattle.file_text.specs.Text.{digits, decimal}
 use Rattle.picture_header.specs.declared.FoundHeader.{FoundHeader}
 use Rattle.picture_header.specs.Header.{digit, plain, withByte, readFrom, headerOf}
 use Rattle.picture_header.proofs.Reading.{read-ended}

@@ -9,8 +9,8 @@ use lib.IntN.{ℤ}
 use lib.ListN.{length, drop, length-append, take-append-drop}
 use Rattle.meaning.specs.Shape.{isSize}
 use Rattle.meaning.proofs.Cases.{size-in, size-some}
-use Rattle.block_text.specs.Text.{digits, decimal}
-use Rattle.block_text.specs.Wrote.{Wrote}
+use Rattle.file_text.specs.Text.{digits, decimal}
+use Rattle.file_text.specs.Wrote.{Wrote}
 use Rattle.picture_samples.specs.Samples.{samples}
 use Rattle.picture_samples.proofs.Samples.{samples-length}
 use Rattle.picture.specs.Picture.{headerText, pictureOf}

@@ -2,7 +2,7 @@
 use mathlib.Core.List.{List, [], _∷_, _++_}
 use Prim.Native.Nat.{ℕ}
 use lib.IntN.{ℤ}
-use Rattle.block_text.specs.Text.{decimal}
+use Rattle.file_text.specs.Text.{decimal}
 use Rattle.picture_samples.specs.Samples.{samples}
 
 -- a number, and the byte behind it

@@ -1,6 +1,6 @@
 // "Write it as a binary graymap".
-use block_text::text::put;
-use block_text::text::put_decimal;
+use file_text::text::put;
+use file_text::text::put_decimal;
 use meaning::is_size;
 use picture_samples::put::any_beyond;
 use picture_samples::put::put_samples;
@@ -10,8 +10,8 @@ ghost use mathlib.Core.List.{List};
 ghost use Prim.Native.Nat.{ℕ, _+_, _≤_};
 ghost use lib.ListN.{length};
 ghost use Rattle.meaning.specs.Shape.{isSize};
-ghost use Rattle.block_text.specs.Text.{decimal};
-ghost use Rattle.block_text.specs.Wrote.{Wrote};
+ghost use Rattle.file_text.specs.Text.{decimal};
+ghost use Rattle.file_text.specs.Wrote.{Wrote};
 ghost use Rattle.picture.specs.Picture.{number, headerText};
 ghost use Rattle.picture.specs.Outcomes.{writeOutcome};
 

@@ -11,8 +11,8 @@ use lib.Seq.{take-suc, take-length, drop-cons}
 use Rattle.meaning.specs.Plan.{shortRange}
 use Rattle.meaning.specs.Long.{beyond}
 use Rattle.meaning.proofs.Cases.{neither}
-use Rattle.block_text.specs.Wrote.{Wrote}
-use Rattle.block_text.proofs.Writing.{andThen, retext, within}
+use Rattle.file_text.specs.Wrote.{Wrote}
+use Rattle.file_text.proofs.Writing.{andThen, retext, within}
 use Rattle.picture_samples.specs.Samples.{anyBeyond, samples, residuals}
 use Rattle.picture_samples.proofs.SampleSizes.{sample-back}
 

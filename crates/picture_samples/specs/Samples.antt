@@ -5,7 +5,7 @@ use Prim.Native.Nat.{ℕ, _/_, _%_}
 use lib.IntN.{ℤ, pos, natAbs, _+ℤ_, _-ℤ_}
 use Rattle.meaning.specs.Plan.{shortRange}
 use Rattle.meaning.specs.Long.{beyond}
-use Rattle.block_numbers.specs.Numbers.{pairs}
+use Rattle.file_numbers.specs.Numbers.{pairs}
 
 -- "a residual outside -32768..32767"
 unfoldable pub anyBeyond : List ℤ → Bool

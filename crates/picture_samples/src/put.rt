@@ -1,5 +1,5 @@
 // "each sample being the residual plus 32768, high byte first".
-use block_text::text::put;
+use file_text::text::put;
 ghost use mathlib.Core.Path.{_≡_};
 ghost use mathlib.Core.Bool.{false};
 ghost use mathlib.Core.List.{[], _∷_};
@@ -7,7 +7,7 @@ ghost use Prim.Native.Nat.{_+_, _*_, _≤_, _<_};
 ghost use lib.ListN.{length};
 ghost use Rattle.meaning.specs.Plan.{shortRange};
 ghost use Rattle.meaning.specs.Long.{beyond};
-ghost use Rattle.block_text.specs.Wrote.{Wrote};
+ghost use Rattle.file_text.specs.Wrote.{Wrote};
 ghost use Rattle.picture_samples.specs.Samples.{anyBeyond, sampleOf, samples};
 
 fn is_beyond(z: i32) -> bool

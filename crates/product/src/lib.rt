@@ -1,5 +1,5 @@
 // Internal: a line, and lines, as the matrix product two inputs at a time; it asks that places are in their lists and weights
-// small, which `engine`, `dct2_line`, `inverse_block` and `forward_block` have seen to. Both stages of both directions are lines of it,
+// small, which `full_line`, `dct2_line`, `inverse_block` and `forward_block` have seen to. Both stages of both directions are lines of it,
 // and so are the lines of the full product, with no shift. Read specs/Product; proofs/Laid has what a caller cites.
 //
 // LLVM multiplies and adds eight 16-bit numbers in one instruction (pmaddwd) where it sees the pair sums stored by one loop

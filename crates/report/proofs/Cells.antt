@@ -12,7 +12,7 @@ use lib.ListN.{length, length-set}
 use lib.Seq.{getD-set-same, getD-set-other}
 use Rattle.meaning.specs.declared.Shape.{Shape}
 use Rattle.meaning.specs.declared.Answer.{Answer}
-use Rattle.block_trip.specs.Trip.{tripAnswer, railCount, largest, squares}
+use Rattle.forward_and_back.specs.Trip.{tripAnswer, railCount, largest, squares}
 use Rattle.report.specs.Totals.{total, plus, raised, class, place, entered, counted, refusedPlace, givenPlace, addOutcome}
 use Rattle.report.specs.Given.{GivenBlock, taken}
 use Rattle.report.proofs.Counting.{counted-refused, counted-taken, add-more}

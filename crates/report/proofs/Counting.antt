@@ -6,7 +6,7 @@ use borrow.Author.Tests.{eq-eqb, ne-eqb, le-leb, lt-leb}
 use lib.IntN.{ℤ}
 use Rattle.meaning.specs.declared.Shape.{Shape}
 use Rattle.meaning.specs.Answer.{refused}
-use Rattle.block_trip.specs.Trip.{tripAnswer, railCount, largest, squares}
+use Rattle.forward_and_back.specs.Trip.{tripAnswer, railCount, largest, squares}
 use Rattle.report.specs.Totals.{total, plus, place, refusedPlace, givenPlace, entered, counted, addOutcome}
 
 module _ (sh : Shape) (r : List ℤ) (t : List ℕ) where

@@ -19,10 +19,10 @@ use Rattle.meaning.proofs.Cases.{depth-cases}
 use Rattle.meaning.proofs.AcceptedCalls.{elements-in}
 use Rattle.meaning.proofs.NoRails.{count-in}
 use Rattle.meaning.proofs.Stages.{taken-sized}
-use Rattle.block_trip.specs.Trip.{elements, railCount, returned, apart, largest, squares}
+use Rattle.forward_and_back.specs.Trip.{elements, railCount, returned, apart, largest, squares}
 use Rattle.report.specs.Given.{GivenBlock, taken}
-use Rattle.block_trip.proofs.Numbers.{greatest-in, squares-in, apart-in}
-use Rattle.block_trip.proofs.Back.{Took, took, returned-in}
+use Rattle.forward_and_back.proofs.Numbers.{greatest-in, squares-in, apart-in}
+use Rattle.forward_and_back.proofs.Back.{Took, took, returned-in}
 use Rattle.report.proofs.Cells.{taken-zero}
 
 module _ (sh : Shape) (r : List ℤ) (t : Took sh r) where

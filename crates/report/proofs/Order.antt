@@ -8,7 +8,7 @@ use native.Mathlib.Omega.{arith}
 use native.Mathlib.Decide.{ℕ-discrete}
 use lib.ListN.{length}
 use lib.Seq.{ext-getD}
-use Rattle.block_trip.specs.Trip.{railCount, largest, squares}
+use Rattle.forward_and_back.specs.Trip.{railCount, largest, squares}
 use Rattle.report.specs.Totals.{empty, total, refusedPlace, givenPlace}
 use Rattle.report.specs.Given.{GivenBlock, afterAll, totalsOf, taken, Reordered}
 use Rattle.report.proofs.Cells.{withBlock}

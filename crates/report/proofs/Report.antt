@@ -13,7 +13,7 @@ use lib.Dec.{eqb}
 use lib.ListN.{length, getD-replicate, length-replicate}
 use Rattle.meaning.specs.declared.Shape.{Shape}
 use Rattle.meaning.proofs.Cases.{and-cases, and-so}
-use Rattle.block_trip.specs.Trip.{railCount, largest, squares}
+use Rattle.forward_and_back.specs.Trip.{railCount, largest, squares}
 use Rattle.report.specs.Totals.{empty, total, class, place, refusedPlace, givenPlace}
 use Rattle.report.specs.Given.{GivenBlock, afterAll, totalsOf, taken, alike, among, sumOver, maxOver}
 use Rattle.report.proofs.Fits.{rails-in, squares-fit, took-given}

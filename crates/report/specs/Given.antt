@@ -6,7 +6,7 @@ use Prim.Native.Nat.{ℕ, _+_, max}
 use lib.Dec.{eqb}
 use lib.IntN.{ℤ}
 use Rattle.meaning.specs.declared.Shape.{Shape}
-use Rattle.block_trip.specs.Trip.{tripAnswer}
+use Rattle.forward_and_back.specs.Trip.{tripAnswer}
 use Rattle.report.specs.Totals.{empty, addOutcome}
 
 pub record GivenBlock : Type 0 where

@@ -12,7 +12,7 @@ use Rattle.meaning.specs.declared.Shape.{Shape}
 use Rattle.meaning.specs.declared.Answer.{Answer}
 use Rattle.meaning.specs.Answer.{test, refused}
 use Rattle.meaning.specs.Forward.{log2}
-use Rattle.block_trip.specs.Trip.{tripAnswer, railCount, largest, squares}
+use Rattle.forward_and_back.specs.Trip.{tripAnswer, railCount, largest, squares}
 
 -- the total that stands at a place
 abbrev pub total : List ℕ → ℕ → ℕ

@@ -1,6 +1,6 @@
 // The totals, which the caller keeps: 578 numbers, lent to each call. `add` takes one block.
-use block_trip::larger;
-use block_trip::trip;
+use forward_and_back::larger;
+use forward_and_back::trip;
 use meaning::Answer;
 use meaning::Shape;
 use meaning::refused;
@@ -9,7 +9,7 @@ ghost use mathlib.Core.Bool.{true};
 ghost use mathlib.Core.List.{List};
 ghost use Prim.Native.Nat.{ℕ, _+_, _<_, _≤_};
 ghost use Rattle.meaning.specs.Shape.{isKind};
-ghost use Rattle.block_trip.specs.Trip.{tripAnswer};
+ghost use Rattle.forward_and_back.specs.Trip.{tripAnswer};
 ghost use Rattle.report.specs.Totals.{empty, side, place, entered, counted, plus, addOutcome};
 
 /// The totals of no blocks.

@@ -8,9 +8,9 @@ use lib.Dec.{eqb}
 use lib.ListN.{length, take, drop, length-append, length-drop, List·getD-append}
 use lib.Seq.{length-take-le, getD-append-add, getD-take, getD-drop}
 use Rattle.meaning.specs.declared.Shape.{Shape}
-use Rattle.block_file.specs.declared.cursor.Cursor.{Cursor}
-use Rattle.block_file.specs.declared.field.Field.{Field}
-use Rattle.block_file.specs.Cursor.{fileStart, advanceOf}
+use Rattle.file_fields.specs.declared.cursor.Cursor.{Cursor}
+use Rattle.file_fields.specs.declared.field.Field.{Field}
+use Rattle.file_fields.specs.Cursor.{fileStart, advanceOf}
 use Rattle.salvage.specs.Pieces.{reads, onward, pieces, joined, keptOf, written, dropped, readsAll, undamaged}
 use Rattle.salvage.proofs.Moves.{onward-read, onward-lost}
 use Rattle.salvage.proofs.Cover.{by-pieces}

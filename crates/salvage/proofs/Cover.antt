@@ -7,8 +7,8 @@ use borrow.Author.Tests.{ltb-true, ltb-false}
 use lib.Dec.{ltb}
 use mathlib.Core.Bool.{Bool, true, false}
 use lib.ListN.{length}
-use Rattle.block_file.specs.declared.cursor.Cursor.{Cursor}
-use Rattle.block_file.specs.Cursor.{fileStart}
+use Rattle.file_fields.specs.declared.cursor.Cursor.{Cursor}
+use Rattle.file_fields.specs.Cursor.{fileStart}
 use Rattle.salvage.specs.declared.search.Piece.{Piece}
 use Rattle.salvage.specs.Pieces.{onward, pieceAt, pieces, Covers}
 use Rattle.salvage.proofs.Moves.{moves}

@@ -5,7 +5,7 @@ use mathlib.Core.List.{List, [], _∷_}
 use Prim.Native.Nat.{ℕ, zero, suc, _+_, _≤_}
 use native.Mathlib.Omega.{arith}
 use lib.ListN.{length}
-use Rattle.block_file.specs.Cursor.{fileStart}
+use Rattle.file_fields.specs.Cursor.{fileStart}
 use Rattle.salvage.specs.declared.search.Piece.{Piece}
 use Rattle.salvage.specs.Pieces.{goesOn, goesOnIn, pieces, Covers}
 use Rattle.salvage.proofs.Cover.{covers}

@@ -9,11 +9,11 @@ use lib.Dec.{eqb, ltb}
 use lib.ListN.{length}
 use Rattle.meaning.specs.declared.Shape.{Shape}
 use Rattle.meaning.specs.Shape.{shapeOf, keeping}
-use Rattle.block_file.specs.declared.cursor.Cursor.{Cursor}
-use Rattle.block_file.specs.declared.field.Field.{Field}
-use Rattle.block_file.specs.Field.{byteAt, lengthAt, bodyAt, shapeAt, shapeBehind, shapeNumber, isShape, isKeeping, headerNumber, fieldNumber, fieldAt, wholeField, nothing}
-use Rattle.block_file.specs.Cursor.{advanceOf, foundAt}
-use Rattle.block_file.proofs.Whole.{Whole, whole-field, in-order, ofHeader, ofShape}
+use Rattle.file_fields.specs.declared.cursor.Cursor.{Cursor}
+use Rattle.file_fields.specs.declared.field.Field.{Field}
+use Rattle.file_fields.specs.Field.{byteAt, lengthAt, bodyAt, shapeAt, shapeBehind, shapeNumber, isShape, isKeeping, headerNumber, fieldNumber, fieldAt, wholeField, nothing}
+use Rattle.file_fields.specs.Cursor.{advanceOf, foundAt}
+use Rattle.file_fields.proofs.Whole.{Whole, whole-field, in-order, ofHeader, ofShape}
 use Rattle.salvage.specs.Pieces.{reads}
 
 -- n bytes stand at place k of g as at place `at` of f

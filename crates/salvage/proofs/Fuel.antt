@@ -8,7 +8,7 @@ use native.Mathlib.Omega.{arith}
 use borrow.Author.Tests.{ltb-true, le-ltb, lt-ltb}
 use lib.Dec.{ltb}
 use lib.ListN.{length}
-use Rattle.block_file.specs.declared.cursor.Cursor.{Cursor}
+use Rattle.file_fields.specs.declared.cursor.Cursor.{Cursor}
 use Rattle.salvage.specs.declared.search.Piece.{Piece}
 use Rattle.salvage.specs.Pieces.{onward, pieceAt, piecesFrom, pieces}
 use Rattle.salvage.proofs.Moves.{moves}

@@ -7,10 +7,10 @@ use native.Mathlib.Numerals.{add-one}
 use native.Mathlib.Omega.{arith}
 use lib.ListN.{length, take, drop, getD, take-append-drop, length-append}
 use lib.Seq.{take-suc, take-all}
-use Rattle.block_file.specs.declared.cursor.Cursor.{Cursor}
-use Rattle.block_file.specs.Cursor.{fileStart}
-use Rattle.block_text.specs.Wrote.{Wrote}
-use Rattle.block_text.proofs.Writing.{andThen, retext, later}
+use Rattle.file_fields.specs.declared.cursor.Cursor.{Cursor}
+use Rattle.file_fields.specs.Cursor.{fileStart}
+use Rattle.file_text.specs.Wrote.{Wrote}
+use Rattle.file_text.proofs.Writing.{andThen, retext, later}
 use Rattle.salvage.specs.declared.search.Piece.{Piece}
 use Rattle.salvage.specs.Pieces.{onward, pieceAt, pieces, joined, keptOf, droppedOf}
 use Rattle.algebra.specs.Lists.{over}

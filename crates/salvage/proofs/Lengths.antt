@@ -6,8 +6,8 @@ use Prim.Native.Nat.{ℕ, _+_, _*_, _-_, _≤_, _<_}
 use native.Mathlib.Nat.{mul-add}
 use native.Mathlib.Omega.{arith}
 use lib.ListN.{length, take, drop, length-append, length-take}
-use Rattle.block_file.specs.declared.cursor.Cursor.{Cursor}
-use Rattle.block_file.specs.Cursor.{fileStart}
+use Rattle.file_fields.specs.declared.cursor.Cursor.{Cursor}
+use Rattle.file_fields.specs.Cursor.{fileStart}
 use Rattle.salvage.specs.declared.search.Piece.{Piece}
 use Rattle.salvage.specs.Pieces.{onward, reads, pieceAt, pieces, joined, keptOf, written, droppedOf, dropped}
 use Rattle.salvage.proofs.Cover.{by-pieces}

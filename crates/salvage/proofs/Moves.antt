@@ -6,10 +6,10 @@ use Prim.Native.Nat.{ℕ, zero, suc, _+_, _-_, _≤_, _<_}
 use native.Mathlib.Omega.{arith}
 use borrow.Author.Tests.{eqb-true, eq-eqb, ne-eqb}
 use lib.ListN.{length}
-use Rattle.block_file.specs.declared.cursor.Cursor.{Cursor}
-use Rattle.block_file.specs.declared.cursor.Advance.{Advance}
-use Rattle.block_file.specs.Cursor.{advanceOf}
-use Rattle.block_file.proofs.Found.{found-cases}
+use Rattle.file_fields.specs.declared.cursor.Cursor.{Cursor}
+use Rattle.file_fields.specs.declared.cursor.Advance.{Advance}
+use Rattle.file_fields.specs.Cursor.{advanceOf}
+use Rattle.file_fields.proofs.Found.{found-cases}
 use Rattle.salvage.specs.Pieces.{goesOn, goesOnIn, nextAfter, reads, onward}
 
 -- the search stays within its k offsets and the one behind them

@@ -4,8 +4,8 @@ use mathlib.Core.List.{List, [], _∷_, _++_, map}
 use Prim.Native.Nat.{ℕ}
 use lib.ListN.{take, drop, replicate}
 use Rattle.meaning.specs.Shape.{isSize, isKind, isDepth, mostKept, keeps}
-use Rattle.block_file.specs.Field.{shapeNumber, headerNumber, fieldNumber, fieldAt}
-use Rattle.block_file.specs.Cursor.{foundAt}
+use Rattle.file_fields.specs.Field.{shapeNumber, headerNumber, fieldNumber, fieldAt}
+use Rattle.file_fields.specs.Cursor.{foundAt}
 use Rattle.salvage.specs.Pieces.{dataFollows, goesOn, goesOnIn, onward, piecesFrom, pieces, joined, keptOf, written, droppedOf, dropped}
 
 -- a shape of 4 by 4, kept numbers for it, and its sixteen coefficients

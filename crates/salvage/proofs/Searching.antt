@@ -6,10 +6,10 @@ use Prim.Native.Nat.{ℕ, zero, suc, _+_, _-_, _≤_, _<_}
 use native.Mathlib.Omega.{arith}
 use lib.Dec.{eqb}
 use lib.ListN.{length}
-use Rattle.block_file.specs.declared.cursor.Cursor.{Cursor}
-use Rattle.block_file.specs.declared.cursor.Advance.{Advance}
-use Rattle.block_file.specs.Field.{isData, isKeeping}
-use Rattle.block_file.specs.Cursor.{fileStart, advanceOf}
+use Rattle.file_fields.specs.declared.cursor.Cursor.{Cursor}
+use Rattle.file_fields.specs.declared.cursor.Advance.{Advance}
+use Rattle.file_fields.specs.Field.{isData, isKeeping}
+use Rattle.file_fields.specs.Cursor.{fileStart, advanceOf}
 use Rattle.salvage.specs.Pieces.{dataFollows, goesOn, goesOnIn}
 
 -- ---- what the code computes at an offset

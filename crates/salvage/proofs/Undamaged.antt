@@ -10,8 +10,8 @@ use lib.ListN.{length, take, drop, take-append-drop, drop-of-length-le}
 use lib.Seq.{drop-drop}
 use Rattle.algebra.specs.Lists.{over}
 use Rattle.meaning.proofs.Cases.{and-cases}
-use Rattle.block_file.specs.declared.cursor.Cursor.{Cursor}
-use Rattle.block_file.specs.Cursor.{fileStart, advanceOf, tooLong}
+use Rattle.file_fields.specs.declared.cursor.Cursor.{Cursor}
+use Rattle.file_fields.specs.Cursor.{fileStart, advanceOf, tooLong}
 use Rattle.salvage.specs.declared.search.Piece.{Piece}
 use Rattle.salvage.specs.declared.saving.Saved.{Saved}
 use Rattle.salvage.specs.Pieces.{reads, onward, pieceAt, pieces, joined, pieceBytes, keptOf, written, droppedOf, dropped, readsAll, undamaged}

@@ -7,7 +7,7 @@ use lib.ListN.{length}
 use Rattle.algebra.specs.Lists.{over}
 use Rattle.algebra.specs.Refusals.{Refusal, firstOf}
 use Rattle.meaning.specs.Answer.{test}
-use Rattle.block_file.specs.Cursor.{tooLong}
+use Rattle.file_fields.specs.Cursor.{tooLong}
 use Rattle.salvage.specs.declared.saving.Saved.{Saved}
 use Rattle.salvage.specs.Pieces.{written, dropped}
 

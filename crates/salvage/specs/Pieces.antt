@@ -6,9 +6,9 @@ use mathlib.Core.Path.{_≡_}
 use Prim.Native.Nat.{ℕ, zero, suc, _+_, _-_, _<_}
 use lib.Dec.{eqb, ltb}
 use lib.ListN.{length, take, drop}
-use Rattle.block_file.specs.declared.cursor.Cursor.{Cursor}
-use Rattle.block_file.specs.Field.{isShape, isData, isKeeping}
-use Rattle.block_file.specs.Cursor.{fileStart, advanceOf}
+use Rattle.file_fields.specs.declared.cursor.Cursor.{Cursor}
+use Rattle.file_fields.specs.Field.{isShape, isData, isKeeping}
+use Rattle.file_fields.specs.Cursor.{fileStart, advanceOf}
 use Rattle.salvage.specs.declared.search.Piece.{Piece}
 
 -- the reader reads a data field, or a tag 04, which belongs to the shape before it, and then a data field. "8 and 9 are not looked

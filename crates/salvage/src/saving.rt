@@ -1,14 +1,14 @@
 // The new file and the list of dropped stretches.
 use crate::search::Piece;
 use crate::search::piece_at;
-use block_file::cursor::Cursor;
-use block_text::text::put;
+use file_fields::cursor::Cursor;
+use file_text::text::put;
 ghost use mathlib.Core.Path.{_≡_};
 ghost use mathlib.Core.List.{List};
 ghost use Prim.Native.Nat.{ℕ, _+_, _≤_};
 ghost use lib.ListN.{length};
 ghost use Rattle.algebra.specs.Lists.{over};
-ghost use Rattle.block_text.specs.Wrote.{Wrote};
+ghost use Rattle.file_text.specs.Wrote.{Wrote};
 ghost use Rattle.salvage.specs.Pieces.{keptOf, written, droppedOf, dropped};
 ghost use Rattle.salvage.specs.Outcomes.{salvageOutcome};
 

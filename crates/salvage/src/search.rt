@@ -1,11 +1,11 @@
 // The pieces of a file, one by one, and the search behind a place where reading stops.
-use block_file::cursor::Advance;
-use block_file::cursor::Cursor;
+use file_fields::cursor::Advance;
+use file_fields::cursor::Cursor;
+use file_fields::is_data;
 ghost use mathlib.Core.Path.{_≡_};
 ghost use Prim.Native.Nat.{_≤_, _<_};
 ghost use lib.ListN.{length};
-ghost use Rattle.block_file.specs.Field.{isData};
-ghost use Rattle.block_file.specs.Cursor.{advanceOf};
+ghost use Rattle.file_fields.specs.Cursor.{advanceOf};
 ghost use Rattle.salvage.specs.Pieces.{dataFollows, goesOn, nextAfter, onward, pieceAt};
 
 // A field that was read, or a stretch that is dropped.
@@ -19,15 +19,6 @@ pub struct Piece {
 pub struct Found {
     pub piece: Piece,
     pub next: Cursor,
-}
-
-fn is_data(tag: u32) -> bool
-    ensures { λ r. ⌜ r ≡ isData tag ⌝ }
-{
-    if tag == 2 {
-        return true;
-    }
-    tag == 3
 }
 
 fn data_follows(file: &[u8], cursor: Cursor) -> bool

@@ -36,7 +36,7 @@ fn residuals(n: u32, kind: u32, d: u32, c: &[i16], out: &mut [i32])
     requires { ⌜ Lined n kind d (now c) (now out) ⌝ }
     ensures { λ _. ⌜ now (out .exit) ≡ tabulate n (λ k. nearest (thinShift d) (inverseSum kind n n (at (now (c .entry))) k)) ⌝ }
 {
-    engine::full(n as usize, kind, false, c, out);
+    full_line::full(n as usize, kind, false, c, out);
     round_each(21 - d, out);
 }
 

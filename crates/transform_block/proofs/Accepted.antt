@@ -20,7 +20,7 @@ use Rattle.transform_block.specs.declared.TransformBlock.{TransformBlock
 use Rattle.transform_block.specs.TransformBlock.{reachOf, transformPlan, firstReadBeyond, handedTests, transformTests, hasLow, lowNumbers, behindLow, transformed, inverted, transformOutcome}
 use Rattle.transform_block.specs.Given.{TakenFields, GivenWork}
 use Rattle.transform_block.proofs.Taken.{fields-split, columns-read, rows-read}
-use Rattle.transform_block.proofs.Hunting.{none-inside, none-at-all, inside-none}
+use Rattle.transform_hunt.proofs.Hunting.{none-inside, none-at-all, inside-none}
 
 module _ (b : TransformBlock) (c : List ℤ) where
   turned : TakenFields b c → length c ≡ b .height * b .width

@@ -32,7 +32,7 @@ use Rattle.transform_block.specs.declared.TransformBlock.{TransformBlock
 use Rattle.transform_block.specs.TransformBlock.{isBlockSide, isPair, noLine, isOn, isThin, reachOf, transformPlan, hasLow, isCorner, isLow, transformOutcome}
 use Rattle.transform_block.specs.Given.{TakenFields, GivenWork}
 use Rattle.transform_block.proofs.Accepted.{plain-done}
-use Rattle.transform_block.proofs.Narrowed.{shaped}
+use Rattle.transform_block.proofs.ShortBlock.{shaped}
 
 -- a size is a side, has a line of every kind, and is not 1
 size-side : (n : ℕ) → isSize n ≡ true → isBlockSide n ≡ true

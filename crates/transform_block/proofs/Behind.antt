@@ -4,55 +4,31 @@ use native.Mathlib.Omega.{arith}
 use mathlib.Core.Path.{_≡_, refl, sym, ap, _∙_, subst}
 use mathlib.Core.Bool.{Bool, true, false, not, cond, _&&_}
 use mathlib.Core.List.{List}
-use Prim.Native.Nat.{ℕ, _+_, _*_, _/_, _%_, _^_, _≤_, _<_, min}
-use native.Mathlib.Nat.{mul-comm, add-comm, not-suc-le-zero}
-use native.Mathlib.Decide.{ℕ-discrete}
+use Prim.Native.Nat.{ℕ, _+_, _*_, _^_, _≤_, _<_, min}
+use native.Mathlib.Nat.{mul-comm, mul-le-mul-right}
 use borrow.Author.Tests.{eqb-true, eqb-false, leb-true, le-leb, ltb-true, ne-eqb, not-true}
 use lib.Dec.{eqb, ltb, leb}
 use lib.IntN.{ℤ, pos, natAbs}
 use lib.Signed.{_≤ℤ_}
 use lib.ListN.{length}
 use lib.Pow.{pow-pos}
-use Rattle.algebra.specs.Lists.{at, tabulate, block}
-use Rattle.algebra.proofs.Lists.{tab-at, tab-length, block-at, block-length, place-in, row-in, column-of, row-of}
+use Rattle.algebra.specs.Lists.{at, block}
+use Rattle.algebra.proofs.Lists.{block-at, block-length}
 use Rattle.algebra.proofs.Order.{parts-le, parts-abs, le-parts}
 use Rattle.meaning.specs.Shape.{mostKept, isKept}
 use Rattle.meaning.specs.Plan.{rangeOf}
 use Rattle.meaning.specs.Long.{beyond}
 use Rattle.meaning.proofs.Cases.{and-cases}
 use Rattle.meaning.proofs.LongCall.{inside, not-beyond}
-use Rattle.lfnst.specs.LowFrequency.{isWide, lowAt, lowBlock}
-use Rattle.lfnst.specs.Work.{GivenStage}
-use Rattle.lfnst.proofs.Left.{low-inside, low-block-at}
-use Rattle.lfnst.proofs.Same.{low-same}
-use Rattle.transform_stages.specs.Work.{Copied}
+use Rattle.lfnst.specs.LowFrequency.{isWide, lowAt}
+use Rattle.lfnst.specs.Work.{GivenStage, Placed, cornerAt, sideOf}
+use Rattle.lfnst.proofs.Left.{low-inside}
 use Rattle.transform_block.specs.declared.TransformBlock.{TransformBlock}
 use Rattle.transform_block.specs.TransformBlock.{isOn, isThin, reachOf, hasLow, isCorner, takesLow, isLow, readAt, lowSide, lowNumbers, behindLow}
-use Rattle.transform_block.specs.Given.{TakenFields, GivenWork, Put, LowDone}
-use Rattle.transform_block.proofs.Taken.{columns-read, rows-read, far}
-
--- ---- values in their places
-pub put-none : (n w : ℕ) (from r : List ℤ) → Put n 0 w from r r
-put-none n w from r = record { long = refl; done = λ x y h l. absurd (not-suc-le-zero l) }
-
-pub put-next : {from r r₁ r₂ : List ℤ} (n y w : ℕ) → n ≤ w → Put n y w from r r₁ → Copied from (8 * y) n (y * w) r₁ r₂ → Put n (y + 1) w from r r₂
-put-next {from} {r} {r₁} {r₂} n y w m p q = record { long = q .long ∙ p .long; done = λ x z h l. one x z h l (ℕ-discrete z y) }
-  where
-    one : (x z : ℕ) → x < n → z < y + 1 → Dec (z ≡ y) → at r₂ (x + z * w) ≡ at from (x + z * 8)
-    one x z h l (yes e) =
-        let here : 8 * y + x ≡ x + y * 8 = omega arith in
-        subst (λ (z : ℕ). at r₂ (x + z * w) ≡ at from (x + z * 8)) (sym e) (ap (at r₂) (add-comm x (y * w)) ∙ q .done x h ∙ ap (at from) here)
-    one x z h l (no o) =
-        let b : z < y = omega (arith, o) in
-        q .before (x + z * w) (omega (arith, row-in w b)) ∙ p .done x z h b
+use Rattle.transform_block.specs.Given.{TakenFields, GivenWork, LowDone}
+use Rattle.transform_block.proofs.Taken.{wide, far}
 
 module _ (b : TransformBlock) (c : List ℤ) (t : TakenFields b c) where
-  -- what is read is there
-  pub read-there : (x y : ℕ) → x < b .columns → y < b .rows → x + y * b .width < length c
-  read-there x y h l =
-      let p : x + y * b .width < b .height * b .width = place-in (omega (arith, columns-read b c t .within)) (omega (arith, rows-read b c t .within)) in
-      omega (arith, p, t .long, mul-comm (b .width) (b .height))
-
   -- ---- a block with LFNST
   module _ (low : hasLow b ≡ true) where
     pub some : 1 ≤ b .lfnst
@@ -149,16 +125,6 @@ module _ (b : TransformBlock) (c : List ℤ) (t : TakenFields b c) where
         }
 
 -- ---- the stage: what it is given, and what it leaves
--- column x of row y of the corner
-abbrev pub cornerOf : TransformBlock → List ℤ → List ℤ
-cornerOf b c = tabulate 16 (λ k. readAt b c (k % 4) (k / 4))
-
-corner-at : (b : TransformBlock) (c : List ℤ) (x y : ℕ) → x < 4 → y < 4 → at (cornerOf b c) (x + 4 * y) ≡ readAt b c x y
-corner-at b c x y h l =
-    let e : x + 4 * y ≡ x + y * 4 = omega arith in
-    let p : x + y * 4 < 16 = omega arith in
-    ap (at (cornerOf b c)) e ∙ tab-at 16 (λ k. readAt b c (k % 4) (k / 4)) (x + y * 4) p ∙ (λ i. readAt b c (column-of y h i) (row-of y h i))
-
 -- what is read is in the range, and so is 0
 read-inside : (b : TransformBlock) (c : List ℤ) → GivenWork b c → (x y : ℕ) → (rangeOf (reachOf b) .low ≤ℤ readAt b c x y) × (readAt b c x y ≤ℤ rangeOf (reachOf b) .high)
 unfolding readAt
@@ -178,42 +144,33 @@ read-size b c g x y =
     let i = read-inside b c g x y in
     parts-abs (readAt b c x y) (2 ^ reachOf b) (omega (arith, le-parts (i .1))) (omega (arith, le-parts (i .0)))
 
-pub stage-given : (b : TransformBlock) (c : List ℤ) → GivenWork b c → hasLow b ≡ true → GivenStage (b .lfnst) (b .set) (reachOf b) (cornerOf b c)
+pub stage-given : (b : TransformBlock) (c : List ℤ) → GivenWork b c → hasLow b ≡ true → GivenStage (b .width) (b .height) (b .lfnst) (b .set) (reachOf b) (b .columns) (b .rows) c
+unfolding readAt lowSide
 stage-given b c g low =
     let t = g .taken in
+    let s = side-in b c t low in
     record {
       some = some b c t low;
       two = most-two b c t low;
       sets = sets b c t low;
       short = far b c t .1;
-      ranged = record {
-        long = tab-length 16 (λ k. readAt b c (k % 4) (k / 4));
-        inside = λ k h.
-            subst (λ (z : ℤ). (rangeOf (reachOf b) .low ≤ℤ z) × (z ≤ℤ rangeOf (reachOf b) .high)) (sym (tab-at 16 (λ k. readAt b c (k % 4) (k / 4)) k h)) (read-inside b c g (k % 4) (k / 4));
-      };
+      most = wide b c t;
+      within = s .1 .1 .0;
+      room =
+          let l : lowSide b * b .width ≤ b .height * b .width = mul-le-mul-right (b .width) (s .1 .1 .1) in
+          omega (arith, l, t .long, mul-comm (b .width) (b .height));
+      inside = read-inside b c g;
     }
 
-pub left-long : (width height index set : ℕ) (transposed : Bool) (reach : ℕ) (c : ℕ → ℕ → ℤ) → length (lowBlock width height index set transposed reach c) ≡ 64
-unfolding lowBlock
-left-long width height index set transposed reach c = block-length 8 8 _
-
-module _ (b : TransformBlock) (c : List ℤ) (t : TakenFields b c) (low : hasLow b ≡ true) where
-  pub stage-left : {corner values d : List ℤ} {reach side : ℕ} → corner ≡ cornerOf b c → reach ≡ reachOf b → side ≡ lowSide b
-      → values ≡ lowBlock (b .width) (b .height) (b .lfnst) (b .set) (eqb (b .transposed) 1) reach (λ x y. at corner (x + 4 * y)) → Put side side (b .width) values c d → LowDone b c d
-  stage-left {corner} {values} {d} {reach} {side} read r n left p =
-      let s = side-in b c t low in
-      record {
-        long = p .long;
-        same = λ x y h l.
-            let a : x < side = omega (arith, n) in
-            let o : y < side = omega (arith, n) in
-            let q : x < 8 = omega (arith, s) in
-            let v : y < 8 = omega (arith, s) in
-            p .done x y a o
-            ∙ ap (λ (l : List ℤ). at l (x + y * 8)) left
-            ∙ low-block-at (b .width) (b .height) (b .lfnst) (b .set) (eqb (b .transposed) 1) reach (λ x y. at corner (x + 4 * y)) x y q v
-            ∙ low-same (λ x y. at corner (x + 4 * y)) (readAt b c) (λ x y h l. ap (λ (l : List ℤ). at l (x + 4 * y)) read ∙ corner-at b c x y h l) (b .width) (b .height) (b .lfnst) (b .set)
-            (eqb (b .transposed) 1) reach x y
-            ∙ ap (λ (r : ℕ). lowAt (b .width) (b .height) (b .lfnst) (b .set) (eqb (b .transposed) 1) r (readAt b c) x y) r
-            ∙ sym (low-at b c t low x y (omega (arith, s)) (omega (arith, s)));
-      }
+pub stage-left : (b : TransformBlock) {c d : List ℤ} (t : TakenFields b c) (low : hasLow b ≡ true) {reach : ℕ} → reach ≡ reachOf b
+    → Placed (sideOf (b .width) (b .height)) (sideOf (b .width) (b .height)) (b .width) (lowAt (b .width) (b .height) (b .lfnst) (b .set) (eqb (b .transposed) 1) reach (cornerAt (b .width) (b .columns) (b .rows) c)) c d → LowDone b c d
+unfolding readAt lowSide
+stage-left b {c} {d} t low {reach} r p =
+    let s = side-in b c t low in
+    record {
+      long = p .long;
+      same = λ x y h l.
+          p .done x y h l
+          ∙ ap (λ (r : ℕ). lowAt (b .width) (b .height) (b .lfnst) (b .set) (eqb (b .transposed) 1) r (readAt b c) x y) r
+          ∙ sym (low-at b c t low x y (omega (arith, h, s)) (omega (arith, l, s)));
+    }

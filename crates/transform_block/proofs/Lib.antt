@@ -1,7 +1,7 @@
 pub mod Taken
-pub mod Hunting
-pub mod Narrowed
+pub mod ShortBlock
 pub mod PairedBlock
+pub mod SideBlock
 pub mod Accepted
 pub mod Behind
 pub mod NearExact
@@ -13,3 +13,5 @@ pub mod Thin
 pub mod NotRead
 pub mod Left
 pub mod FlatBlock
+pub mod Shortened
+pub mod UsualBlock

@@ -27,7 +27,7 @@ use Rattle.transform_block.specs.declared.TransformBlock.{TransformBlock
 use Rattle.transform_block.specs.TransformBlock.{isThin, reachOf, lastOf, ofSide, sideSum, sideResidual, sideBlock, transformPlan, hasLow, readAt, lowNumbers, behindLow, transformed, inverted, transformOutcome}
 use Rattle.transform_block.specs.Given.{TakenFields, GivenWork}
 use Rattle.transform_block.proofs.Taken.{columns-read, rows-read}
-use Rattle.transform_pairs.proofs.Unread.{rails-same, block-same}
+use Rattle.narrowing.proofs.Unread.{rails-same, block-same}
 use Rattle.transform_block.proofs.Accepted.{transform-accepted, transform-done}
 
 module _ (b : TransformBlock) (c d : List ℤ) (long : length c ≡ length d)

@@ -11,12 +11,13 @@ use Rattle.meaning.specs.Plan.{Plan, rangeOf, reach}
 use Rattle.meaning.specs.Long.{beyond}
 use Rattle.meaning.proofs.Cases.{and-cases}
 use Rattle.transform_stages.specs.Work.{worked}
+use Rattle.narrowing.proofs.Reading.{sixteen}
 use Rattle.transform_pairs.specs.Pairs.{shortPlan, GivenPairs}
+use Rattle.transform_two.specs.Two.{GivenSides}
 use Rattle.transform_block.specs.declared.TransformBlock.{TransformBlock}
 use Rattle.transform_block.specs.TransformBlock.{isOn, isThin, reachOf, lastOf, transformPlan}
 use Rattle.transform_block.specs.Given.{GivenWork, isPaired, GivenPaired}
-use Rattle.transform_block.proofs.Taken.{columns-read, rows-read, sized, last-two, last-short}
-use Rattle.transform_block.proofs.Narrowed.{sixteen}
+use Rattle.transform_block.proofs.Taken.{columns-read, rows-read, columns-most, rows-most, sized, last-two, last-short}
 
 module _ (b : TransformBlock) (paired : isPaired b ≡ true) where
   parts : (not (isOn b) ≡ true) × (not (isThin b) ≡ true)
@@ -49,3 +50,7 @@ module _ (b : TransformBlock) (paired : isPaired b ≡ true) where
         long = t .long;
         fits = λ x y h l. sixteen (at c (x + y * b .width)) (subst (λ (r : ℕ). beyond (rangeOf r) (at c (x + y * b .width)) ≡ false) reach-15 (g .inside x y h l));
       }
+
+  -- .. and no more is read than a kind has
+  pub given-sides : (c : List ℤ) → GivenWork b c → GivenSides (shortPlan (b .width) (b .height) (b .horizontal) (b .vertical) (b .columns) (b .rows) (lastOf b)) c
+  given-sides c g = let t = g .taken in record { pairs = given-pairs c g; some = columns-read b c t .some; along = columns-most b c t; down = rows-most b c t }

@@ -14,7 +14,7 @@ use Rattle.algebra.specs.Refusals.{Refusal, numberOf}
 use Rattle.algebra.specs.Lists.{at}
 use Rattle.algebra.proofs.Refusals.{Clear, clear-split, no-number}
 use Rattle.algebra.proofs.Order.{le-parts, parts-abs}
-use Rattle.meaning.specs.Shape.{isSize, isKind, isDepthTo, isKept, hasLine}
+use Rattle.meaning.specs.Shape.{isSize, isKind, isDepthTo, isKept, hasLine, mostKept}
 use Rattle.meaning.specs.Plan.{rangeOf, reach}
 use Rattle.meaning.specs.Answer.{inputTest}
 use Rattle.meaning.specs.Long.{beyond}
@@ -83,6 +83,13 @@ module _ (b : TransformBlock) (c : List ℤ) (t : TakenFields b c) where
   pub rows-read : Kept (b .height) (b .rows)
   rows-read = kept-of (b .vertical) (b .height) (b .rows) (both .1)
 
+  -- no more than a kind has
+  pub columns-most : b .columns ≤ mostKept (b .horizontal) (b .width)
+  columns-most = leb-true (b .columns) (mostKept (b .horizontal) (b .width)) (and-cases (leb 1 (b .columns)) (leb (b .columns) (mostKept (b .horizontal) (b .width))) (both .0) .1)
+
+  pub rows-most : b .rows ≤ mostKept (b .vertical) (b .height)
+  rows-most = leb-true (b .rows) (mostKept (b .vertical) (b .height)) (and-cases (leb 1 (b .rows)) (leb (b .rows) (mostKept (b .vertical) (b .height))) (both .1) .1)
+
   high-side : (isBlockSide (b .height) ≡ true) × (not (eqb (b .width) 1 && eqb (b .height) 1) ≡ true)
   high-side = and-cases (isBlockSide (b .height)) (not (eqb (b .width) 1 && eqb (b .height) 1)) (t .pair)
 
@@ -135,6 +142,9 @@ module _ (b : TransformBlock) (c : List ℤ) (t : TakenFields b c) where
   module _ (one : isThin b ≡ true) where
     pub last-one : (4 ≤ lastOf b) × (lastOf b ≤ 32)
     last-one = let d = deep in let r = far in rw one (omega (arith, d, r), omega (arith, d, r))
+
+    pub last-few : lastOf b ≤ 20
+    last-few = let d = deep in let r = far in rw one (omega (arith, d, r))
 
 -- a number of the range is at most 2^R in size, which is at most 2^20
 pub in-reach : (r : ℕ) (z : ℤ) → beyond (rangeOf r) z ≡ false → natAbs z ≤ 2 ^ r

@@ -27,7 +27,7 @@ use Rattle.transform_block.specs.declared.TransformBlock.{TransformBlock
 use Rattle.transform_block.specs.TransformBlock.{isBlockSide, isPair, noLine, isOn, isThin, reachOf, lastOf, sideSum, sideResidual, sideBlock, hasLow, isCorner, isLow, transformOutcome}
 use Rattle.transform_block.specs.Given.{TakenFields, GivenWork}
 use Rattle.transform_block.proofs.Accepted.{plain-done}
-use Rattle.transform_block.proofs.Narrowed.{shaped}
+use Rattle.transform_block.proofs.ShortBlock.{shaped}
 
 -- a side of that call is one of this call, and has a line of every kind
 side : (n other : ℕ) → thin.isSide n other ≡ true → isBlockSide n ≡ true

@@ -2,7 +2,7 @@
 use mathlib.Core.Path.{_≡_}
 use mathlib.Core.Bool.{Bool, true, false, not, _&&_}
 use mathlib.Core.List.{List}
-use Prim.Native.Nat.{ℕ, _+_, _*_, _≤_, _<_}
+use Prim.Native.Nat.{ℕ, _+_, _*_, _-_, _≤_, _<_}
 use lib.IntN.{ℤ}
 use lib.ListN.{length}
 use Rattle.algebra.specs.Lists.{at}
@@ -10,7 +10,8 @@ use Rattle.meaning.specs.Plan.{rangeOf}
 use Rattle.meaning.specs.Shape.{isSize, isKind, isDepth, isDepthTo}
 use Rattle.meaning.specs.Long.{beyond}
 use Rattle.transform_block.specs.declared.TransformBlock.{TransformBlock}
-use Rattle.transform_block.specs.TransformBlock.{isBlockSide, isPair, noLine, isOn, isReadable, hasLow, isCorner, isLow, isThin, reachOf, lowSide, lowNumbers, transformed, inverted}
+use Rattle.meaning.specs.Answer.{Outcome, accepted}
+use Rattle.transform_block.specs.TransformBlock.{isBlockSide, isPair, noLine, isOn, isReadable, hasLow, isCorner, isLow, isThin, reachOf, lastOf, lowSide, lowNumbers, transformed, inverted, transformOutcome}
 
 -- past 1 to 4, 30, 5, 20, 31 and 6
 pub record TakenFields (b : TransformBlock) (c : List ℤ) : Type 0 where
@@ -46,31 +47,16 @@ pub record AfterLow (b : TransformBlock) (c : List ℤ) (r : TransformBlock) (d 
   pub given : GivenWork r d
   pub same : transformed r d ≡ inverted b c
 
--- ---- LFNST's values: n columns and rows of rows of 8, and room for them in rows of w
-pub record Puttable (n w : ℕ) (from r : List ℤ) : Type 0 where
-  pub few : n ≤ 8
-  pub within : n ≤ w
-  pub there : length from ≡ 64
-  pub room : n * w ≤ length r
-
--- n columns of the first rows stand there
-pub record Put (n rows w : ℕ) (from r r₁ : List ℤ) : Type 0 where
-  pub long : length r₁ ≡ length r
-  pub done : (x y : ℕ) → x < n → y < rows → at r₁ (x + y * w) ≡ at from (x + y * 8)
-
--- ---- the hunt: of `count` numbers from o on, none before r is outside the range, and that at r is, unless r is behind them
-pub record BeyondFrom (c : List ℤ) (o count reach r : ℕ) : Type 0 where
-  pub from : o ≤ r
-  pub to : r ≤ o + count
-  pub none : (k : ℕ) → o ≤ k → k < r → beyond (rangeOf reach) (at c k) ≡ false
-  pub here : r < o + count → beyond (rangeOf reach) (at c r) ≡ true
-
 -- ---- what document 01's call takes
 unfoldable pub isShort : TransformBlock → Bool
 isShort b = not (isOn b) && (isSize (b .width) && (isSize (b .height) && isDepth (b .depth)))
 
 abbrev pub GivenShort : TransformBlock → List ℤ → Type 0
 GivenShort b c = GivenWork b c × (isShort b ≡ true)
+
+-- ---- one stage
+abbrev pub GivenThin : TransformBlock → List ℤ → Type 0
+GivenThin b c = GivenWork b c × (isThin b ≡ true)
 
 -- ---- two stages with the switch off
 unfoldable pub isPaired : TransformBlock → Bool
@@ -87,3 +73,43 @@ pub record Flat (b : TransformBlock) : Type 0 where
   pub vertical : b .vertical ≡ 0
   pub off : isOn b ≡ false
   pub two : isThin b ≡ false
+
+-- ---- two stages with the switch on: the block with the switch off that has the same last shift
+abbrev pub shortened : TransformBlock → TransformBlock
+shortened b =
+    record {
+      width = b .width;
+      height = b .height;
+      horizontal = b .horizontal;
+      vertical = b .vertical;
+      depth = 20 - lastOf b;
+      extended = 0;
+      columns = b .columns;
+      rows = b .rows;
+      lfnst = b .lfnst;
+      set = b .set;
+      transposed = b .transposed;
+    }
+
+-- ---- the usual block: what is 0 in it, and the rest
+pub record Plain (b : TransformBlock) : Type 0 where
+  pub extended : b .extended ≡ 0
+  pub lfnst : b .lfnst ≡ 0
+  pub set : b .set ≡ 0
+  pub transposed : b .transposed ≡ 0
+  pub horizontal : b .horizontal ≡ 0
+  pub vertical : b .vertical ≡ 0
+
+pub record Usual (b : TransformBlock) (n : ℕ) : Type 0 where
+  pub plain : Plain b
+  pub width : isSize (b .width) ≡ true
+  pub height : isSize (b .height) ≡ true
+  pub depth : isDepth (b .depth) ≡ true
+  pub columns : (1 ≤ b .columns) × (b .columns ≤ b .width)
+  pub rows : (1 ≤ b .rows) × (b .rows ≤ b .height)
+  pub long : n ≡ b .width * b .height
+
+-- it took the quick way, which gives the outcome; or it stands as it was
+pub record Tried (b : TransformBlock) (c : List ℤ) (t : Bool) (r : ℕ) (out : List ℤ) : Type 0 where
+  pub left : t ≡ false → out ≡ c
+  pub done : t ≡ true → _≡_ {A = Outcome} (accepted r, out) (transformOutcome b c)

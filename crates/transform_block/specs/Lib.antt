@@ -1,3 +1,2 @@
 pub mod TransformBlock
 pub mod Given
-pub mod Room

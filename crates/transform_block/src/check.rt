@@ -1,64 +1,18 @@
-// The refusals that need no look at the numbers.
+// The refusals that need no look at the numbers, by the tests of `transform_fields`.
 use crate::TransformBlock;
 use crate::rules::has_low;
 use meaning::is_kept;
 use meaning::is_kind;
-use meaning::is_size;
+use transform_fields::is_corner;
+use transform_fields::is_depth;
+use transform_fields::is_pair;
+use transform_fields::is_side;
+use transform_fields::known_low;
+use transform_fields::no_line;
+use transform_fields::takes_low;
 ghost use mathlib.Core.Path.{_≡_};
-ghost use mathlib.Core.Bool.{_&&_};
 ghost use Rattle.algebra.specs.Refusals.{numberOf};
-ghost use Rattle.meaning.specs.Shape.{isDepthTo};
-ghost use Rattle.transform_block.specs.TransformBlock.{isBlockSide, isPair, noLine, isReadable, isCorner, takesLow, isLow, handedTests};
-
-fn is_side(n: u32) -> bool
-    ensures { λ r. ⌜ r ≡ isBlockSide n ⌝ }
-{
-    if n == 1 {
-        return true;
-    }
-    if n == 2 {
-        return true;
-    }
-    if is_size(n) {
-        return true;
-    }
-    n == 64
-}
-
-// "not both 1".
-fn is_pair(block: TransformBlock) -> bool
-    ensures { λ r. ⌜ r ≡ isPair block ⌝ }
-{
-    if !is_side(block.height) {
-        return false;
-    }
-    if block.width == 1 {
-        return block.height != 1;
-    }
-    true
-}
-
-// "a kind other than 0 where the side is 2 or 64".
-fn no_line(kind: u32, n: u32) -> bool
-    ensures { λ r. ⌜ r ≡ noLine kind n ⌝ }
-{
-    if n == 2 {
-        return kind != 0;
-    }
-    if n == 64 {
-        return kind != 0;
-    }
-    false
-}
-
-fn is_depth(d: u32) -> bool
-    ensures { λ r. ⌜ r ≡ isDepthTo 16 d ⌝ }
-{
-    if d < 8 {
-        return false;
-    }
-    d <= 16
-}
+ghost use Rattle.transform_block.specs.TransformBlock.{isReadable, isLow, handedTests};
 
 fn reads(block: TransformBlock) -> bool
     ensures { λ r. ⌜ r ≡ isReadable block ⌝ }
@@ -69,50 +23,15 @@ fn reads(block: TransformBlock) -> bool
     false
 }
 
-// "at most 4" columns and rows with LFNST.
-fn is_corner(block: TransformBlock) -> bool
-    ensures { λ r. ⌜ r ≡ isCorner block ⌝ }
-{
-    if !has_low(block) {
-        return true;
-    }
-    if 4 < block.columns {
-        return false;
-    }
-    block.rows <= 4
-}
-
-// Sides of 4 or more, and kind 0.
-fn takes_low(block: TransformBlock) -> bool
-    ensures { λ r. ⌜ r ≡ takesLow block ⌝ }
-{
-    if block.width < 4 {
-        return false;
-    }
-    if block.height < 4 {
-        return false;
-    }
-    if block.horizontal != 0 {
-        return false;
-    }
-    block.vertical == 0
-}
-
 // What 31 asks for.
 fn is_low(block: TransformBlock) -> bool
     ensures { λ r. ⌜ r ≡ isLow block ⌝ }
 {
-    if 2 < block.lfnst {
-        return false;
-    }
-    if 3 < block.set {
-        return false;
-    }
-    if 1 < block.transposed {
+    if !known_low(block.lfnst, block.set, block.transposed) {
         return false;
     }
     if has_low(block) {
-        return takes_low(block);
+        return takes_low(block.width, block.height, block.horizontal, block.vertical);
     }
     true
 }
@@ -124,7 +43,7 @@ pub fn field_refusal(block: TransformBlock, numbers: usize) -> u32
     if !is_side(block.width) {
         return 1;
     }
-    if !is_pair(block) {
+    if !is_pair(block.width, block.height) {
         return 2;
     }
     if !is_kind(block.horizontal) {
@@ -145,7 +64,7 @@ pub fn field_refusal(block: TransformBlock, numbers: usize) -> u32
     if !reads(block) {
         return 20;
     }
-    if !is_corner(block) {
+    if !is_corner(block.lfnst, block.columns, block.rows) {
         return 20;
     }
     if !is_low(block) {

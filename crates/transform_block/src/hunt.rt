@@ -1,88 +1,21 @@
-// The hunt for 27, through what is read. First one look without a way out, which the compiler takes eight numbers at a time; only where
-// that finds something, row by row and number by number.
+// The hunt for 27, by `transform_hunt`.
 use crate::TransformBlock;
 use crate::rules::reach;
-use long_stages::hunt::is_beyond;
+use transform_hunt::first_read;
 ghost use mathlib.Core.Path.{_≡_};
-ghost use mathlib.Core.Bool.{true, false};
-ghost use Prim.Native.Nat.{ℕ, _+_, _*_, _≤_, _<_};
-ghost use lib.ListN.{length};
-ghost use Rattle.algebra.specs.Lists.{at};
-ghost use Rattle.meaning.specs.Plan.{rangeOf};
-ghost use Rattle.meaning.specs.Long.{beyond};
-ghost use Rattle.transform_block.specs.TransformBlock.{reachOf, transformPlan, firstReadBeyond};
-ghost use Rattle.transform_block.specs.Given.{TakenFields, BeyondFrom};
-
-// Whether one of the first `count` numbers has more than 16 bits. The ends of the range are literals: with others LLVM makes no vectors.
-fn any_long(c: &[i32], count: usize) -> bool
-    requires { ⌜ count ≤ length (now c) ⌝ }
-    ensures { λ r. ⌜ (r ≡ false → (k : ℕ) → k < count → beyond (rangeOf 15) (at (now (c .entry)) k) ≡ false) ⌝ }
-{
-    let mut found = false;
-    let mut k = 0;
-    while k < count {
-        if is_beyond(c[k], 15) {
-            found = true;
-        }
-        k += 1;
-    }
-    found
-}
-
-// Whether R is 15 and no number of the rows that are read is outside the range, those beside the columns included.
-fn is_clear(block: TransformBlock, c: &[i32]) -> bool
-    requires { ⌜ TakenFields block (now c) ⌝ }
-    ensures { λ r. ⌜ (r ≡ true → (k : ℕ) → k < block .rows * block .width → beyond (rangeOf (reachOf block)) (at (now (c .entry)) k) ≡ false) ⌝ }
-{
-    if reach(block) != 15 {
-        return false;
-    }
-    !any_long(c, block.rows as usize * block.width as usize)
-}
-
-// Where the first of `count` numbers from o on stands that is outside the range, or where they end.
-fn row_beyond(c: &[i32], o: usize, count: usize, reach: u32) -> usize
-    requires { ⌜ (o + count ≤ length (now c)) × (reach ≤ 20) ⌝ }
-    ensures { λ r. ⌜ BeyondFrom (now (c .entry)) o count reach r ⌝ }
-{
-    let e = o + count;
-    let mut k = o;
-    while k < e {
-        if is_beyond(c[k], reach) {
-            return k;
-        }
-        k += 1;
-    }
-    k
-}
-
-fn one_by_one(block: TransformBlock, c: &[i32]) -> usize
-    requires { ⌜ TakenFields block (now c) ⌝ }
-    ensures { λ r. ⌜ r ≡ firstReadBeyond (transformPlan block) (now (c .entry)) ⌝ }
-{
-    let w = block.width as usize;
-    let columns = block.columns as usize;
-    let rows = block.rows as usize;
-    let reach = reach(block);
-    let mut y = 0;
-    while y < rows {
-        let e = y * w + columns;
-        let k = row_beyond(c, y * w, columns, reach);
-        if k < e {
-            return k;
-        }
-        y += 1;
-    }
-    c.len()
-}
+ghost use Rattle.transform_block.specs.TransformBlock.{transformPlan, firstReadBeyond};
+ghost use Rattle.transform_block.specs.Given.{TakenFields};
 
 // The place of the first number that is read and outside the range, or how many numbers there are.
 pub fn first_beyond(block: TransformBlock, c: &[i32]) -> usize
     requires { ⌜ TakenFields block (now c) ⌝ }
     ensures { λ r. ⌜ r ≡ firstReadBeyond (transformPlan block) (now (c .entry)) ⌝ }
 {
-    if is_clear(block, c) {
-        return c.len();
-    }
-    one_by_one(block, c)
+    first_read(
+        c,
+        block.width as usize,
+        block.columns as usize,
+        block.rows as usize,
+        reach(block),
+    )
 }

@@ -1,20 +1,26 @@
 // Every transform block of a stream whose transform is not skipped, in one call, in place: sides of 1 to 64, with LFNST or without, told
 // how many columns and rows to read. The contract of `inverse` is `transformOutcome` of specs/TransformBlock; read that first. Then
-// check (the refusals of the fields), hunt (27), low (LFNST, by `lfnst`), work (which way a block takes, and the fill), short (blocks of
-// document 01), paired (other blocks of two stages with the switch off, by `transform_pairs`), long (the rest, by `transform_stages`).
+// usual (blocks that take a quick way), check (the refusals of the fields), hunt (27), low (LFNST, by `lfnst`), calm (blocks with the
+// switch on that need only 16 bits, by `transform_calm`), work (which way a block takes, and the fill), side (a side of 1, by
+// `transform_line`), short (blocks of document 01, by `transform_short`), paired (other blocks of two stages with the switch off, by
+// `transform_pairs`, and by `transform_two` where a side is 2), long (the rest, by `transform_stages`).
+mod calm;
 mod check;
 mod hunt;
 mod long;
 mod low;
-mod narrow;
 mod paired;
 mod rules;
 mod short;
+mod side;
+mod usual;
 mod work;
 
+use crate::calm::calmed;
 use crate::check::field_refusal;
 use crate::hunt::first_beyond;
 use crate::low::after_low;
+use crate::usual::tried;
 use crate::work::work;
 use meaning::Answer;
 use meaning::accepted;
@@ -69,8 +75,8 @@ impl TransformBlock {
     }
 }
 
-/// The inverse of a transform block in place: residuals from coefficients, with the rail count. Any numbers, any buffer.
-pub fn inverse(block: TransformBlock, numbers: &mut [i32]) -> Answer
+// Every block: the refusals in their order, LFNST, and the work.
+fn ordinary(block: TransformBlock, numbers: &mut [i32]) -> Answer
     ensures { λ r. ⌜ _≡_ {A = Outcome} (r, now (numbers .exit)) (transformOutcome block (now (numbers .entry))) ⌝ }
 {
     let number = field_refusal(block, numbers.len());
@@ -82,5 +88,17 @@ pub fn inverse(block: TransformBlock, numbers: &mut [i32]) -> Answer
         return refused(27, place as u32);
     }
     let behind = after_low(block, numbers);
-    accepted(work(behind, numbers))
+    let calm = calmed(behind, numbers);
+    accepted(work(calm, numbers))
+}
+
+/// The inverse of a transform block in place: residuals from coefficients, with the rail count. Any numbers, any buffer.
+pub fn inverse(block: TransformBlock, numbers: &mut [i32]) -> Answer
+    ensures { λ r. ⌜ _≡_ {A = Outcome} (r, now (numbers .exit)) (transformOutcome block (now (numbers .entry))) ⌝ }
+{
+    let mut rails = 0;
+    if tried(block, numbers, &mut rails) {
+        return accepted(rails);
+    }
+    ordinary(block, numbers)
 }

@@ -1,4 +1,4 @@
-// Which way a block takes: the stages in long numbers, a fill, 16-bit numbers in a room of its size, or the stages by pairs.
+// Which way a block takes: the line of a side of 1, a fill, 16-bit numbers in a room of its size, the stages by pairs, or in long numbers.
 use crate::TransformBlock;
 use crate::long::long;
 use crate::paired::is_paired;
@@ -8,6 +8,7 @@ use crate::rules::last;
 use crate::rules::one_stage;
 use crate::short::is_short;
 use crate::short::short;
+use crate::side::side;
 use dct2_block::alone::flat;
 ghost use mathlib.Core.Path.{_≡_};
 ghost use Rattle.meaning.specs.Answer.{Outcome, accepted};
@@ -43,7 +44,7 @@ pub fn work(block: TransformBlock, numbers: &mut [i32]) -> u32
     ensures { λ r. ⌜ _≡_ {A = Outcome} (accepted r, now (numbers .exit)) (transformed block (now (numbers .entry))) ⌝ }
 {
     if one_stage(block) {
-        return long(block, numbers);
+        return side(block, numbers);
     }
     if is_flat(block) {
         let first = numbers[0];

@@ -1,4 +1,2 @@
-pub mod Unread
 pub mod Pairing
-pub mod Reading
 pub mod Whole

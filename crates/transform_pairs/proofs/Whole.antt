@@ -21,10 +21,11 @@ use Rattle.product.proofs.Laid.{laid-less}
 use Rattle.layout.specs.Part.{Part}
 use Rattle.layout.specs.Zip.{Rows}
 use Rattle.inverse_stage.specs.Given.{Paired, GivenPlan, Room}
+use Rattle.narrowing.specs.Narrow.{GivenNarrow, Narrowed}
+use Rattle.narrowing.proofs.Unread.{rails-same, block-same}
 use Rattle.transform_stages.specs.Work.{LineWeights}
-use Rattle.transform_pairs.specs.Pairs.{shortPlan, GivenPairs, pairsOf, clearedAt, clearedBlock, GivenNarrow, Narrowed}
+use Rattle.transform_pairs.specs.Pairs.{shortPlan, GivenPairs, pairsOf, clearedAt, clearedBlock}
 use Rattle.transform_pairs.proofs.Pairing.{within, paired, few-pairs, some-pairs, in-side}
-use Rattle.transform_pairs.proofs.Unread.{rails-same, block-same}
 
 pub short-range : rangeOf 15 ≡ shortRange
 unfolding shortRange
@@ -32,15 +33,15 @@ short-range = refl
 
 -- ---- what is read of a plan
 module _ (p : Plan) (c : List ℤ) where
-  read-in : (x y : ℕ) → x < p .columns → y < p .rows → clearedAt p c x y ≡ at c (x + y * p .width)
+  pub read-in : (x y : ℕ) → x < p .columns → y < p .rows → clearedAt p c x y ≡ at c (x + y * p .width)
   unfolding clearedAt
   read-in x y h l = rw (lt-ltb x (p .columns) h, lt-ltb y (p .rows) l) refl
 
-  read-right : (x y : ℕ) → p .columns ≤ x → clearedAt p c x y ≡ pos 0
+  pub read-right : (x y : ℕ) → p .columns ≤ x → clearedAt p c x y ≡ pos 0
   unfolding clearedAt
   read-right x y h = rw (le-ltb x (p .columns) h) refl
 
-  read-below : (x y : ℕ) → p .rows ≤ y → clearedAt p c x y ≡ pos 0
+  pub read-below : (x y : ℕ) → p .rows ≤ y → clearedAt p c x y ≡ pos 0
   unfolding clearedAt
   read-below x y h = either (ltb x (p .columns))
     where
@@ -48,12 +49,12 @@ module _ (p : Plan) (c : List ℤ) where
       either true = rw (le-ltb y (p .rows) h) refl
       either false = refl
 
-  block-read : (x y : ℕ) → x < p .width → y < p .height → at (clearedBlock p c) (x + y * p .width) ≡ clearedAt p c x y
+  pub block-read : (x y : ℕ) → x < p .width → y < p .height → at (clearedBlock p c) (x + y * p .width) ≡ clearedAt p c x y
   unfolding clearedBlock
   block-read x y h l = block-at (p .width) (p .height) (clearedAt p c) x y h l
 
   -- outside of at least as many columns and rows it is 0
-  part : (columns rows : ℕ) → columns ≤ p .width → rows ≤ p .height → p .columns ≤ columns → p .rows ≤ rows → Part (p .width) (p .height) columns rows (clearedBlock p c)
+  pub part : (columns rows : ℕ) → columns ≤ p .width → rows ≤ p .height → p .columns ≤ columns → p .rows ≤ rows → Part (p .width) (p .height) columns rows (clearedBlock p c)
   part columns rows narrow low wide high =
       record {
         narrow = narrow;
@@ -150,8 +151,8 @@ module _ (w h horizontal vertical columns rows last : ℕ) (c : List ℤ) (g : G
   pub narrow-given : {size : ℕ} {room : List ℤ} → Tiled size → length room ≡ size → ((k : ℕ) → at room k ≡ pos 0) → GivenNarrow c w columns rows (2 * wide) room
   narrow-given t long clear =
       record {
-        within = g .sized .columns;
         few = columns-in;
+        within = broad-in;
         there = omega (arith, g .long, mul-comm w h, mul-le-mul-right w (g .sized .rows));
         low = omega (arith, long, t .narrow);
         clear = clear;

@@ -36,18 +36,3 @@ clearedAt p c x y = cond (ltb x (p .columns) && ltb y (p .rows)) (at c (x + y * 
 
 unfoldable pub clearedBlock : Plan → List ℤ → List ℤ
 clearedBlock p c = block (p .width) (p .height) (clearedAt p c)
-
-pub record GivenNarrow (c : List ℤ) (w columns rows broad : ℕ) (room : List ℤ) : Type 0 where
-  pub within : columns ≤ w
-  pub few : columns ≤ broad
-  pub there : rows * w ≤ length c
-  pub low : rows * broad ≤ length room
-  pub clear : (k : ℕ) → at room k ≡ pos 0
-  pub fits : (x y : ℕ) → x < columns → y < rows → SFits w16 (at c (x + y * w))
-
--- .. in a room of as many numbers as before
-pub record Narrowed (size : ℕ) (c : List ℤ) (w columns rows broad : ℕ) (room : List ℤ) : Type 0 where
-  pub long : length room ≡ size
-  pub inside : (x y : ℕ) → x < columns → y < rows → at room (x + y * broad) ≡ at c (x + y * w)
-  pub right : (x y : ℕ) → columns ≤ x → x < broad → at room (x + y * broad) ≡ pos 0
-  pub below : (k : ℕ) → rows * broad ≤ k → at room k ≡ pos 0

@@ -1,10 +1,10 @@
 // Both stages, as `inverse_block` has them, with room for lines of 64 points. What is read becomes 16-bit numbers in a room apart; in
 // `large` the weights of 32 points take that room on their way later on. What lines read stands in arrays of the function that names
 // their number of pairs (docs/DECISIONS.md), so the two rooms have a function each.
-use crate::narrow::narrow;
 use crate::pairs::pairs_of;
 use inverse_stage::settle::settle;
 use layout::zip::zip;
+use narrowing::narrow;
 use product::half;
 use product::lines;
 use transform_stages::weights::small_weights;

@@ -3,6 +3,6 @@
 // the stages write; upward, the second stage from the last row up, over its own input; stages, both stages, and the one of a thin block.
 pub mod read;
 pub mod stages;
-mod table;
+pub mod table;
 pub mod upward;
 pub mod weights;

@@ -27,16 +27,15 @@ pub fn line_of(c: &[i32], o: usize, count: usize) -> [i32; 32]
     line
 }
 
-// The first columns and rows of rows of w, in rows of 32; 0 below them.
-pub fn read(c: &[i32], w: usize, columns: usize, rows: usize) -> [i32; 1024]
-    requires { ⌜ Readable w columns rows (now c) ⌝ }
-    ensures { λ r. ⌜ RoomRead (now (c .entry)) w columns rows r ⌝ }
+// The first columns and rows of rows of w, into rows of 32 of a room of zeros, which callers lend: one that is handed back would stand
+// on the stack twice.
+pub fn read(c: &[i32], w: usize, columns: usize, rows: usize, room: &mut [i32; 1024])
+    requires { ⌜ Readable w columns rows (now c) × RoomRead (now c) w columns 0 (now room) ⌝ }
+    ensures { λ _. ⌜ RoomRead (now (c .entry)) w columns rows (now (room .exit)) ⌝ }
 {
-    let mut room = [0i32; 1024];
     let mut y = 0;
     while y < rows {
-        copy(c, y * w, columns, y * 32, &mut room);
+        copy(c, y * w, columns, y * 32, room);
         y += 1;
     }
-    room
 }

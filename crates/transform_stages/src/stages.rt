@@ -51,7 +51,8 @@ fn two_stages(
     let h = height as usize;
     let n = columns as usize;
     let k = rows as usize;
-    let c = read(numbers, w, n, k);
+    let mut c = [0i32; 1024];
+    read(numbers, w, n, k, &mut c);
     weights(vertical, h, s, t);
     let rails = middles(t, h, &c, 32, (k + 1) / 2, n, reach, numbers);
     weights(horizontal, w, s, t);

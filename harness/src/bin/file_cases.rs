@@ -1,4 +1,4 @@
-//! Writes the stored files of the crates `file_cases` and `print_report` with the text that they must print, and the examples.
+//! Writes the stored files of the crates `file_cases` and `blocks_report` with the text that they must print, and the examples.
 //!
 //! `file_cases ROOT`: the repository's folder, or one to compare it with. The text is the model's. The crate's program runs
 //! the same files and must print it.
@@ -94,6 +94,6 @@ fn main() -> io::Result<()> {
     let root = env::args().nth(1).expect("file_cases ROOT");
     let cases = stored();
     write_cases(&Path::new(&root).join("crates/file_cases"), &cases)?;
-    write_report(&Path::new(&root).join("crates/print_report"), &cases)?;
+    write_report(&Path::new(&root).join("crates/blocks_report"), &cases)?;
     write_examples(&Path::new(&root).join("examples"), &cases)
 }

@@ -1,5 +1,5 @@
 //! Prints one of the three files that the lists of steps are stored in: `definitions` (crates/steps/specs/Lists.antt), `stored`
-//! (crates/step_lists/src/stored.rt) or `printed` (crates/print_steps/stdout).
+//! (crates/step_lists/src/stored.rt) or `printed` (crates/blocks_steps/stdout).
 
 use hoengtila_harness::steps::{definitions, printed, stored, LISTED};
 

@@ -1,10 +1,11 @@
--- `inverse` meets its contract: the refusals in their order, then the stages. Assumes nothing.
+-- `inverse` meets its contract: the refusals in their order, then the stages, and one answer at the end. Assumes nothing.
 use borrow.Author.Needs.{needs}
 use native.Mathlib.Omega.{arith}
-use mathlib.Core.Path.{_≡_, sym, ap, _∙_}
-use mathlib.Core.Bool.{true, false}
+use mathlib.Core.Path.{_≡_, refl, sym, ap, _∙_}
+use mathlib.Core.Bool.{Bool, true, false, not, true≢false}
+use mathlib.Core.Logic.{⊎-elim}
 use mathlib.Core.List.{List, [], _∷_, _++_}
-use Prim.Native.Nat.{ℕ, _*_, _-_}
+use Prim.Native.Nat.{ℕ, _+_, _*_, _-_, _/_, _%_, _<_}
 use native.Mathlib.Nat.{mul-comm, mul-le-mul-right}
 use borrow.Author.Tests.{lt-ltb, le-ltb}
 use lib.Dec.{ltb}
@@ -26,6 +27,7 @@ use Rattle.inverse_stage.specs.Given.{GivenStages}
 use Rattle.layout.specs.Live.{Live}
 use Rattle.layout.specs.Part.{Part}
 use Rattle.layout.proofs.Inside.{live-part, kept-part}
+use Rattle.block.specs.Answered.{answerOf}
 use Rattle.block.proofs.inverse.Statement.{statement}
 use Rattle.block.proofs.inverse.Tie as tie
 
@@ -55,14 +57,14 @@ refuse s number place = (refused number place, s .before .before .args .residual
 abbrev done : tie.After-fields → Outcome
 done s = (accepted (rails (planOf (s .fields .result)) (numbers s)), inverseBlock (planOf (s .fields .result)) (numbers s))
 
-passed : (c : tie.Else1) → numberOf (seven (c .before .before)) ≡ 0
+passed : (c : tie.Then1) → numberOf (seven (c .before .before)) ≡ 0
 unfolding isLongDepth
-passed c = sym (c .before .block-refusal .ensures) ∙ c .if1 .left
+passed c = sym (c .before .block-refusal .ensures) ∙ c .if1 .taken
 
-past : (c : tie.Else1) → let s = c .before .before in inverseOutcome (s .fields .result) (numbers s) (s .before .before .args .residuals .now) ≡ firstOf (eight s) (refuse s) (done s)
+past : (c : tie.Then1) → let s = c .before .before in inverseOutcome (s .fields .result) (numbers s) (s .before .before .args .residuals .now) ≡ firstOf (eight s) (refuse s) (done s)
 past c = let s = c .before .before in passed-first (eight s) (refuse s) (done s) (seven s) tt (passed c)
 
-taken : (c : tie.Else1) → let s = c .before .before in TakenBlock (s .fields .result) (numbers s) (s .before .before .args .residuals .now)
+taken : (c : tie.Then1) → let s = c .before .before in TakenBlock (s .fields .result) (numbers s) (s .before .before .args .residuals .now)
 taken c = let s = c .before .before in block-taken (s .fields .result) (numbers s) (s .before .before .args .residuals .now) (passed c)
 
 -- what is said of these numbers is said of the shape and the coefficients
@@ -85,23 +87,14 @@ fields-requires c κs = search needs
 block-refusal-requires : tie.Need-block-refusal-requires
 block-refusal-requires c κs = search needs
 
-refused-requires : tie.Need-refused-requires
-refused-requires c κs = search needs
-
-returns : tie.Need-returns
-unfolding isLongDepth
-returns c =
-    let s = c .before .before .before in
-    let n = c .before .before .block-refusal .ensures in
-    ap (λ (a : Answer). (a, s .before .before .args .residuals .now)) (c .refused .ensures) ∙ ap (λ (n : ℕ). refuse s n 0) n
-    ∙ sym (refused-first (eight s) (refuse s) (done s) (seven s) tt (λ e. c .before .if1 .taken (n ∙ e)))
-    ∙ told s
+cast-code : tie.Need-cast-code
+cast-code c = search needs
 
 -- how much of the block is not zero
 live-rows : (c : tie.After-rows) → let s = c .before .before .before in Live (numbers s) (s .fields .result .width) (s .fields .result .height) (c .rows .result)
 live-rows c = c .rows .ensures
 
-turned : (c : tie.Else1) → let s = c .before .before in length (numbers s) ≡ s .fields .result .height * s .fields .result .width
+turned : (c : tie.Then1) → let s = c .before .before in length (numbers s) ≡ s .fields .result .height * s .fields .result .width
 turned c = let s = c .before .before in taken c .long ∙ mul-comm (s .fields .result .width) (s .fields .result .height)
 
 live : (c : tie.After-columns) → let s = c .before .before .before .before in Part (s .fields .result .width) (s .fields .result .height) (c .columns .result) (c .before .rows .result) (numbers s)
@@ -124,22 +117,14 @@ first-outside-requires c κs =
     let t = taken (c .before .before) in
     ((t .long, columns-kept (s .fields .result) (t .taken) .within), live c)
 
-cast-refused : tie.Need-cast-refused
-cast-refused c =
-    let E = c .before .before .before .before in
-    omega (arith, c .if2 .taken, few (E .before .before .fields .result) (taken E))
+few-places : (c : tie.Then2) → c .before .first-outside .result < 1048576
+few-places c = let E = c .before .before .before .before in omega (arith, c .if2 .taken, few (E .before .before .fields .result) (taken E))
 
-refused-requires-2 : tie.Need-refused-requires-2
-refused-requires-2 c κs = search needs
+mul-code : tie.Need-mul-code
+mul-code c = omega (arith, few-places c)
 
-returns-2 : tie.Need-returns-2
-returns-2 c =
-    let s = c .before .before .before .before .before .before .before in
-    let h = c .before .before .first-outside .ensures in
-    let l : ltb (place s) (length (numbers s)) ≡ true = lt-ltb (place s) (length (numbers s)) (omega (arith, h, c .before .if2 .taken)) in
-    ap (λ (a : Answer). (a, s .before .before .args .residuals .now)) (c .refused2 .ensures) ∙ ap (λ (n : ℕ). refuse s 8 n) h
-    ∙ sym (past (c .before .before .before .before .before) ∙ rw l)
-    ∙ told s
+add-code : tie.Need-add-code
+add-code c = omega (arith, few-places c)
 
 -- what both ways are given
 given : (c : tie.Else2) → let s = c .before .before .before .before .before .before in
@@ -167,23 +152,8 @@ none-refused c =
 by-kernels-requires : tie.Need-by-kernels-requires
 by-kernels-requires c κs = given (c .before)
 
-accepted-requires : tie.Need-accepted-requires
-accepted-requires c κs = search needs
-
 kept : (c : tie.After-by-kernels) → length (c .by-kernels .last .1 .1 .1 .1 .0) ≡ length (c .before .before .before .before .before .before .before .before .before .before .args .residuals .now)
 kept c = c .by-kernels .kept .1 .1 .1 .1 .0
-
-same-length : tie.Need-same-length
-same-length c = kept (c .before .before .before)
-
-returns-3 : tie.Need-returns-3
-returns-3 c =
-    let K = c .before .before .before in
-    let E = K .before .before in
-    let e = K .by-kernels .ensures (c .before .if3 .taken) in
-    (λ i. (c .accepted .ensures i, e .1 i)) ∙ ap (λ (n : ℕ). (accepted n, inverseBlock (planOf (E .before .before .before .before .before .before .fields .result)) (numbers (E .before .before .before .before .before .before)))) (sym (e .0))
-    ∙ sym (none-refused E)
-    ∙ told (E .before .before .before .before .before .before)
 
 stages-requires : tie.Need-stages-requires
 stages-requires c κs =
@@ -197,20 +167,91 @@ stages-requires c κs =
       kept = g .kept;
     }
 
-accepted-requires-2 : tie.Need-accepted-requires-2
-accepted-requires-2 c κs = search needs
+-- ---- what is answered at each end
+-- of a number that is not 0, of a place, and of the rail count
+refused-is : (number : ℕ) → number < 4294967296 → answerOf number 0 ≡ refused number 0
+refused-is number h =
+    let p : number % 4294967296 ≡ number = omega arith in
+    let q : number / 4294967296 ≡ 0 = omega arith in
+    (λ i. record { number = p i; place = q i; rails = 0 })
 
-same-length-2 : tie.Need-same-length-2
-same-length-2 c = c .before .before .stages .kept .1 .1 .1 .1 .0 ∙ kept (c .before .before .before .before .before .before)
+place-is : (place : ℕ) → answerOf (place * 4294967296 + 8) 0 ≡ refused 8 place
+place-is place =
+    let p : (place * 4294967296 + 8) % 4294967296 ≡ 8 = omega arith in
+    let q : (place * 4294967296 + 8) / 4294967296 ≡ place = omega arith in
+    (λ i. record { number = p i; place = q i; rails = 0 })
 
-returns-4 : tie.Need-returns-4
-returns-4 c =
-    let S = c .before .before in
-    let E = S .before .before .before .before .before .before in
-    let e = S .stages .ensures in
-    (λ i. (c .accepted2 .ensures i, e .1 i)) ∙ ap (λ (n : ℕ). (accepted n, inverseBlock (planOf (E .before .before .before .before .before .before .fields .result)) (numbers (E .before .before .before .before .before .before)))) (e .0)
-    ∙ sym (none-refused E)
-    ∙ told (E .before .before .before .before .before .before)
+abbrev outcome : tie.After-fields → Outcome
+outcome s = inverseOutcome (s .fields .result) (numbers s) (s .before .before .args .residuals .now)
+
+by-number : (c : tie.Else1) → let s = c .before .before in (answerOf (c .before .block-refusal .result) 0, s .before .before .args .residuals .now) ≡ outcome s
+unfolding isLongDepth
+by-number c =
+    let s = c .before .before in
+    let n = c .before .block-refusal .ensures in
+    ap (λ (a : Answer). (a, s .before .before .args .residuals .now)) (refused-is (c .before .block-refusal .result) (omega (arith, c .before .block-refusal .ok))) ∙ ap (λ (n : ℕ). refuse s n 0) n
+    ∙ sym (refused-first (eight s) (refuse s) (done s) (seven s) tt (λ e. c .if1 .left (n ∙ e)))
+
+by-place : (c : tie.Then2) → let s = c .before .before .before .before .before .before in (answerOf (c .before .first-outside .result * 4294967296 + 8) 0, s .before .before .args .residuals .now) ≡ outcome s
+by-place c =
+    let s = c .before .before .before .before .before .before in
+    let h = c .before .first-outside .ensures in
+    let l : ltb (place s) (length (numbers s)) ≡ true = lt-ltb (place s) (length (numbers s)) (omega (arith, h, c .if2 .taken)) in
+    ap (λ (a : Answer). (a, s .before .before .args .residuals .now)) (place-is (c .before .first-outside .result)) ∙ ap (λ (n : ℕ). refuse s 8 n) h
+    ∙ sym (past (c .before .before .before .before) ∙ rw l)
+
+-- the number is 0 where the work is done
+nothing : (c : tie.Then1) → c .before .block-refusal .result ≡ 0
+nothing c = c .if1 .taken
+
+by-way : (c : tie.Else2) {rail : ℕ} {l : List ℤ} → let s = c .before .before .before .before .before .before in
+    rail ≡ rails (planOf (s .fields .result)) (numbers s) → l ≡ inverseBlock (planOf (s .fields .result)) (numbers s)
+    → (answerOf (c .before .before .before .before .before .block-refusal .result) rail, l) ≡ outcome s
+by-way c {rail} {l} p q =
+    ap (λ (n : ℕ). (answerOf n rail, l)) (nothing (c .before .before .before .before)) ∙ (λ i. (accepted (p i), q i)) ∙ sym (none-refused c)
+
+flipped : (b : Bool) → not b ≡ false → b ≡ true
+flipped true e = refl
+flipped false e = absurd (true≢false e)
+
+settled : (J : tie.Joined1) → (answerOf (J .if1 .code) (J .if1 .rails), J .if1 .residuals) ≡ outcome (J .before .before)
+settled J =
+    ⊎-elim
+    (λ t. (λ i. (answerOf (t .6 i) (t .7 i), t .5 i))
+    ∙ by-place (record { before = record { before = record { before = record { before = record { before = J .before; if1 = t .0 }; rows = t .1 }; columns = t .2 }; first-outside = t .3 }; if2 = t .4 }))
+    (⊎-elim
+    (λ t. let E : tie.Else2 = record { before = record { before = record { before = record { before = record { before = J .before; if1 = t .0 }; rows = t .1 }; columns = t .2 }; first-outside = t .3 }; if2 = t .4 } in
+    (λ i. (answerOf (t .13 i) (t .14 i), t .12 i)) ∙ by-way E (t .10 .ensures .0) (t .10 .ensures .1))
+    (⊎-elim
+    (λ t. let E : tie.Else2 = record { before = record { before = record { before = record { before = record { before = J .before; if1 = t .0 }; rows = t .1 }; columns = t .2 }; first-outside = t .3 }; if2 = t .4 } in
+    let d = t .6 .ensures (flipped _ (t .8 .left)) in
+    (λ i. (answerOf (t .10 i) (t .11 i), t .9 i)) ∙ by-way E (sym (d .0)) (d .1))
+    (λ t. (λ i. (answerOf (t .2 i) (t .3 i), t .1 i)) ∙ by-number (record { before = J .before; if1 = t .0 }))))
+    (J .if1 .came)
+
+answered-requires : tie.Need-answered-requires
+answered-requires c κs = search needs
+
+returns : tie.Need-returns
+returns c =
+    let J = c .before in
+    ap (λ (a : Answer). (a, J .if1 .residuals)) (c .answered .ensures) ∙ settled J ∙ told (J .before .before)
+
+-- none of the ways changes how many residuals there are
+as-long : (J : tie.Joined1) → length (J .if1 .residuals) ≡ length (J .before .before .before .before .args .residuals .now)
+as-long J =
+    ⊎-elim (λ t. ap length (t .5))
+    (⊎-elim
+    (λ t. let E : tie.Else2 = record { before = record { before = record { before = record { before = record { before = J .before; if1 = t .0 }; rows = t .1 }; columns = t .2 }; first-outside = t .3 }; if2 = t .4 } in
+    ap length (t .12) ∙ t .10 .kept .1 .1 .1 .1 .0 ∙ kept (record { before = record { before = E; by-kernels-arg = t .5 }; by-kernels = t .6 }))
+    (⊎-elim
+    (λ t. let E : tie.Else2 = record { before = record { before = record { before = record { before = record { before = J .before; if1 = t .0 }; rows = t .1 }; columns = t .2 }; first-outside = t .3 }; if2 = t .4 } in
+    ap length (t .9) ∙ kept (record { before = record { before = E; by-kernels-arg = t .5 }; by-kernels = t .6 }))
+    (λ t. ap length (t .1))))
+    (J .if1 .came)
+
+same-length : tie.Need-same-length
+same-length c = as-long (c .before)
 
 pub inverse-spec : {M : Type 1} → statement M
 inverse-spec =
@@ -221,19 +262,14 @@ inverse-spec =
     part-c-end
     fields-requires
     block-refusal-requires
-    refused-requires
-    returns
+    cast-code
     rows-requires
     columns-requires
     first-outside-requires
-    cast-refused
-    refused-requires-2
-    returns-2
+    mul-code
+    add-code
     by-kernels-requires
-    accepted-requires
-    same-length
-    returns-3
     stages-requires
-    accepted-requires-2
-    same-length-2
-    returns-4)
+    answered-requires
+    same-length
+    returns)

@@ -3,7 +3,7 @@ use mathlib.Core.Path.{_≡_, refl}
 use mathlib.Core.Bool.{not}
 use lib.Dec.{eqb}
 use Rattle.meaning.proofs.Cases.{size-cases}
-use Rattle.folding.specs.Lines.{isShared}
+use Rattle.shared_steps.specs.Lines.{isShared}
 use Rattle.line.proofs.is_shared.Statement.{statement}
 use Rattle.line.proofs.is_shared.Tie as tie
 

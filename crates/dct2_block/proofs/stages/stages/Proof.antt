@@ -35,17 +35,30 @@ returns c =
     (c .before .tiny .ensures .0 ∙ used-block g _ e, λ f x y h k. c .before .tiny .ensures .1 f x y (omega (arith, asked-whole g .0, e)) k)
 
 small-requires : tie.Need-small-requires
-small-requires c κs = let W = c .before .before in asked-fits (W .before .pre) 256 _ (W .whole-of .ensures) (omega (arith, W .before .pre .room))
+small-requires c κs = let W = c .before .before .before in asked-fits (W .before .pre) 256 _ (W .whole-of .ensures) (omega (arith, c .before .if2 .taken))
 
 same-length-2 : tie.Need-same-length-2
 same-length-2 c = search needs
 
 returns-2 : tie.Need-returns-2
 returns-2 c =
-    let W = c .before .before .before .before in
+    let W = c .before .before .before .before .before in
     let g = W .before .pre in
     let e = W .whole-of .ensures in
     (c .before .small .ensures .0 ∙ used-block g _ e, λ f x y h k. c .before .small .ensures .1 f x y (omega (arith, asked-whole g .0, e)) k)
 
+large-requires : tie.Need-large-requires
+large-requires c κs = let W = c .before .before .before in asked-fits (W .before .pre) 1024 _ (W .whole-of .ensures) (omega (arith, W .before .pre .room))
+
+same-length-3 : tie.Need-same-length-3
+same-length-3 c = search needs
+
+returns-3 : tie.Need-returns-3
+returns-3 c =
+    let W = c .before .before .before .before .before in
+    let g = W .before .pre in
+    let e = W .whole-of .ensures in
+    (c .before .large .ensures .0 ∙ used-block g _ e, λ f x y h k. c .before .large .ensures .1 f x y (omega (arith, asked-whole g .0, e)) k)
+
 pub stages-spec : {M : Type 1} → statement M
-stages-spec = tie.close (tie.spec whole-of-requires add-size mul-size tiny-requires same-length returns small-requires same-length-2 returns-2)
+stages-spec = tie.close (tie.spec whole-of-requires add-size mul-size tiny-requires same-length returns small-requires same-length-2 returns-2 large-requires same-length-3 returns-3)

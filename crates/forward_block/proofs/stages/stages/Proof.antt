@@ -3,55 +3,28 @@ use borrow.Author.Needs.{needs}
 use Rattle.forward_block.proofs.stages.stages.Statement.{statement}
 use Rattle.forward_block.proofs.stages.stages.Tie as tie
 
-is-four-requires : tie.Need-is-four-requires
-is-four-requires c κs = search needs
-
-four-requires : tie.Need-four-requires
-four-requires c κs =
-    let s = c .before .before .before in
-    (s .pre .0, (s .pre .1, c .before .before .is-four .ensures (c .before .if1 .taken)))
-
 is-small-requires : tie.Need-is-small-requires
 is-small-requires c κs = search needs
 
 small-requires : tie.Need-small-requires
 small-requires c κs =
-    let s = c .before .before .before .before .before in
-    (s .pre .0, (s .pre .1, c .before .before .is-small .ensures (c .before .if2 .taken)))
+    let s = c .before .before .before in
+    (s .pre .0, (s .pre .1, c .before .before .is-small .ensures (c .before .if1 .taken)))
 
 large-requires : tie.Need-large-requires
-large-requires c κs = c .before .before .before .before .before .pre
+large-requires c κs = c .before .before .before .pre
 
 same-length : tie.Need-same-length
 same-length c = search needs
 
 returns : tie.Need-returns
-returns c = c .before .four .ensures
+returns c = c .before .small .ensures
 
 same-length-2 : tie.Need-same-length-2
 same-length-2 c = search needs
 
 returns-2 : tie.Need-returns-2
-returns-2 c = c .before .small .ensures
-
-same-length-3 : tie.Need-same-length-3
-same-length-3 c = search needs
-
-returns-3 : tie.Need-returns-3
-returns-3 c = c .before .large .ensures
+returns-2 c = c .before .large .ensures
 
 pub stages-spec : {M : Type 1} → statement M
-stages-spec =
-    tie.close
-    (tie.spec
-    is-four-requires
-    four-requires
-    is-small-requires
-    small-requires
-    large-requires
-    same-length
-    returns
-    same-length-2
-    returns-2
-    same-length-3
-    returns-3)
+stages-spec = tie.close (tie.spec is-small-requires small-requires large-requires same-length returns same-length-2 returns-2)

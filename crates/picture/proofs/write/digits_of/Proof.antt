@@ -5,7 +5,7 @@ use Prim.Native.Nat.{ℕ, _<_, _≤_}
 use lib.ListN.{length}
 use Rattle.meaning.specs.Shape.{isSize}
 use Rattle.meaning.proofs.Cases.{size-cases}
-use Rattle.block_text.specs.Text.{digits, decimal}
+use Rattle.file_text.specs.Text.{digits, decimal}
 use native.Mathlib.Omega.{arith}
 use Rattle.picture.proofs.write.digits_of.Statement.{statement}
 use Rattle.picture.proofs.write.digits_of.Tie as tie

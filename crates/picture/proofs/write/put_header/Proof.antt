@@ -1,6 +1,6 @@
 -- `put_header` meets its contract. Assumes nothing.
 use native.Mathlib.Omega.{arith}
-use Rattle.block_text.proofs.Writing.{andThen, within}
+use Rattle.file_text.proofs.Writing.{andThen, within}
 use Rattle.picture.specs.Picture.{headerText}
 use borrow.Author.Needs.{needs}
 use Rattle.picture.proofs.write.put_header.Statement.{statement}

@@ -1,5 +1,5 @@
 -- `put_number` meets its contract. Assumes nothing.
-use Rattle.block_text.proofs.Writing.{andThen}
+use Rattle.file_text.proofs.Writing.{andThen}
 use borrow.Author.Needs.{needs}
 use Rattle.picture.proofs.write.put_number.Statement.{statement}
 use Rattle.picture.proofs.write.put_number.Tie as tie

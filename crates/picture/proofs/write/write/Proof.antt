@@ -8,7 +8,7 @@ use borrow.Author.Tests.{not-true, not-false, eq-eqb, ne-eqb, lt-ltb, le-ltb}
 use denote.Ref.{now}
 use lib.ListN.{length}
 use Rattle.meaning.specs.Shape.{isSize}
-use Rattle.block_text.proofs.Writing.{andThen}
+use Rattle.file_text.proofs.Writing.{andThen}
 use Rattle.picture_samples.specs.Samples.{anyBeyond}
 use Rattle.picture.specs.Picture.{pictureOf}
 use Rattle.picture.proofs.Lengths.{elements, header-length, picture-parts, at-start}

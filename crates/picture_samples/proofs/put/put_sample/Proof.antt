@@ -5,7 +5,7 @@ use mir.ValLaws.{toZ-ofZ}
 use Rattle.picture_samples.specs.Samples.{sampleOf, samples}
 use mathlib.Core.List.{[], _∷_}
 use Prim.Native.Nat.{ℕ, _/_, _%_}
-use Rattle.block_text.proofs.Writing.{andThen, retext}
+use Rattle.file_text.proofs.Writing.{andThen, retext}
 use borrow.Author.Needs.{needs}
 use Rattle.picture_samples.proofs.put.put_sample.Statement.{statement}
 use Rattle.picture_samples.proofs.put.put_sample.Tie as tie

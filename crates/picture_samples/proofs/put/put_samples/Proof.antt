@@ -6,8 +6,8 @@ use lib.ListN.{length, take, getD}
 use denote.Ref.{now}
 use mir.Syntax.{w32}
 use mir.ValLaws.{toZ-ofZ}
-use Rattle.block_text.specs.Wrote.{Wrote}
-use Rattle.block_text.proofs.Writing.{nothing}
+use Rattle.file_text.specs.Wrote.{Wrote}
+use Rattle.file_text.proofs.Writing.{nothing}
 use Rattle.picture_samples.specs.Samples.{samples}
 use Rattle.picture_samples.proofs.Samples.{beyond-at, wrote-more, wrote-all}
 use borrow.Author.Needs.{needs}

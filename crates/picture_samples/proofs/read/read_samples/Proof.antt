@@ -7,7 +7,7 @@ use mir.Syntax.{w32}
 use mir.Val.{toZ, ofZ}
 use mir.ValLaws.{toZ-ofZ}
 use denote.Ref.{now}
-use Rattle.block_numbers.proofs.Pairs.{step, all}
+use Rattle.file_numbers.proofs.Pairs.{step, all}
 use Rattle.picture_samples.specs.Samples.{residualOf, residuals}
 use borrow.Author.Needs.{needs}
 use native.Mathlib.Omega.{arith}

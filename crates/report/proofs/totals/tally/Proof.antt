@@ -5,7 +5,7 @@ use native.Mathlib.Omega.{arith}
 use denote.Ref.{now}
 use Rattle.meaning.specs.declared.Answer.{Answer}
 use Rattle.report.specs.Totals.{entered}
-use Rattle.block_trip.proofs.Back.{took}
+use Rattle.forward_and_back.proofs.Back.{took}
 use Rattle.report.proofs.Counting.{counted-refused, counted-taken}
 use Rattle.report.proofs.totals.tally.Statement.{statement}
 use Rattle.report.proofs.totals.tally.Tie as tie

@@ -3,8 +3,8 @@ use mathlib.Core.Path.{_≡_, refl}
 use Prim.Native.Nat.{_-_, _≤_}
 use lib.ListN.{length, take}
 use denote.Ref.{now}
-use Rattle.block_text.specs.Wrote.{Wrote}
-use Rattle.block_text.proofs.Writing.{nothing}
+use Rattle.file_text.specs.Wrote.{Wrote}
+use Rattle.file_text.proofs.Writing.{nothing}
 use Rattle.salvage.proofs.Joining.{copied-more, copied-all}
 use borrow.Author.Needs.{needs}
 use native.Mathlib.Omega.{arith}

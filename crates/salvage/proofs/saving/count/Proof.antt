@@ -6,7 +6,7 @@ use denote.Ref.{now}
 use Rattle.salvage.specs.Pieces.{droppedOf, dropped}
 use Rattle.salvage.proofs.Joining.{rest, rest-end, count-more}
 use mathlib.Core.Path.{ap}
-use Rattle.block_file.specs.declared.cursor.Cursor.{Cursor}
+use Rattle.file_fields.specs.declared.cursor.Cursor.{Cursor}
 use Rattle.salvage.proofs.Lengths.{dropped-short}
 use borrow.Author.Needs.{needs}
 use native.Mathlib.Omega.{arith}

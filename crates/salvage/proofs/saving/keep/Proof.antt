@@ -4,7 +4,7 @@ use native.Mathlib.Omega.{arith}
 use borrow.Author.Tests.{not-true, not-false}
 use lib.ListN.{length}
 use denote.Ref.{now}
-use Rattle.block_text.proofs.Writing.{within, nothing, retext}
+use Rattle.file_text.proofs.Writing.{within, nothing, retext}
 use Rattle.salvage.proofs.Joining.{not-kept, is-kept}
 use borrow.Author.Needs.{needs}
 use Rattle.salvage.proofs.saving.keep.Statement.{statement}

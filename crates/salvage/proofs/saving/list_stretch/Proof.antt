@@ -3,7 +3,7 @@ use mathlib.Core.Path.{sym, ap}
 use native.Mathlib.Omega.{arith}
 use lib.ListN.{length, length-set}
 use denote.Ref.{now}
-use Rattle.block_text.proofs.Writing.{nothing, retext, andThen, one}
+use Rattle.file_text.proofs.Writing.{nothing, retext, andThen, one}
 use Rattle.salvage.proofs.Joining.{not-dropped, is-dropped}
 use borrow.Author.Needs.{needs}
 use Rattle.salvage.proofs.saving.list_stretch.Statement.{statement}

@@ -3,7 +3,7 @@ use mathlib.Core.Path.{ap}
 use Prim.Native.Nat.{_-_, _≤_}
 use lib.ListN.{length}
 use denote.Ref.{now}
-use Rattle.block_file.specs.declared.cursor.Cursor.{Cursor}
+use Rattle.file_fields.specs.declared.cursor.Cursor.{Cursor}
 use Rattle.salvage.specs.Pieces.{keptOf, written}
 use Rattle.salvage.proofs.Joining.{rest, Writing, begun, count-more, written-more, ended, within}
 use Rattle.salvage.proofs.Lengths.{written-short}

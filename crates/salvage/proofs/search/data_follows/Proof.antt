@@ -2,8 +2,8 @@
 use mathlib.Core.Path.{sym, ap, _∙_}
 use borrow.Author.Tests.{eq-eqb, ne-eqb}
 use denote.Ref.{now}
-use Rattle.block_file.specs.declared.cursor.Advance.{Advance}
-use Rattle.block_file.specs.Field.{isData}
+use Rattle.file_fields.specs.declared.cursor.Advance.{Advance}
+use Rattle.file_fields.specs.Field.{isData}
 use Rattle.salvage.proofs.Searching.{follows-so}
 use borrow.Author.Needs.{needs}
 use Rattle.salvage.proofs.search.data_follows.Statement.{statement}

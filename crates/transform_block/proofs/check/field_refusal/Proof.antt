@@ -10,7 +10,7 @@ use lib.Dec.{lit<}
 use Rattle.algebra.specs.Refusals.{Refusal, numberOf}
 use Rattle.meaning.specs.Shape.{isKind, isDepthTo}
 use Rattle.meaning.specs.Answer.{test, inputTest}
-use Rattle.transform_block.specs.TransformBlock.{noLine, isReadable, isCorner, isLow, handedTests}
+use Rattle.transform_block.specs.TransformBlock.{isBlockSide, isPair, noLine, hasLow, isReadable, isCorner, isLow, handedTests}
 use Rattle.transform_block.proofs.check.field_refusal.Statement.{statement}
 use Rattle.transform_block.proofs.check.field_refusal.Tie as tie
 
@@ -33,20 +33,33 @@ third s = test (not (isKind (s .args .block .horizontal))) 3 ∷ test (not (isKi
 abbrev all : tie.Start → List Refusal
 all s = handedTests (s .args .block) (s .args .numbers)
 
+-- what the tests said
+side : (c : tie.After-is-side) → c .is-side .result ≡ isBlockSide (c .before .args .block .width)
+unfolding isBlockSide
+side c = c .is-side .ensures
+
+pair : (c : tie.After-is-pair) → c .is-pair .result ≡ isPair (c .before .before .before .args .block)
+unfolding isBlockSide
+pair c = c .is-pair .ensures
+
+corner : (c : tie.After-is-corner) → c .is-corner .result ≡ isCorner (c .before .before .before .before .before .before .before .before .before .before .before .before .before .before .before .before .before .args .block)
+unfolding isCorner hasLow
+corner c = c .is-corner .ensures
+
 is-side-requires : tie.Need-is-side-requires
 is-side-requires c κs = search needs
 
 returns : tie.Need-returns
-returns c = rw (← c .before .is-side .ensures, c .if1 .taken)
+returns c = rw (← side (c .before), c .if1 .taken)
 
 is-pair-requires : tie.Need-is-pair-requires
 is-pair-requires c κs = search needs
 
 returns-2 : tie.Need-returns-2
-returns-2 c = rw (← c .before .is-pair .ensures, ← c .before .before .before .is-side .ensures, c .before .before .if1 .left, c .if2 .taken)
+returns-2 c = rw (← pair (c .before), ← side (c .before .before .before), c .before .before .if1 .left, c .if2 .taken)
 
 past2 : (c : tie.Else2) → let s = c .before .before .before .before in numberOf (all s) ≡ numberOf (third s)
-past2 c = rw (← c .before .is-pair .ensures, ← c .before .before .before .is-side .ensures, c .before .before .if1 .left, c .if2 .left)
+past2 c = rw (← pair (c .before), ← side (c .before .before .before), c .before .before .if1 .left, c .if2 .left)
 
 is-kind-requires : tie.Need-is-kind-requires
 is-kind-requires c κs = search needs
@@ -106,10 +119,10 @@ is-corner-requires : tie.Need-is-corner-requires
 is-corner-requires c κs = search needs
 
 returns-9 : tie.Need-returns-9
-returns-9 c = sym (past8 (c .before .before) ∙ rw (← c .before .is-corner .ensures, c .if9 .taken))
+returns-9 c = sym (past8 (c .before .before) ∙ rw (← corner (c .before), c .if9 .taken))
 
 past9 : (c : tie.Else9) → let s = c .before .before .before .before .before .before .before .before .before .before .before .before .before .before .before .before .before .before in numberOf (all s) ≡ numberOf (low s)
-past9 c = past8 (c .before .before) ∙ rw (← c .before .is-corner .ensures, c .if9 .left)
+past9 c = past8 (c .before .before) ∙ rw (← corner (c .before), c .if9 .left)
 
 is-low-requires : tie.Need-is-low-requires
 is-low-requires c κs = search needs

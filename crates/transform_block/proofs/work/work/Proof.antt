@@ -16,7 +16,7 @@ use Rattle.dct2_block.specs.Alone.{flatOf}
 use Rattle.transform_block.specs.TransformBlock.{transformed}
 use Rattle.transform_block.specs.Given.{Flat}
 use Rattle.transform_block.proofs.Taken.{deep, columns-read, rows-read, last-two, last-short}
-use Rattle.transform_block.proofs.Narrowed.{two}
+use Rattle.transform_block.proofs.ShortBlock.{two}
 use Rattle.transform_block.proofs.PairedBlock.{two-stages}
 use Rattle.transform_block.proofs.FlatBlock.{small, flat-done}
 use Rattle.transform_block.proofs.work.work.Statement.{statement}
@@ -26,14 +26,14 @@ one-stage-requires : tie.Need-one-stage-requires
 one-stage-requires c κs = search needs
 
 -- ---- one stage
-long-requires : tie.Need-long-requires
-long-requires c κs = c .before .before .before .pre
+side-requires : tie.Need-side-requires
+side-requires c κs = let I = c .before in (I .before .before .pre, sym (I .before .one-stage .ensures) ∙ I .if1 .taken)
 
 same-length : tie.Need-same-length
 same-length c = search needs
 
 returns : tie.Need-returns
-returns c = c .before .long .ensures
+returns c = c .before .side .ensures
 
 is-flat-requires : tie.Need-is-flat-requires
 is-flat-requires c κs = search needs
@@ -117,21 +117,21 @@ returns-4 c =
     (λ i. (accepted (e .0 i), e .1 i)) ∙ rw (two-stages (s .args .block) (sym (I .before .is-paired .ensures) ∙ I .if4 .taken))
 
 -- ---- every other block
-long-requires-2 : tie.Need-long-requires-2
-long-requires-2 c κs = c .before .before .before .before .before .before .before .before .before .pre
+long-requires : tie.Need-long-requires
+long-requires c κs = c .before .before .before .before .before .before .before .before .before .pre
 
 same-length-5 : tie.Need-same-length-5
 same-length-5 c = search needs
 
 returns-5 : tie.Need-returns-5
-returns-5 c = c .before .long2 .ensures
+returns-5 c = c .before .long .ensures
 
 pub work-spec : {M : Type 1} → statement M
 work-spec =
     tie.close
     (tie.spec
     one-stage-requires
-    long-requires
+    side-requires
     same-length
     returns
     is-flat-requires
@@ -148,6 +148,6 @@ work-spec =
     paired-requires
     same-length-4
     returns-4
-    long-requires-2
+    long-requires
     same-length-5
     returns-5)

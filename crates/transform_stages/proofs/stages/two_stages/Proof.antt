@@ -9,6 +9,7 @@ use lib.ListN.{length}
 use lib.IntN.{ℤ}
 use Rattle.algebra.proofs.Lists.{Rows, rows-room}
 use Rattle.transform_stages.specs.Work.{worked, GivenTwo}
+use Rattle.transform_stages.proofs.Copying.{read-none}
 use Rattle.transform_stages.proofs.Whole.{wide, high, columns-given, rails-read, rows-given, block-read}
 use Rattle.transform_stages.proofs.stages.two_stages.Statement.{statement}
 use Rattle.transform_stages.proofs.stages.two_stages.Tie as tie
@@ -25,19 +26,21 @@ room s =
 
 read-requires : tie.Need-read-requires
 read-requires c κs =
-    let s = c .before in
+    let s = c .before .before in
     let a = s .args in
-    let g = given s in
-    record {
-      narrow = g .columns;
-      low = g .rows;
-      within = g .sized .columns;
-      few = wide (a .width) (a .height) (a .horizontal) (a .vertical) (a .columns) (a .rows) (a .reach) (a .last) (a .numbers .now) g;
-      there = omega (arith, g .long, mul-comm (a .width) (a .height), mul-le-mul-right (a .width) (g .sized .rows));
-    }
+    let g = given s in (
+      record {
+        narrow = g .columns;
+        low = g .rows;
+        within = g .sized .columns;
+        few = wide (a .width) (a .height) (a .horizontal) (a .vertical) (a .columns) (a .rows) (a .reach) (a .last) (a .numbers .now) g;
+        there = omega (arith, g .long, mul-comm (a .width) (a .height), mul-le-mul-right (a .width) (g .sized .rows));
+      },
+      read-none _ _ _,
+    )
 
 weights-requires : tie.Need-weights-requires
-weights-requires c κs = let s = c .before .before .before .before in (given s .sized .down, s .pre .1)
+weights-requires c κs = let s = c .before .before .before .before .before in (given s .sized .down, s .pre .1)
 
 slice-aggregate-middles : tie.Need-slice-aggregate-middles
 slice-aggregate-middles c = sym (c .before .before .before .before .before .before .read .ensures .long)
@@ -46,7 +49,7 @@ add-middles : tie.Need-add-middles
 add-middles c = search needs
 
 abbrev start : tie.After-weights → tie.Start
-start c = c .before .before .before .before .before
+start c = c .before .before .before .before .before .before
 
 middles-requires : tie.Need-middles-requires
 middles-requires c κs =

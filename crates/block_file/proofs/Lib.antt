@@ -1,5 +1,0 @@
-pub mod Unique
-pub mod Shapes
-mod Tests
-pub mod Whole
-pub mod Found

@@ -1,0 +1,21 @@
+-- `put` meets its contract. Assumes nothing.
+use borrow.Author.Needs.{needs}
+use denote.Ref.{now}
+use Rattle.file_text.proofs.Writing.{one}
+use Rattle.file_text.proofs.text.put.Statement.{statement}
+use Rattle.file_text.proofs.text.put.Tie as tie
+
+slice-write-out : tie.Need-slice-write-out
+slice-write-out c = search needs
+
+add-result : tie.Need-add-result
+add-result c = search needs
+
+same-length : tie.Need-same-length
+same-length c = search needs
+
+returns : tie.Need-returns
+returns c = one (c .args .byte) (c .args .at) (now (c .args .out)) (c .pre)
+
+pub put-spec : {M : Type 1} → statement M
+put-spec = tie.close (tie.spec slice-write-out add-result same-length returns)
