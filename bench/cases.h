@@ -4,7 +4,7 @@
 
 #include "bench.h"
 
-enum { CASES = 192, ROW = 64 };
+enum { CASES = 224, ROW = 64 };
 enum { LIBRARY, REFERENCE, TRIPLE, ROWS, FOLDED, BUTTERFLY, HALVES, LONG, DECODER, COPY, IMPLEMENTATIONS };
 
 typedef struct {
@@ -15,7 +15,7 @@ typedef struct {
     int row; /* 64 inverse blocks of this shape, in one call and in 64 */
     int live; /* an inverse block of kind 0, of which the first so many columns and rows are live; otherwise 0 */
     int transform; /* a transform block, in place, which is told the columns and rows of the shape */
-    int low; /* with LFNST */
+    int low; /* 1 with LFNST; 2 what is read behind it, without */
 } bench_case;
 
 void prepare(void);

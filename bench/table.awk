@@ -73,6 +73,7 @@ function live(m,    k, name, head, decoder, share, part, least, where) {
 # What a transform block is to take: "one" has one coefficient of kind 0.
 function part_of(name) {
     if (name ~ / low-/) return "LFNST"
+    if (name ~ / behind-/) return "none"
     if (name ~ / live-1x1$/) return "one"
     if (name ~ / ([12]x|[0-9]+x[12] )/) return "sides of 1 and 2"
     return name ~ / (4x|[0-9]+x4 )/ ? "sides of 4" : "the others"
@@ -86,12 +87,28 @@ function transforms(m,    k, name, head, copy, library, decoder, share, part, le
         share = library > 0 ? decoder / library : 0
         printf "%-28s %10s %10s %10s %16.2f\n", name, number(m, library), number(m, decoder), number(m, copy), share
         part = part_of(name)
+        if (part == "none") continue
         if (part == "one" && (!(part in most) || library - decoder > most[part])) { most[part] = library - decoder; where[part] = name }
         if (part != "one" && (!(part in least) || share < least[part])) { least[part] = share; where[part] = name }
     }
     if (m == "products") return
     if ("one" in most) printf "%-28s %49s  %s\n", "most above the fill, of one", number(m, most["one"]), where["one"]
     for (part in least) printf "%-28s %49.2f  %s\n", "least of " part, least[part], where[part]
+}
+
+# LFNST alone: what a block with it takes more than the same stages on what it writes, in the same call.
+function low(m, sides, who,    w, h, size) {
+    split(sides, size, "x"); w = size[1]; h = size[2]
+    return value[m, "transform " sides " low-4x4", who] - value[m, "transform " sides " behind-" (w < 8 || h < 8 ? "4x4" : "8x8"), who]
+}
+
+function lows(m,    k, part, head, library, decoder) {
+    for (k = 1; k <= names; k++) if (order[k] ~ /^transform .* low-4x4$/ && has(m, order[k], "library") && has(m, order[k], "decoder")) {
+        split(order[k], part, " ")
+        if (!head++) printf "\n%-28s %10s %10s %27s\n", m " of LFNST alone", "library", "decoder", "decoder/library"
+        library = low(m, part[2], "library"); decoder = low(m, part[2], "decoder")
+        printf "%-28s %10s %10s %27s\n", part[2], number(m, library), number(m, decoder), ratio(decoder, library)
+    }
 }
 
 function amount(m, name, who) { return who == "best of C" ? best(m, name) : has(m, name, who) ? value[m, name, who] : 0 }
@@ -128,7 +145,7 @@ END {
     split("16x16 32x32 32x8", large)
     split("4x4 8x8", small)
     split("dense corner one", fill)
-    for (k = 1; k <= measures; k++) if (measure[k] != "skipped") { blocks(measure[k]); lines(measure[k]); rows(measure[k]); live(measure[k]); transforms(measure[k]) }
+    for (k = 1; k <= measures; k++) if (measure[k] != "skipped") { blocks(measure[k]); lines(measure[k]); rows(measure[k]); live(measure[k]); transforms(measure[k]); lows(measure[k]) }
     if (skipped) print "\n" skipped " instructions were left out of the cycles, since llvm-mca does not know them"
     if ("ns" in seen) aims("ns")
     else if ("cycles" in seen) aims("cycles")

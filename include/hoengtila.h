@@ -1,17 +1,17 @@
-/* Hoengtila: DCT-II, DST-VII and DCT-VIII of VVC (H.266), forward and inverse, for C and C++ callers.
+/* Hoengtila: DCT-II, DST-VII and DCT-VIII of VVC (H.266), forward and inverse, and the inverse of transform blocks with LFNST, for C and
+ * C++ callers.
  *
- * Every function takes any numbers and any lengths. What the caller owes: each pointer points to as many elements as the length
- * after it says, and may be null where that is 0, as nothing is read or written through it then. A pointer without a length is never
- * null: `totals` points to 578 numbers, and `shapes` and `answers` of hoengtila_block_row to 64 shapes and 64 answers, whatever `count`
- * is. And what a call writes overlaps nothing else that it is handed, no input and no other output.
+ * Every function takes any numbers and any lengths. The caller has to see to three things. A pointer points to as many elements as the
+ * length after it says; it may be null if that is 0. A pointer without a length is never null: `totals` points to 578 numbers, `shapes`
+ * and `answers` of hoengtila_block_row to 64 of each, whatever `count` is. What a call writes does not overlap anything else that it is
+ * given.
  *
- * A call that is turned down hands back one of the numbers below, the first that applies in the order that stands beside the
- * function. Its outputs hold what they held and the other numbers that it hands back are 0, where nothing else is said; but 8, 9
- * and 27 have the place of the first number that they refuse, column + row * width. A call that is accepted hands back number 0 and
- * place 0.
+ * A refused call returns one of the numbers below: the first that applies, in the order given with the function. It leaves its outputs
+ * as they were, and every other number that it returns is 0, unless the function says otherwise. 8, 9 and 27 also return the place of
+ * the first number that they refuse, column + row * width. An accepted call returns number 0 and place 0.
  *
- *   1  the width, or a line's length, is not 4, 8, 16 or 32 (thin blocks: or 1; transform blocks: or 1, 2 or 64); steps: there is no
- *      list of n points
+ *   1  the width, or a line's length, is not 4, 8, 16 or 32 (thin blocks: or 1 beside 4, 8 or 16; transform blocks: or 1, 2 or 64);
+ *      steps: there is no list of n points
  *   2  the height is not one of those; transform blocks: or both sides are 1
  *   3  the horizontal kind, or a line's kind, is not 0 (DCT-II), 1 (DST-VII) or 2 (DCT-VIII)
  *   4  the vertical kind is not 0, 1 or 2
@@ -102,9 +102,9 @@ hoengtila_shape hoengtila_shape_of(uint32_t width, uint32_t height, uint32_t hor
  * sum over i of W(i, j) * x[i]. The first two take the fast path, the others the full product of n * n multiplications; they give the
  * same. The fast path of DST-VII and DCT-VIII shares products between weights: 10, 136 and 664 multiplications at 4, 16 and 32 points;
  * at 8 nothing is shared, and it is the product. That of DCT-II goes by even and odd halves: 8, 24, 88 and 344 at 4, 8, 16 and 32.
- * What the fast path saves is multiplications, and not always time: on x86-64 the product is the quicker one at 16 and 32 points of
- * DST-VII and DCT-VIII (docs/PERFORMANCE.md has the times).
- * Refusals, in this order: 1, 3, 6, 7. 6 and 7: a buffer that has not n numbers. */
+ * What the fast path saves is multiplications, and not always time: on x86-64 the product is quicker at 16 and 32 points, except for
+ * the inverse DCT-II (docs/PERFORMANCE.md has the times).
+ * Refusals, in this order: 1, 3, 6, 7. 6 and 7: a buffer whose length is not n. */
 hoengtila_answer hoengtila_line_forward(uint32_t n, uint32_t kind, const int16_t *x, size_t x_len, int32_t *y, size_t y_len);
 hoengtila_answer hoengtila_line_inverse(uint32_t n, uint32_t kind, const int16_t *x, size_t x_len, int32_t *y, size_t y_len);
 hoengtila_answer hoengtila_line_forward_product(uint32_t n, uint32_t kind, const int16_t *x, size_t x_len, int32_t *y, size_t y_len);
@@ -116,11 +116,11 @@ hoengtila_answer hoengtila_line_inverse_product(uint32_t n, uint32_t kind, const
 hoengtila_answer hoengtila_line_forward_wrapped(uint32_t n, uint32_t kind, uint32_t start, const uint32_t *order, size_t order_len, const int16_t *x, size_t x_len, int32_t *y, size_t y_len);
 hoengtila_answer hoengtila_line_inverse_wrapped(uint32_t n, uint32_t kind, uint32_t start, const uint32_t *order, size_t order_len, const int16_t *x, size_t x_len, int32_t *y, size_t y_len);
 
-/* The weight of row i in column j at n points; 0 outside. Nothing is refused. */
+/* The weight of row i in column j at n points, n being 4, 8, 16 or 32; 0 for any other n, kind, row or column. Nothing is refused. */
 int32_t hoengtila_weight(uint32_t kind, uint32_t n, uint32_t i, uint32_t j);
 
 /* D(j): a line of n whole numbers of size at most M, taken forward and back with nothing rounded, comes back at place j as
- * 4096 * n times what it was, but for at most M * D(j); 0 outside. Nothing is refused. */
+ * 4096 * n times what it was, but for at most M * D(j), n being 4, 8, 16 or 32; 0 for any other n, kind or place. Nothing is refused. */
 uint32_t hoengtila_stray(uint32_t kind, uint32_t n, uint32_t j);
 
 /* ---- Blocks: width * height numbers, row by row ---- */
@@ -128,7 +128,7 @@ uint32_t hoengtila_stray(uint32_t kind, uint32_t n, uint32_t j);
 /* The inverse takes coefficients and gives residuals and the rail count; >> rounds down. Columns first: each kept column goes through the
  * inverse line over its kept rows, and a middle value is (sum + 64) >> 7, clipped to -32768..32767. Then rows: each goes through the
  * inverse line over its kept columns, and a residual is (sum + 2^(19 - depth)) >> (20 - depth), which is not clipped.
- * Refusals, in this order: 1, 2, 3, 4, 5, 20, 6, 7, 8. 6 and 7: a buffer that has not width * height numbers. */
+ * Refusals, in this order: 1, 2, 3, 4, 5, 20, 6, 7, 8. 6 and 7: a buffer whose length is not width * height. */
 hoengtila_answer hoengtila_block_inverse(hoengtila_shape shape, const int16_t *coefficients, size_t coefficients_len, int32_t *residuals, size_t residuals_len);
 
 /* The forward takes residuals and gives coefficients, 0 outside the kept part. Rows first: (sum + 2^(p - 1)) >> p of the forward line, with
@@ -177,7 +177,7 @@ typedef struct {
 } hoengtila_thin;
 
 /* Thin blocks, one sample wide or high: the inverse over two work areas of at least width * height numbers each. In this call a
- * side may also be 1, where the other is 4, 8 or 16; its kind is looked at (3, 4) and not used, and it keeps 1. Such a block has one stage,
+ * side may also be 1, where the other is 4, 8 or 16; its kind is tested (3, 4) but not used, and it keeps 1. Such a block has one stage,
  * with the last shift 21 - depth and no middle values: its residuals are the first width * height numbers of `first`, and `second`
  * stays. Any other block has two stages and the residuals of hoengtila_block_inverse, in `second`; `first` then has the middle values
  * at column + row * width, 0 in columns that are not kept. Numbers beyond width * height stay.
@@ -212,7 +212,7 @@ hoengtila_transform_block hoengtila_transform_block_of(uint32_t width, uint32_t 
  * and middle values, are -2^R .. 2^R - 1: with the switch on R is max(15, min(20, depth + 6)), with it off 15. Two stages as in
  * hoengtila_block_inverse_long, and the last shift 5 + R - depth; at every depth, also with the switch off. A block with a side of 1 has one
  * stage, the line of its other side, with the last shift 6 + R - depth, no middle values and the rail count 0; the kind of the side of 1
- * is looked at (3, 4) and not used. With LFNST its stage runs first: it takes 8 coefficients of the corner of 4 by 4 at sides of 4 by 4 and
+ * is tested (3, 4) but not used. With LFNST its stage runs first: it takes 8 coefficients of the corner of 4 by 4 at sides of 4 by 4 and
  * 8 by 8, else 16, and gives 48 values at the start of the block where both sides are 8 or more, else 16, each -2^R .. 2^R - 1; the two
  * stages run on these, and the rail count is theirs. Which set, and whether transposed, follow from the intra mode: the caller's part.
  * Without LFNST, where hoengtila_block_inverse_long takes the same numbers at the same position of the switch, or with
@@ -276,8 +276,8 @@ typedef struct {
     uint32_t height;
 } hoengtila_picture;
 
-/* Reads such a graymap, with any white space and comments in its header. Refusals, in this order: 24, 25, 7. 7: an output that has not
- * width * height numbers. */
+/* Reads such a graymap, with any blanks, tabs, line ends and comments in its header. Refusals, in this order: 24, 25, 7. 7: an output
+ * whose length is not width * height. */
 hoengtila_picture hoengtila_picture_read(const uint8_t *file, size_t file_len, int32_t *residuals, size_t residuals_len);
 
 /* ---- Broken files: what can be saved of a block file ---- */
@@ -312,9 +312,9 @@ typedef struct {
     uint32_t count;  /* how many multiplying steps the run took; 0 where refused */
 } hoengtila_step_count;
 
-/* Any list: x holds the inputs, y takes the outputs. Refusals, in this order: 18, 6, 7, 28, 17, 29. 6 and 7: x or y has not the list's
- * number of inputs or of outputs. 28 is met by more inputs than cells before any step; then the last three are looked for at each step,
- * and after the last step 28 and 17 at each output cell. */
+/* Any list: x holds the inputs, y takes the outputs. Refusals, in this order: 18, 6, 7, 28, 17, 29. 6 and 7: the length of x or y is not
+ * the list's number of inputs or of outputs. More inputs than cells is 28, before any step. Then each step is tested for 28, 17 and 29,
+ * and after the last step each output cell for 28 and 17. */
 hoengtila_step_count hoengtila_steps_run(uint32_t inputs, uint32_t cells, const int32_t *steps, size_t steps_len, const int32_t *outs, size_t outs_len, const int16_t *x, size_t x_len, int32_t *y, size_t y_len);
 
 typedef struct {

@@ -2,8 +2,6 @@
 use crate::corner::in_order;
 use crate::corner::short_in_order;
 use lfnst_tables::lines::finish;
-use lfnst_tables::of_16;
-use lfnst_tables::of_48;
 use long_stages::sums::dot;
 ghost use mathlib.Core.Path.{_≡_};
 ghost use mathlib.Core.Logic.{_⊎_};
@@ -27,9 +25,9 @@ fn short_values(wide: bool, matrix: usize, pairs: usize, corner: &[i32; 16], v: 
     let mut a = [0i16; 16];
     short_in_order(corner, &mut a);
     if wide {
-        of_48::times(matrix, pairs, &a, v);
+        lfnst_48::times(matrix, pairs, &a, v);
     } else {
-        of_16::times(matrix, pairs, &a, v);
+        lfnst_16::times(matrix, pairs, &a, v);
     }
 }
 
@@ -50,7 +48,7 @@ fn long_16(matrix: usize, pairs: usize, reach: u32, u: &[i32; 16], v: &mut [i32]
     ensures { λ _. ⌜ WroteFrom 0 16 (now (v .exit)) (now (v .entry)) (λ j. middle (rangeOf reach) (sum (2 * pairs) (λ i. at (now (u .entry)) i *ℤ entry 16 matrix i j))) ⌝ }
 {
     let mut t = [0i16; 256];
-    of_16::put(matrix, &mut t);
+    lfnst_16::put(matrix, &mut t);
     long_sums(&t, 16, pairs, u, v);
     finish(16, reach, v);
 }
@@ -61,7 +59,7 @@ fn long_48(matrix: usize, pairs: usize, reach: u32, u: &[i32; 16], v: &mut [i32]
     ensures { λ _. ⌜ WroteFrom 0 48 (now (v .exit)) (now (v .entry)) (λ j. middle (rangeOf reach) (sum (2 * pairs) (λ i. at (now (u .entry)) i *ℤ entry 48 matrix i j))) ⌝ }
 {
     let mut t = [0i16; 768];
-    of_48::put(matrix, &mut t);
+    lfnst_48::put(matrix, &mut t);
     long_sums(&t, 48, pairs, u, v);
     finish(48, reach, v);
 }

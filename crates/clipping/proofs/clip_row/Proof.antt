@@ -1,8 +1,7 @@
 -- `clip_row` meets its contract: the numbers before k are clipped. Assumes nothing.
 use borrow.Author.Needs.{needs}
 use native.Mathlib.Omega.{arith}
-use native.Mathlib.Nat.{zero-add}
-use mathlib.Core.Path.{refl, sym, ap, _∙_}
+use mathlib.Core.Path.{refl, ap, _∙_}
 use Prim.Native.Nat.{ℕ, _+_, _-_, _≤_, _<_}
 use lib.ListN.{length}
 use mir.Syntax.{w16, w32}
@@ -16,13 +15,16 @@ use Rattle.clipping.proofs.clip_row.Statement.{statement}
 use Rattle.clipping.proofs.clip_row.Tie as tie
 
 abbrev Inv-loop : tie.InvT-loop
-Inv-loop c count room₀ k₀ room k = (k ≤ count) × WroteFrom 0 k room room₀ (λ k. clip shortRange (at c k))
+Inv-loop c o count room₀ k₀ room k = (k ≤ count) × WroteFrom o k room room₀ (λ k. clip shortRange (at c (o + k)))
 
 abbrev μ-loop : tie.MeasureT-loop
-μ-loop c count room₀ k₀ room k = count - k
+μ-loop c o count room₀ k₀ room k = count - k
 
 loop-holds : tie.Need-loop-holds Inv-loop μ-loop
 loop-holds c = (omega arith, wrote-none _ _ _)
+
+add-clip16 : tie.Need-add-clip16 Inv-loop μ-loop
+add-clip16 c = omega (arith, c .loop-test .taken, c .before .before .pre .0)
 
 mul-clip16 : tie.Need-mul-clip16 Inv-loop μ-loop
 mul-clip16 c = omega (arith, c .loop-test .taken, c .before .before .pre .0)
@@ -33,8 +35,11 @@ shared-slice-copy-out-clip16 c = omega (arith, c .loop-test .taken, c .before .b
 clip16-requires : tie.Need-clip16-requires Inv-loop μ-loop
 clip16-requires c κs = search needs
 
-mul-t10 : tie.Need-mul-t10 Inv-loop μ-loop
-mul-t10 c = let I = c .before .before in omega (arith, I .loop-test .taken, I .before .loop .inv .1 .long, I .before .before .pre .1)
+add-t12 : tie.Need-add-t12 Inv-loop μ-loop
+add-t12 c = let I = c .before .before in omega (arith, I .loop-test .taken, I .before .loop .inv .1 .long, I .before .before .pre .1)
+
+mul-t13 : tie.Need-mul-t13 Inv-loop μ-loop
+mul-t13 c = let I = c .before .before in omega (arith, I .loop-test .taken, I .before .loop .inv .1 .long, I .before .before .pre .1)
 
 slice-set-from-room : tie.Need-slice-set-from-room Inv-loop μ-loop
 slice-set-from-room c = let I = c .before .before in omega (arith, I .loop-test .taken, I .before .loop .inv .1 .long, I .before .before .pre .1)
@@ -51,8 +56,8 @@ loop-again c =
     let L = I .before in
     let s = L .before in (
       omega (arith, I .loop-test .taken),
-      wrote-at _ _ _ (sym (zero-add (L .loop .k))) refl (omega (arith, I .loop-test .taken, s .pre .1)) (L .loop .inv .1)
-          (toZ-ofZ w16 (c .clip16 .result) (search needs) ∙ c .clip16 .ensures ∙ ap (clip shortRange) (toZ-ofZ w32 (at (s .args .c .now) (L .loop .k)) (record { sfits = c .before .clip16-arg .given }))),
+      wrote-at _ _ _ refl refl (omega (arith, I .loop-test .taken, s .pre .1)) (L .loop .inv .1)
+          (toZ-ofZ w16 (c .clip16 .result) (search needs) ∙ c .clip16 .ensures ∙ ap (clip shortRange) (toZ-ofZ w32 (at (s .args .c .now) (s .args .o + L .loop .k)) (record { sfits = c .before .clip16-arg .given }))),
     )
 
 same-length : tie.Need-same-length Inv-loop μ-loop
@@ -68,10 +73,12 @@ clip-row-spec =
     Inv-loop
     μ-loop
     loop-holds
+    add-clip16
     mul-clip16
     shared-slice-copy-out-clip16
     clip16-requires
-    mul-t10
+    add-t12
+    mul-t13
     slice-set-from-room
     add-k
     loop-less
