@@ -3,6 +3,7 @@
 // output; number, place and rail count; how many numbers of the output the call changed, the output's sum, and its sum
 // with each number times its place from 1; and an output of sixteen numbers whole. A block by value: both kinds and the
 // depth, number, place and rail count and the sixteen numbers, then the same of the lent form.
+#![tactic(auto)]
 mod by_value;
 mod call;
 mod few;

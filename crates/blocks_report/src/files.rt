@@ -15,7 +15,7 @@ pub const REFUSED: u32 = 1;
 pub const STOPPED: u32 = 2;
 
 // Where the reading of a file stopped: the number of the refusal or 0, and the offset of the field.
-#[derive(Drop)]
+#[derive(Clone, Copy)]
 pub struct Stop {
     pub number: u32,
     pub offset: usize,

@@ -2,6 +2,7 @@
 // refused is counted; a field that is refused ends its file, and a line on standard error says so. With 4 for PROGRESS, how many
 // files are done is written to that descriptor. Nothing is proved here but that it ends: `tests/report` holds what is printed to
 // the harness's model.
+#![tactic(auto)]
 mod files;
 mod table;
 

@@ -1,6 +1,7 @@
 // Prints the forward DST-VII of 4, 16 or 32 points as a list of steps: `blocks_steps N`. A line is an input's cell, a step, or an
 // output's cell; the last line counts. Nothing is proved of the text but that it ends: tests/step_lists holds what is printed to
 // the lists that the harness makes.
+#![tactic(auto)]
 mod text;
 
 use file_input::ending;

@@ -2,6 +2,7 @@
 // data fields, the first being 1; the place is column + row * width. Where there are no parts, its ending says why, or a line on
 // standard error which refusal.
 // Nothing is proved of the text but that it ends: `tests/why` holds what is printed to the harness's model.
+#![tactic(auto)]
 mod text;
 
 ghost use Rattle.std.specs.Prelude.{◌≡◌, length};

@@ -1,6 +1,7 @@
 // Drives the reader from any cursor: standard input holds a cursor, its place in eight bytes and its shape in seven times four,
 // and then a file. Prints a new cursor, the advance's number and tag and its next cursor, and the body. `tests/cursor` holds it to
 // the independent model.
+#![tactic(auto)]
 ghost use Rattle.std.specs.Prelude.{◌≡◌, ◌+◌, ◌≤◌, ◌<◌, length};
 
 use file_fields::cursor::Cursor;

@@ -2,6 +2,7 @@
 // tested. Read specs/Stages; down, the first stage, strip by strip; along, the second, group of rows by group of rows; touched, whether
 // a middle value stands at an end of its range; stages, both; alone, a block with one coefficient; worked, which of these a
 // block takes; kernels, which blocks are worked here.
+#![tactic(auto)]
 pub mod alone;
 pub mod along;
 pub mod down;

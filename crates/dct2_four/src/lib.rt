@@ -1,6 +1,7 @@
 // Internal: the inverse of a block of 4 by 4 of kind 0 both ways, for calls that were tested. Both stages are one function, `stage`: it
 // works four columns or rows side by side, by even and odd halves with literal weights, and leaves what it made turned. So the first
 // stage reads the block and leaves it turned, and the second turns it back. Read `kernel_levels` first.
+#![tactic(auto)]
 ghost use Rattle.std.specs.Prelude.{◌≡◌, false, ℕ, ◌≤◌, ◌<◌, length};
 ghost use Rattle.algebra.specs.Lists.{block};
 ghost use Rattle.product.specs.Product.{shifted};

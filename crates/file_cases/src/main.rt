@@ -1,5 +1,6 @@
 // Runs stored files, and writes for each its name on a line and then what it prints. The files and the text are made by
 // harness/src/bin/file_cases.rs, from the independent model.
+#![tactic(auto)]
 use libc::STDOUT_FILENO;
 
 fn case(i: usize) {

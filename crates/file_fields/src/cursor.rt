@@ -7,14 +7,14 @@ use crate::field::found;
 use meaning::Shape;
 
 /// A place in a file, and the shape that holds there. Any numbers.
-#[derive(Drop)]
+#[derive(Clone, Copy)]
 pub struct Cursor {
     pub at: usize,
     pub shape: Shape,
 }
 
 /// What an advance hands back: the number of the refusal or 0, the tag of the field that was read or 0, and the next cursor.
-#[derive(Drop)]
+#[derive(Clone, Copy)]
 pub struct Advance {
     pub number: u32,
     pub tag: u32,

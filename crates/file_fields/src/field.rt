@@ -8,7 +8,7 @@ use meaning::Shape;
 
 // What was read: the number of the refusal or 0, the tag or 0, where the body starts and how many bytes it has, and the
 // cursor behind it.
-#[derive(Drop)]
+#[derive(Clone, Copy)]
 pub struct Field {
     pub number: u32,
     pub tag: u32,

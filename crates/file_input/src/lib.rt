@@ -1,6 +1,7 @@
 // Internal: what the programs behind `blocks` share: the bytes of a file from a descriptor, what is said on standard error, and how a
 // program ended. Nothing can be said of the bytes that a system reads and writes: what stands here is to be read, and `tests/program`
 // tries it. Read `read_input`, then `ending`, of which `blocks` at the root makes a status.
+#![tactic(auto)]
 pub mod ending;
 
 ghost use Rattle.std.specs.Prelude.{◌≡◌, length};
@@ -16,7 +17,7 @@ pub fn file_buffer() -> [u8; 65537]
 }
 
 // What was read: how many bytes, and whether a read failed.
-#[derive(Drop)]
+#[derive(Clone, Copy)]
 pub struct Input {
     pub count: usize,
     pub failed: bool,

@@ -12,7 +12,7 @@ use meaning::Shape;
 
 /// What is handed back: the number of the refusal or 0, the offset of the field, and how long the picture is: 0 where there is
 /// none, and beside number 0 where the file has no such block.
-#[derive(Drop)]
+#[derive(Clone, Copy)]
 pub struct View {
     pub number: u32,
     pub offset: usize,

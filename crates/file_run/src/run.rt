@@ -13,7 +13,7 @@ use meaning::Shape;
 
 // What a turn hands back: the place behind its text, whether the run ends with it, the number of its refusal or 0, and the next
 // cursor.
-#[derive(Drop)]
+#[derive(Clone, Copy)]
 struct TurnDone {
     at: usize,
     ends: bool,
@@ -22,7 +22,7 @@ struct TurnDone {
 }
 
 /// What a run hands back: the length of its text, and the number of the refusal that ended it or 0.
-#[derive(Drop)]
+#[derive(Clone, Copy)]
 pub struct RunDone {
     pub length: usize,
     pub number: u32,

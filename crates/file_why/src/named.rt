@@ -12,7 +12,7 @@ use why::Parts;
 
 /// What is handed back: the tag of the field that was named, or 0 where there is none; its offset, or that of the field at which the
 /// reader stopped; the depth of an inverse block, or 0; and its parts, with the reader's number where it stopped.
-#[derive(Drop)]
+#[derive(Clone, Copy)]
 pub struct Reasons {
     pub tag: u32,
     pub offset: usize,

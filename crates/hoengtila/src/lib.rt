@@ -5,6 +5,7 @@
 // 4 by 4 block by value (`small_block`), the calls that run two ways side by side (`forward_both`, `inverse_both`), the thin block that
 // hands a stretch of an area back (`inverse` of `thin_block`; `work` is here), `empty` of `report` and `is_listed` of `step_lists`. Read it
 // beside the header.
+#![tactic(auto)]
 ghost use Rattle.std.specs.Prelude.{◌≡◌, not, List, ℕ, eqb, ℤ};
 ghost use Rattle.meaning.specs.Shape.{shape_of};
 ghost use Rattle.meaning.specs.Answer.{Outcome, forward_line_outcome, inverse_line_outcome};

@@ -4,3 +4,4 @@
 // tiles, proofs/Across how `along` goes from turned tiles to rows of residuals, proofs/Stored the weights. The crates behind this
 // one have the kernels by points. `make` writes their code and proofs, and proofs/Stored, from points and live inputs; nothing
 // rests on it, as the prover checks what it wrote.
+#![tactic(auto)]

@@ -2,6 +2,7 @@
 // that there is and for a corner in its range, which the call of a transform block tests. Read specs/LowFrequency, then rules (what
 // the sides decide), corner (what is read, and in which order), sums (the values), places (where they go) and `stage`. Of
 // proofs/, Left and Same have what a caller cites, Fits that no sum leaves 32 bits, and Examples the sizes at which the rule changes.
+#![tactic(auto)]
 mod corner;
 mod places;
 pub mod rules;

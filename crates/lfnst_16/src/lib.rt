@@ -1,6 +1,7 @@
 // Internal: the matrices of LFNST of 16 columns as data; a caller hands over which of the eight. Made by crates/lfnst_tables/make; do not edit.
 // The weights of inputs 2k and 2k + 1 in output j stand side by side at 2 * j + k * 32. proofs/ has the rule over each matrix, by
 // one computed test.
+#![tactic(auto)]
 ghost use Rattle.std.specs.Prelude.{◌≡◌, ◌*◌, ◌<◌, length, ◌*ℤ◌};
 ghost use Rattle.algebra.specs.Sum.{sum};
 ghost use Rattle.algebra.specs.Lists.{at};

@@ -1,6 +1,7 @@
 // Lines: the weights one by one, and lines of 4, 8, 16 and 32 points, over any numbers and any buffers. `forward` and `inverse` go
 // the fast path, `forward_product` and `inverse_product` the full product; the two of a direction have one contract. Read specs/Line,
 // then proofs/Agreement and proofs/Unique. The work behind them stands in `shared_line`, `dct2_line` and `full_line`.
+#![tactic(auto)]
 ghost use Rattle.std.specs.Prelude.{◌≡◌, true, false, length};
 ghost use Rattle.algebra.specs.Lists.{at};
 ghost use Rattle.algebra.specs.Refusals.{number_of};
@@ -126,7 +127,7 @@ pub fn inverse_product(n: u32, kind: u32, x: &[i16], y: &mut [i32]) -> Answer
 
 /// What both paths of a direction hand back.
 #[repr(C)]
-#[derive(Drop)]
+#[derive(Clone, Copy)]
 pub struct Both {
     pub fast: Answer,
     pub full: Answer,

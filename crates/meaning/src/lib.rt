@@ -2,6 +2,7 @@
 // document 01: Weights, Line, Shape, Plan, Taken, Answer, Inverse, Long, Forward, Exact), and the theorems that follow from these alone
 // (proofs/). Read specs/ in that order, then of proofs/ Numbers, Sharing, H266, Sizes, PlanSizes, Stages, Parts, NoRails, NearExact,
 // of long numbers LongRules, LongSizes, LongCall and LongOff, and Unique; the others serve these or the crates above.
+#![tactic(auto)]
 ghost use Rattle.std.specs.Prelude.{◌≡◌, ◌++◌, ◌*◌, min};
 ghost use Rattle.algebra.specs.Refusals.{number_of};
 ghost use Rattle.meaning.specs.Shape.{is_size, is_kind, is_depth, is_long_depth, most_kept, is_kept, keeps, shape_of, keeping};
@@ -10,7 +11,7 @@ ghost use Rattle.meaning.specs.Long.{long_shape_tests};
 
 /// What a block is: its sides, a kind for each direction, its bit depth, and how many columns and rows are kept. Any numbers.
 #[repr(C)]
-#[derive(Drop)]
+#[derive(Clone, Copy)]
 pub struct Shape {
     pub width: u32,
     pub height: u32,
@@ -107,7 +108,7 @@ impl Shape {
 
 /// What a call hands back beside its output: the number of the refusal or 0, its place, and the rail count.
 #[repr(C)]
-#[derive(Drop)]
+#[derive(Clone, Copy)]
 pub struct Answer {
     pub number: u32,
     pub place: u32,

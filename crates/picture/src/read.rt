@@ -7,7 +7,7 @@ use picture_samples::read::read_samples;
 
 /// What reading hands back: the number of the refusal or 0, and the width and height of the header, 0 where it is none (24).
 #[repr(C)]
-#[derive(Drop)]
+#[derive(Clone, Copy)]
 pub struct Picture {
     pub number: u32,
     pub width: u32,

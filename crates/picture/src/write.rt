@@ -12,7 +12,7 @@ use picture_samples::put::{any_beyond, put_samples};
 
 /// What writing hands back: the number of the refusal or 0, and how many bytes the file has.
 #[repr(C)]
-#[derive(Drop)]
+#[derive(Clone, Copy)]
 pub struct Written {
     pub number: u32,
     pub bytes: u32,

@@ -1,5 +1,6 @@
 // The header of a graymap, read byte by byte. Read specs/Header; then the theorems of proofs/: Variants, what headers give, one to a line,
 // and Unique (Tests and Reading serve these functions and `picture`); then this file, and byte, what one byte more makes of a header.
+#![tactic(auto)]
 mod byte;
 
 ghost use Rattle.std.specs.Prelude.{◌≡◌};
@@ -7,7 +8,7 @@ ghost use Rattle.picture_header.specs.Header.{behind_p5, is_p5, header_of, is_pi
 
 /// What was read: the part that was begun last (0 for P5, 1 the width, 2 the height, 3 the maximum value, 4 where this is no
 /// header), whether that part goes on, whether a comment does, and the three numbers.
-#[derive(Drop)]
+#[derive(Clone, Copy)]
 pub struct Header {
     pub part: u32,
     pub going: bool,
@@ -18,7 +19,7 @@ pub struct Header {
 }
 
 /// A header, and the place behind what was read of it.
-#[derive(Drop)]
+#[derive(Clone, Copy)]
 pub struct FoundHeader {
     pub header: Header,
     pub start: usize,

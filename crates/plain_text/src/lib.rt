@@ -1,5 +1,6 @@
 // Internal: text for the programs whose text is not proved: what an argument spells, and text put into a buffer at a place and then
 // printed. Each `put` returns the place after what it put; past the end of the buffer nothing is put.
+#![tactic(auto)]
 ghost use Rattle.std.specs.Prelude.{◌≡◌, ◌≤◌, length};
 
 use libc::STDOUT_FILENO;

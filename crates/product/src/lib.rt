@@ -5,6 +5,7 @@
 // LLVM multiplies and adds eight 16-bit numbers in one instruction (pmaddwd) where it sees the pair sums stored by one loop
 // (`products`) and added by a second one (`total`), the odd number named first, and the number of pairs a literal of the caller
 // of `lines`. docs/DECISIONS.md has what loses it.
+#![tactic(auto)]
 ghost use Rattle.std.specs.Prelude.{◌≡◌, ℕ, ◌+◌, ◌*◌, ◌-◌, ◌^◌, ◌≤◌, ◌<◌, pos, ◌+ℤ◌, ◌*ℤ◌, nat_abs, length, drop, ◌++◌};
 ghost use Rattle.algebra.specs.Sum.{sum};
 ghost use Rattle.algebra.specs.Lists.{at, tabulate, block};

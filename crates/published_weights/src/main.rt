@@ -1,5 +1,6 @@
 // Compares the library's weights with published ones that are written out here, and prints for each source how many agree; then
 // what document 004 measures of a matrix. docs/DECISIONS.md, "Published weights", says where each number came from.
+#![tactic(auto)]
 mod letters;
 mod norms;
 mod numbers;

@@ -11,7 +11,7 @@ use file_text::text::put;
 
 /// The number of the refusal or 0, how many bytes the new file has, and how many stretches were dropped.
 #[repr(C)]
-#[derive(Drop)]
+#[derive(Clone, Copy)]
 pub struct Saved {
     pub number: u32,
     pub bytes: u32,

@@ -7,7 +7,7 @@ use file_fields::cursor::{Advance, Cursor};
 use file_fields::is_data;
 
 // A field that was read, or a stretch that is dropped.
-#[derive(Drop)]
+#[derive(Clone, Copy)]
 pub struct Piece {
     pub offset: usize,
     pub bytes: usize,
@@ -15,7 +15,7 @@ pub struct Piece {
 }
 
 // A piece, and the cursor behind it.
-#[derive(Drop)]
+#[derive(Clone, Copy)]
 pub struct Found {
     pub piece: Piece,
     pub next: Cursor,

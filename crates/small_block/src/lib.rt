@@ -1,5 +1,6 @@
 // 4 by 4 blocks by value: four lines of four go in and come back, and nothing is lent. Read specs/Small; of proofs/, FourByFour and
 // Unique.
+#![tactic(auto)]
 ghost use Rattle.std.specs.Prelude.{◌≡◌, ◌+◌, ◌≤◌};
 ghost use Rattle.algebra.specs.Lists.{at, tabulate, flat};
 ghost use Rattle.meaning.specs.Answer.{Outcome};
@@ -9,14 +10,14 @@ use block::{forward, inverse};
 use meaning::{Answer, Shape};
 
 /// What a forward block by value hands back: the answer, and the coefficients, sixteen zeros where it was turned down.
-#[derive(Drop)]
+#[derive(Clone, Copy)]
 pub struct SmallCoefficients {
     pub answer: Answer,
     pub block: [[i16; 4]; 4],
 }
 
 /// What an inverse block by value hands back: the answer, and the residuals, sixteen zeros where it was turned down.
-#[derive(Drop)]
+#[derive(Clone, Copy)]
 pub struct SmallResiduals {
     pub answer: Answer,
     pub block: [[i32; 4]; 4],
@@ -145,7 +146,7 @@ pub fn inverse_4x4(
 }
 
 /// What both forms of the forward block hand back, each with its coefficients.
-#[derive(Drop)]
+#[derive(Clone, Copy)]
 pub struct BothCoefficients {
     pub by_value: Answer,
     pub lent: Answer,
@@ -154,7 +155,7 @@ pub struct BothCoefficients {
 }
 
 /// What both forms of the inverse hand back, each with its residuals.
-#[derive(Drop)]
+#[derive(Clone, Copy)]
 pub struct BothResiduals {
     pub by_value: Answer,
     pub lent: Answer,

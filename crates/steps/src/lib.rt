@@ -3,10 +3,11 @@
 // forward DST-VII); of proofs/ Count, Inside and Product, which are over any list, Computed, which has the three, and Cases,
 // which has the order of the refusals on small lists. The runner is the crate `step_run`; the lists as data are handed out by
 // `step_lists`.
+#![tactic(auto)]
 
 /// What a run hands back beside its output: the number of the refusal or 0, and how many multiplying steps it took.
 #[repr(C)]
-#[derive(Drop)]
+#[derive(Clone, Copy)]
 pub struct StepCount {
     pub number: u32,
     pub count: u32,

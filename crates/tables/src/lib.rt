@@ -3,6 +3,7 @@
 // 16 points are handed out by value and lent from there, and those of 32 are written into a lent room. Read specs/Table, then the
 // functions of this file, whose proofs have the checker test the fold rule over the whole table (proofs/Stored); specs/Term with
 // zipped; of proofs/, Unique. crates/tables/make writes weights and zipped.
+#![tactic(auto)]
 mod weights;
 pub mod zipped;
 

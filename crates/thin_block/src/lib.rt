@@ -2,6 +2,7 @@
 // otherwise, over two lent work areas. `work` says everything of both areas: its contract is `thin_outcome` of specs/Thin; read that
 // first. `inverse` hands back the stretch that holds the result: specs/Handed. Then check (the refusals; the hunt for 8 is that of
 // `inverse_hunt`), one and two (the stages).
+#![tactic(auto)]
 mod check;
 mod one;
 mod two;
@@ -19,7 +20,7 @@ use meaning::Shape;
 /// What a call hands back beside its areas: the number of the refusal or 0, its place, the rail count, and which area starts with
 /// the residuals: 1, 2, or 0 for a refused call.
 #[repr(C)]
-#[derive(Drop)]
+#[derive(Clone, Copy)]
 pub struct Thin {
     pub number: u32,
     pub place: u32,

@@ -4,6 +4,7 @@
 // switch on that need only 16 bits, by `transform_calm`), work (which way a block takes, and the fill), side (a side of 1, by
 // `transform_line`), short (blocks of document 01, by `transform_short`), paired (other blocks of two stages with the switch off, by
 // `transform_pairs`, and by `transform_two` where a side is 2), long (the rest, by `transform_stages`).
+#![tactic(auto)]
 mod calm;
 mod check;
 mod hunt;
@@ -32,7 +33,7 @@ use meaning::{Answer, accepted, most_kept, refused};
 /// number on), how many columns and rows are read, and LFNST: its index (0 none), the set of its matrices, and whether its values go
 /// column by column (1). Any numbers.
 #[repr(C)]
-#[derive(Drop)]
+#[derive(Clone, Copy)]
 pub struct TransformBlock {
     pub width: u32,
     pub height: u32,

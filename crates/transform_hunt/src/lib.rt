@@ -1,6 +1,7 @@
 // Internal: the hunt for 27, through what is read of a transform block, for calls whose fields were tested. First one look without a way
 // out, which the compiler takes eight numbers at a time; only where that finds something, row by row and number by number. Read
 // specs/Hunt.
+#![tactic(auto)]
 ghost use Rattle.std.specs.Prelude.{◌≡◌, true, false, ℕ, ◌+◌, ◌*◌, ◌≤◌, ◌<◌, length};
 ghost use Rattle.algebra.specs.Lists.{at};
 ghost use Rattle.meaning.specs.Plan.{range_of};

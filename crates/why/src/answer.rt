@@ -16,7 +16,7 @@ use meaning::Shape;
 /// What a call hands back: the number of the refusal or 0, its place, and the four parts, whose sum is 2^(27-d) times the residual,
 /// or 2^(7+s) times for the long numbers.
 #[repr(C)]
-#[derive(Drop)]
+#[derive(Clone, Copy)]
 pub struct Parts {
     pub number: u32,
     pub place: u32,

@@ -10,7 +10,7 @@ use meaning::Shape;
 use stage_weights::put_1024;
 
 // Three of the parts, and the row sum, of which the last rounding is made.
-#[derive(Drop)]
+#[derive(Clone, Copy)]
 pub struct Sums {
     pub exact: i64,
     pub middle_roundings: i64,

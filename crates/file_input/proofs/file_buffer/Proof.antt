@@ -8,5 +8,5 @@ use Rattle.file_input.proofs.file_buffer.Tie as tie
 returns : tie.Need-returns
 returns c = sym (length-replicate {A = ℕ} 65537 0)
 
-pub file-buffer-spec : {M : Type 1} → statement M
-file-buffer-spec = tie.close (tie.spec returns)
+pub file_buffer_spec : {M : Type 1} → statement M
+file_buffer_spec = tie.close (tie.spec returns)

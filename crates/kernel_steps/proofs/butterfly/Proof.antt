@@ -15,15 +15,15 @@ use Rattle.kernel_steps.proofs.Writing.{ends-none, ends_next, ends-to}
 use Rattle.kernel_steps.proofs.butterfly.Statement.{statement}
 use Rattle.kernel_steps.proofs.butterfly.Tie as tie
 
-abbrev invariant-loop : tie.invariant-loop
+abbrev invariant-loop : tie.invariant-loop-j
 invariant-loop e o h from to out₀ j₀ out j = (from ≤ j) × ((j ≤ to) × Ends from j h (λ j. at e j +ℤ at o j) (λ j. at e j -ℤ at o j) out out₀)
 
-abbrev decreases-loop : tie.decreases-loop
+abbrev decreases-loop : tie.decreases-loop-j
 decreases-loop e o h from to out₀ j₀ out j = to - j
 
-module _ (c : tie.In-loop invariant-loop decreases-loop) where
+module _ (c : tie.In-loop-j invariant-loop decreases-loop) where
   abbrev j : ℕ
-  j = c.before.loop.j
+  j = c.before.loop-j.j
 
   abbrev e : ℤ
   e = at c.before.before.args.e.now j
@@ -35,10 +35,10 @@ module _ (c : tie.In-loop invariant-loop decreases-loop) where
   o = at c.before.before.args.o.now j
 
   even-size : nat_abs e ≤ 1000000000
-  even-size = c.before.before.requires.0.low j c.loop-test.true
+  even-size = c.before.before.requires.0.low j c.loop-j-test.true
 
   odd-size : nat_abs o ≤ 1000000000
-  odd-size = c.before.before.requires.1.0.low j c.loop-test.true
+  odd-size = c.before.before.requires.1.0.low j c.loop-j-test.true
 
   reads-even : to_z w32 (of_z w32 e) ≡ e
   reads-even = to_z-of_z w32 e (small {B = 1000000000} (omega arith) even-size)
@@ -53,8 +53,8 @@ module _ (c : tie.In-loop invariant-loop decreases-loop) where
   )
 
   -- j and its mirror are places of `out`
-  room : (j < h) × (h + h ≤ length c.before.loop.out)
-  room = (omega arith, omega (arith, c.before.loop.invariant.1.1.long))
+  room : (j < h) × (h + h ≤ length c.before.loop-j.out)
+  room = (omega arith, omega (arith, c.before.loop-j.invariant.1.1.long))
 
   in-evens : j < length c.before.before.args.e.now
   in-evens = omega (arith, c.before.before.requires.0.room)
@@ -62,73 +62,73 @@ module _ (c : tie.In-loop invariant-loop decreases-loop) where
   in-odds : j < length c.before.before.args.o.now
   in-odds = omega (arith, c.before.before.requires.1.0.room)
 
-loop-holds : tie.Need-loop-init invariant-loop decreases-loop
+loop-holds : tie.Need-loop-j-init invariant-loop decreases-loop
 loop-holds c = (omega arith, (omega arith, ends-none _ _ _ _ _))
 
-mul-plus : tie.Need-overflow-mul-plus invariant-loop decreases-loop
+mul-plus : tie.Need-offset_bounds-e-j invariant-loop decreases-loop
 mul-plus c = omega (arith, in-evens c)
 
-shared-slice-copy-out-plus : tie.Need-shared-slice-copy-out-plus invariant-loop decreases-loop
+shared-slice-copy-out-plus : tie.Need-bounds-e-j invariant-loop decreases-loop
 shared-slice-copy-out-plus c = in-evens c
 
-mul-plus-2 : tie.Need-overflow-mul-plus-2 invariant-loop decreases-loop
+mul-plus-2 : tie.Need-offset_bounds-o-j invariant-loop decreases-loop
 mul-plus-2 c = omega (arith, in-odds c.before)
 
-shared-slice-copy-out-plus-2 : tie.Need-shared-slice-copy-out-plus-2 invariant-loop decreases-loop
+shared-slice-copy-out-plus-2 : tie.Need-bounds-o-j invariant-loop decreases-loop
 shared-slice-copy-out-plus-2 c = in-odds c.before
 
 plus-requires : tie.Need-plus-requires invariant-loop decreases-loop
 plus-requires c κs = added c.before.before
 
-mul-out : tie.Need-overflow-mul-out invariant-loop decreases-loop
+mul-out : tie.Need-offset_bounds-out-j invariant-loop decreases-loop
 mul-out c = omega (arith, room c.before.before.before)
 
-slice-set-from-out : tie.Need-slice-set-from-out invariant-loop decreases-loop
+slice-set-from-out : tie.Need-bounds-out-j invariant-loop decreases-loop
 slice-set-from-out c = omega (arith, room c.before.before.before)
 
-mul-minus : tie.Need-overflow-mul-minus invariant-loop decreases-loop
+mul-minus : tie.Need-offset_bounds-e-j-in-loop-j invariant-loop decreases-loop
 mul-minus c = omega (arith, in-evens c.before.before.before)
 
-shared-slice-copy-out-minus : tie.Need-shared-slice-copy-out-minus invariant-loop decreases-loop
+shared-slice-copy-out-minus : tie.Need-bounds-e-j-in-loop-j invariant-loop decreases-loop
 shared-slice-copy-out-minus c = in-evens c.before.before.before
 
-mul-minus-2 : tie.Need-overflow-mul-minus-2 invariant-loop decreases-loop
+mul-minus-2 : tie.Need-offset_bounds-o-j-in-loop-j invariant-loop decreases-loop
 mul-minus-2 c = omega (arith, in-odds c.before.before.before.before)
 
-shared-slice-copy-out-minus-2 : tie.Need-shared-slice-copy-out-minus-2 invariant-loop decreases-loop
+shared-slice-copy-out-minus-2 : tie.Need-bounds-o-j-in-loop-j invariant-loop decreases-loop
 shared-slice-copy-out-minus-2 c = in-odds c.before.before.before.before
 
 minus-requires : tie.Need-minus-requires invariant-loop decreases-loop
 minus-requires c κs = added c.before.before.before.before.before
 
-add-t10 : tie.Need-overflow-add-t10 invariant-loop decreases-loop
+add-t10 : tie.Need-overflow_add-h invariant-loop decreases-loop
 add-t10 c = omega (arith, room c.before.before.before.before.before.before)
 
-sub-t20 : tie.Need-overflow-sub-t20 invariant-loop decreases-loop
+sub-t20 : tie.Need-overflow_sub-h invariant-loop decreases-loop
 sub-t20 c = omega (arith, room c.before.before.before.before.before.before)
 
-sub-t21 : tie.Need-overflow-sub-t21 invariant-loop decreases-loop
+sub-t21 : tie.Need-overflow_sub-h-in-loop-j invariant-loop decreases-loop
 sub-t21 c = omega (arith, room c.before.before.before.before.before.before)
 
-mul-t22 : tie.Need-overflow-mul-t22 invariant-loop decreases-loop
+mul-t22 : tie.Need-offset_bounds-out-h invariant-loop decreases-loop
 mul-t22 c = omega (arith, room c.before.before.before.before.before.before)
 
-slice-set-from-out-2 : tie.Need-slice-set-from-out-2 invariant-loop decreases-loop
+slice-set-from-out-2 : tie.Need-bounds-out-h invariant-loop decreases-loop
 slice-set-from-out-2 c =
     let I = c.before.before.before.before.before.before in
-    omega (arith, room I, length-set I.before.loop.out (j I) (to_z w32 (of_z w32 c.before.before.before.plus.result)))
+    omega (arith, room I, length-set I.before.loop-j.out (j I) (to_z w32 (of_z w32 c.before.before.before.plus.result)))
 
-add-j : tie.Need-overflow-add-j invariant-loop decreases-loop
+add-j : tie.Need-overflow_add-j invariant-loop decreases-loop
 add-j c = search rules
 
-loop-less : tie.Need-loop-smaller invariant-loop decreases-loop
+loop-less : tie.Need-loop-j-smaller invariant-loop decreases-loop
 loop-less c = search rules
 
-loop-again : tie.Need-loop-preserved invariant-loop decreases-loop
+loop-again : tie.Need-loop-j-preserved invariant-loop decreases-loop
 loop-again c =
     let P = c.before.before.before in
     let I = P.before.before.before in
-    let p = I.before.loop.invariant in (
+    let p = I.before.loop-j.invariant in (
       omega arith,
       (
         omega arith,
@@ -137,14 +137,14 @@ loop-again c =
       ),
     )
 
-same_length : tie.Need-same-length invariant-loop decreases-loop
-same_length c = c.before.loop.invariant.1.1.long
+same_length : tie.Need-shape_of-out invariant-loop decreases-loop
+same_length c = c.before.loop-j.invariant.1.1.long
 
 returns : tie.Need-returns invariant-loop decreases-loop
-returns c = ends-to _ (omega (arith, c.loop-test.false)) c.before.loop.invariant.1.1
+returns c = ends-to _ (omega (arith, c.loop-j-test.false)) c.before.loop-j.invariant.1.1
 
-pub butterfly-spec : {M : Type 1} → statement M
-butterfly-spec =
+pub butterfly_spec : {M : Type 1} → statement M
+butterfly_spec =
     tie.close
     (tie.spec
     invariant-loop

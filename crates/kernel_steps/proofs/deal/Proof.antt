@@ -12,60 +12,60 @@ use Rattle.kernel_steps.proofs.Writing.{wrote_none, wrote_at, wrote-to}
 use Rattle.kernel_steps.proofs.deal.Statement.{statement}
 use Rattle.kernel_steps.proofs.deal.Tie as tie
 
-abbrev invariant-loop : tie.invariant-loop
+abbrev invariant-loop : tie.invariant-loop-i
 invariant-loop x from step n a₀ i₀ a i = (i ≤ n) × WroteFrom 0 i a a₀ (λ i. at x (from + i * step))
 
-abbrev decreases-loop : tie.decreases-loop
+abbrev decreases-loop : tie.decreases-loop-i
 decreases-loop x from step n a₀ i₀ a i = n - i
 
-here : (c : tie.In-loop invariant-loop decreases-loop) → let s = c.before.before.args in s.from + c.before.loop.i * s.step < length s.x.now
-here c = c.before.before.requires.1 c.before.loop.i c.loop-test.true
+here : (c : tie.In-loop-i invariant-loop decreases-loop) → let s = c.before.before.args in s.from + c.before.loop-i.i * s.step < length s.x.now
+here c = c.before.before.requires.1 c.before.loop-i.i c.loop-i-test.true
 
-room : (c : tie.In-loop invariant-loop decreases-loop) → c.before.loop.i < length c.before.before.args.a.now
+room : (c : tie.In-loop-i invariant-loop decreases-loop) → c.before.loop-i.i < length c.before.before.args.a.now
 room c = omega (arith, c.before.before.requires.0)
 
-loop-holds : tie.Need-loop-init invariant-loop decreases-loop
+loop-holds : tie.Need-loop-i-init invariant-loop decreases-loop
 loop-holds c = (omega arith, wrote_none 0 _ _)
 
-mul-a : tie.Need-overflow-mul-a invariant-loop decreases-loop
+mul-a : tie.Need-overflow_mul-a invariant-loop decreases-loop
 mul-a c = omega (arith, here c)
 
-add_a : tie.Need-overflow-add-a invariant-loop decreases-loop
+add_a : tie.Need-overflow_add-a invariant-loop decreases-loop
 add_a c = omega (arith, here c)
 
-mul-a-2 : tie.Need-overflow-mul-a-2 invariant-loop decreases-loop
+mul-a-2 : tie.Need-offset_bounds-x-from invariant-loop decreases-loop
 mul-a-2 c = omega (arith, here c)
 
-shared-slice-copy-out-a : tie.Need-shared-slice-copy-out-a invariant-loop decreases-loop
+shared-slice-copy-out-a : tie.Need-bounds-x-from invariant-loop decreases-loop
 shared-slice-copy-out-a c = here c
 
-mul-t13 : tie.Need-overflow-mul-t13 invariant-loop decreases-loop
-mul-t13 c = omega (arith, room c.before, c.before.before.loop.invariant.1.long)
+mul-t13 : tie.Need-offset_bounds-a-i invariant-loop decreases-loop
+mul-t13 c = omega (arith, room c.before, c.before.before.loop-i.invariant.1.long)
 
-slice-set-from-a : tie.Need-slice-set-from-a invariant-loop decreases-loop
-slice-set-from-a c = omega (arith, room c.before, c.before.before.loop.invariant.1.long)
+slice-set-from-a : tie.Need-bounds-a-i invariant-loop decreases-loop
+slice-set-from-a c = omega (arith, room c.before, c.before.before.loop-i.invariant.1.long)
 
-add-i : tie.Need-overflow-add-i invariant-loop decreases-loop
+add-i : tie.Need-overflow_add-i invariant-loop decreases-loop
 add-i c = search rules
 
-loop-less : tie.Need-loop-smaller invariant-loop decreases-loop
+loop-less : tie.Need-loop-i-smaller invariant-loop decreases-loop
 loop-less c = search rules
 
-loop-again : tie.Need-loop-preserved invariant-loop decreases-loop
+loop-again : tie.Need-loop-i-preserved invariant-loop decreases-loop
 loop-again c =
     let I = c.before in
     let s = I.before.before.args in
-    let z = at s.x.now (s.from + I.before.loop.i * s.step) in
-    (omega arith, wrote_at _ _ _ (omega arith) refl (omega (arith, room I)) I.before.loop.invariant.1 (to_z-of_z w16 z (record { sfits = c.a.given })))
+    let z = at s.x.now (s.from + I.before.loop-i.i * s.step) in
+    (omega arith, wrote_at _ _ _ (omega arith) refl (omega (arith, room I)) I.before.loop-i.invariant.1 (to_z-of_z w16 z (record { sfits = c.a-1.given })))
 
-same_length : tie.Need-same-length invariant-loop decreases-loop
-same_length c = c.before.loop.invariant.1.long
+same_length : tie.Need-shape_of-a invariant-loop decreases-loop
+same_length c = c.before.loop-i.invariant.1.long
 
 returns : tie.Need-returns invariant-loop decreases-loop
-returns c = wrote-to _ (omega (arith, c.loop-test.false)) c.before.loop.invariant.1
+returns c = wrote-to _ (omega (arith, c.loop-i-test.false)) c.before.loop-i.invariant.1
 
-pub deal-spec : {M : Type 1} → statement M
-deal-spec =
+pub deal_spec : {M : Type 1} → statement M
+deal_spec =
     tie.close
     (tie.spec
     invariant-loop

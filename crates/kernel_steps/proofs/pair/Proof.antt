@@ -10,25 +10,25 @@ first c = mul (cast w32 (arg {w = w16} c.ranges.a) tt) (cast w32 (arg {w = w16} 
 abbrev second : tie.Start → MV w32
 second c = mul (cast w32 (arg {w = w16} c.ranges.b) tt) (cast w32 (arg {w = w16} c.ranges.w) tt) tt
 
-cast-result : tie.Need-overflow-cast-result
+cast-result : tie.Need-overflow_cast-result
 cast-result c = cast_fits w32 (arg {w = w16} c.ranges.a) tt
 
-cast-result-2 : tie.Need-overflow-cast-result-2
+cast-result-2 : tie.Need-overflow_cast-result-2
 cast-result-2 c = cast_fits w32 (arg {w = w16} c.ranges.v) tt
 
-mul-result : tie.Need-overflow-mul-result
+mul-result : tie.Need-overflow_mul-result
 mul-result c = mul-fits (cast w32 (arg {w = w16} c.ranges.a) tt) (cast w32 (arg {w = w16} c.ranges.v) tt) tt
 
-cast-result-3 : tie.Need-overflow-cast-result-3
+cast-result-3 : tie.Need-overflow_cast-result-3
 cast-result-3 c = cast_fits w32 (arg {w = w16} c.ranges.b) tt
 
-cast-result-4 : tie.Need-overflow-cast-result-4
+cast-result-4 : tie.Need-overflow_cast-result-4
 cast-result-4 c = cast_fits w32 (arg {w = w16} c.ranges.w) tt
 
-mul-result-2 : tie.Need-overflow-mul-result-2
+mul-result-2 : tie.Need-overflow_mul-result-2
 mul-result-2 c = mul-fits (cast w32 (arg {w = w16} c.ranges.b) tt) (cast w32 (arg {w = w16} c.ranges.w) tt) tt
 
-add-result : tie.Need-overflow-add-result
+add-result : tie.Need-overflow_add-result
 add-result c = add-fits (sized (first c) c.requires.0) (sized (second c) c.requires.1) tt
 
 returns : tie.Need-returns

@@ -15,15 +15,15 @@ use Rattle.kernel_steps.proofs.Writing.{wrote_none, wrote_at, wrote-to}
 use Rattle.kernel_steps.proofs.put.Statement.{statement}
 use Rattle.kernel_steps.proofs.put.Tie as tie
 
-abbrev invariant-loop : tie.invariant-loop
+abbrev invariant-loop : tie.invariant-loop-j
 invariant-loop y from n o m₀ j₀ m j = (j ≤ n) × WroteFrom o j m m₀ (λ j. clip short_range (floor 7 (at y (from + j))))
 
-abbrev decreases-loop : tie.decreases-loop
+abbrev decreases-loop : tie.decreases-loop-j
 decreases-loop y from n o m₀ j₀ m j = n - j
 
-module _ (c : tie.In-loop invariant-loop decreases-loop) where
+module _ (c : tie.In-loop-j invariant-loop decreases-loop) where
   abbrev j : ℕ
-  j = c.before.loop.j
+  j = c.before.loop-j.j
 
   abbrev y : ℤ
   y = at c.before.before.args.y.now (c.before.before.args.from + j)
@@ -34,19 +34,19 @@ module _ (c : tie.In-loop invariant-loop decreases-loop) where
   room : c.before.before.args.o + j < length c.before.before.args.m.now
   room = omega arith
 
-  room-now : c.before.before.args.o + j < length c.before.loop.m
-  room-now = omega (arith, room, c.before.loop.invariant.1.long)
+  room-now : c.before.before.args.o + j < length c.before.loop-j.m
+  room-now = omega (arith, room, c.before.loop-j.invariant.1.long)
 
-loop-holds : tie.Need-loop-init invariant-loop decreases-loop
+loop-holds : tie.Need-loop-j-init invariant-loop decreases-loop
 loop-holds c = (omega arith, wrote_none _ _ _)
 
-add-shifted7 : tie.Need-overflow-add-shifted7 invariant-loop decreases-loop
+add-shifted7 : tie.Need-overflow_add-from invariant-loop decreases-loop
 add-shifted7 c = omega (arith, here c)
 
-mul-shifted7 : tie.Need-overflow-mul-shifted7 invariant-loop decreases-loop
+mul-shifted7 : tie.Need-offset_bounds-y-from invariant-loop decreases-loop
 mul-shifted7 c = omega (arith, here c)
 
-shared-slice-copy-out-shifted7 : tie.Need-shared-slice-copy-out-shifted7 invariant-loop decreases-loop
+shared-slice-copy-out-shifted7 : tie.Need-bounds-y-from invariant-loop decreases-loop
 shared-slice-copy-out-shifted7 c = here c
 
 shifted7-requires : tie.Need-shifted7-requires invariant-loop decreases-loop
@@ -55,36 +55,36 @@ shifted7-requires c κs = search rules
 clip16-requires : tie.Need-clip16-requires invariant-loop decreases-loop
 clip16-requires c κs = search rules
 
-add-t14 : tie.Need-overflow-add-t14 invariant-loop decreases-loop
+add-t14 : tie.Need-overflow_add-o invariant-loop decreases-loop
 add-t14 c = omega (arith, room-now c.before.before.before)
 
-mul-t15 : tie.Need-overflow-mul-t15 invariant-loop decreases-loop
+mul-t15 : tie.Need-offset_bounds-m-o invariant-loop decreases-loop
 mul-t15 c = omega (arith, room-now c.before.before.before)
 
-slice-set-from-m : tie.Need-slice-set-from-m invariant-loop decreases-loop
+slice-set-from-m : tie.Need-bounds-m-o invariant-loop decreases-loop
 slice-set-from-m c = room-now c.before.before.before
 
-add-j : tie.Need-overflow-add-j invariant-loop decreases-loop
+add-j : tie.Need-overflow_add-j invariant-loop decreases-loop
 add-j c = search rules
 
-loop-less : tie.Need-loop-smaller invariant-loop decreases-loop
+loop-less : tie.Need-loop-j-smaller invariant-loop decreases-loop
 loop-less c = search rules
 
-loop-again : tie.Need-loop-preserved invariant-loop decreases-loop
+loop-again : tie.Need-loop-j-preserved invariant-loop decreases-loop
 loop-again c =
     let S = c.before in
     let I = S.before.before in (
       omega arith,
-      wrote_at _ _ _ refl refl (room I) I.before.loop.invariant.1
+      wrote_at _ _ _ refl refl (room I) I.before.loop-j.invariant.1
           (to_z-of_z w16 c.clip16.result (search rules) ∙ c.clip16.ensures
-          ∙ ap (clip short_range) (to_z-of_z w32 S.shifted7.result (search rules) ∙ S.shifted7.ensures ∙ ap (floor 7) (to_z-of_z w32 (y I) (record { sfits = S.before.shifted7-arg.given })))),
+          ∙ ap (clip short_range) (to_z-of_z w32 S.shifted7.result (search rules) ∙ S.shifted7.ensures ∙ ap (floor 7) (to_z-of_z w32 (y I) (record { sfits = S.before.shifted7-arg-1.given })))),
     )
 
-same_length : tie.Need-same-length invariant-loop decreases-loop
-same_length c = c.before.loop.invariant.1.long
+same_length : tie.Need-shape_of-m invariant-loop decreases-loop
+same_length c = c.before.loop-j.invariant.1.long
 
 returns : tie.Need-returns invariant-loop decreases-loop
-returns c = wrote-to _ (omega (arith, c.loop-test.false)) c.before.loop.invariant.1
+returns c = wrote-to _ (omega (arith, c.loop-j-test.false)) c.before.loop-j.invariant.1
 
 pub put_spec : {M : Type 1} → statement M
 put_spec =

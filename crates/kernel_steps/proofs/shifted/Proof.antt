@@ -11,10 +11,10 @@ use mir.ValLaws.{to_z-of_z}
 use Rattle.kernel_steps.proofs.shifted.Statement.{statement}
 use Rattle.kernel_steps.proofs.shifted.Tie as tie
 
-cast-result : tie.Need-overflow-cast-result
+cast-result : tie.Need-overflow_cast-result
 cast-result c = search rules
 
-shr-result : tie.Need-overflow-shr-result
+shr-result : tie.Need-overflow_shr-result
 shr-result c = search rules
 
 returns : tie.Need-returns
@@ -22,5 +22,5 @@ returns c =
     ap (λ (z : ℤ). to_z w32 (of_z w32 (shr_z z (2 ^ c.args.shift)))) (to_z-of_z w32 c.args.v c.ranges.v)
     ∙ to_z-of_z w32 (shr_z c.args.v (2 ^ c.args.shift)) (record { sfits = lt_of_le_of_lt (mag_shr c.args.v (2 ^ c.args.shift)) c.ranges.v.sfits })
 
-pub shifted-spec : {M : Type 1} → statement M
-shifted-spec = tie.close (tie.spec cast-result shr-result returns)
+pub shifted_spec : {M : Type 1} → statement M
+shifted_spec = tie.close (tie.spec cast-result shr-result returns)

@@ -15,5 +15,5 @@ returns c =
     ap (λ (z : ℤ). to_z w32 (of_z w32 (shr_z z 128))) (to_z-of_z w32 c.args.v c.ranges.v)
     ∙ to_z-of_z w32 (shr_z c.args.v 128) (record { sfits = lt_of_le_of_lt (mag_shr c.args.v 128) c.ranges.v.sfits })
 
-pub shifted7-spec : {M : Type 1} → statement M
-shifted7-spec = tie.close (tie.spec returns)
+pub shifted7_spec : {M : Type 1} → statement M
+shifted7_spec = tie.close (tie.spec returns)

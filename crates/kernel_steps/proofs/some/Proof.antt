@@ -20,29 +20,29 @@ use Rattle.kernel_steps.proofs.Writing.{wrote_none, wrote_at, wrote-to}
 use Rattle.kernel_steps.proofs.some.Statement.{statement}
 use Rattle.kernel_steps.proofs.some.Tie as tie
 
-abbrev invariant-loop : tie.invariant-loop
+abbrev invariant-loop : tie.invariant-loop-i
 invariant-loop pairs apart a b j e out₀ i₀ out i = (j ≤ i) × ((i ≤ e) × (WroteFrom j (i - j) out out₀ (λ i. line_sum a 0 2 b apart pairs (j + i)) × ((k : ℕ) → k < i - j → nat_abs (line_sum a 0 2 b apart pairs (j + k)) ≤ sum_size)))
 
-abbrev decreases-loop : tie.decreases-loop
+abbrev decreases-loop : tie.decreases-loop-i
 decreases-loop pairs apart a b j e out₀ i₀ out i = e - i
 
-module _ (c : tie.In-loop invariant-loop decreases-loop) where
+module _ (c : tie.In-loop-i invariant-loop decreases-loop) where
   abbrev i : ℕ
-  i = c.before.loop.i
+  i = c.before.loop-i.i
 
   room : i < length c.before.before.args.out.now
   room = omega arith
 
-  room-now : i < length c.before.loop.out
-  room-now = omega (arith, room, c.before.loop.invariant.1.1.0.long)
+  room-now : i < length c.before.loop-i.out
+  room-now = omega (arith, room, c.before.loop-i.invariant.1.1.0.long)
 
   -- what the pairs of output i are given
   given : let s = c.before.before.args in WeighedPairs s.pairs s.a.now s.b.now (2 * i) s.apart
-  given = output-pairs i c.before.before.requires.0 c.loop-test.true
+  given = output-pairs i c.before.before.requires.0 c.loop-i-test.true
 
 -- the sum of the pairs is the output
 module _ (c : tie.After-total invariant-loop decreases-loop) where
-  abbrev In : tie.In-loop invariant-loop decreases-loop
+  abbrev In : tie.In-loop-i invariant-loop decreases-loop
   In = c.before.before.before.before
 
   -- its pairs
@@ -62,13 +62,13 @@ module _ (c : tie.After-total invariant-loop decreases-loop) where
   size =
       let s = In.before.before.args in
       subst (λ (z : ℤ). nat_abs z ≤ sum_size) (pairs-line s.a.now 0 2 s.b.now s.apart (i In) s.pairs)
-      (small-total terms s.pairs In.before.before.pre.0.few
+      (small-total terms s.pairs In.before.before.requires.0.few
       (λ k h. let e = c.before.before.products.ensures k h in subst (λ (z : ℤ). nat_abs z ≤ pair_size) {y = terms k} e.0 e.1))
 
-loop-holds : tie.Need-loop-init invariant-loop decreases-loop
+loop-holds : tie.Need-loop-i-init invariant-loop decreases-loop
 loop-holds c = (omega arith, (omega arith, (wrote-to _ (omega arith) (wrote_none _ _ _), λ k h. absurd (omega arith))))
 
-mul-products : tie.Need-overflow-mul-products invariant-loop decreases-loop
+mul-products : tie.Need-overflow_mul-i invariant-loop decreases-loop
 mul-products c = omega (arith, room c)
 
 products-requires : tie.Need-products-requires invariant-loop decreases-loop
@@ -77,22 +77,22 @@ products-requires c κs = (given c.before, refl)
 total-requires : tie.Need-total-requires invariant-loop decreases-loop
 total-requires c κs = (c.before.before.before.before.before.requires.0.few, λ k h. (c.before.products.ensures k h).1)
 
-mul-t12 : tie.Need-overflow-mul-t12 invariant-loop decreases-loop
+mul-t12 : tie.Need-offset_bounds-out-i invariant-loop decreases-loop
 mul-t12 c = omega (arith, room-now (In c))
 
-slice-set-from-out : tie.Need-slice-set-from-out invariant-loop decreases-loop
+slice-set-from-out : tie.Need-bounds-out-i invariant-loop decreases-loop
 slice-set-from-out c = room-now (In c)
 
-add-i : tie.Need-overflow-add-i invariant-loop decreases-loop
+add-i : tie.Need-overflow_add-i invariant-loop decreases-loop
 add-i c = omega (arith, room (In c))
 
-loop-less : tie.Need-loop-smaller invariant-loop decreases-loop
-loop-less c = omega (arith, (In c).loop-test.true)
+loop-less : tie.Need-loop-i-smaller invariant-loop decreases-loop
+loop-less c = omega (arith, (In c).loop-i-test.true)
 
-loop-again : tie.Need-loop-preserved invariant-loop decreases-loop
+loop-again : tie.Need-loop-i-preserved invariant-loop decreases-loop
 loop-again c =
     let I = In c in
-    let p = I.before.loop.inv in
+    let p = I.before.loop-i.inv in
     let j = I.before.before.args.j in
     let here : i I ≡ j + (i I - j) = omega arith in
     let more : i I + 1 - j ≡ i I - j + 1 = omega arith in (
@@ -107,18 +107,18 @@ loop-again c =
       ),
     )
 
-same_length : tie.Need-same-length invariant-loop decreases-loop
-same_length c = c.before.loop.invariant.1.1.0.long
+same_length : tie.Need-shape_of-out invariant-loop decreases-loop
+same_length c = c.before.loop-i.invariant.1.1.0.long
 
 returns : tie.Need-returns invariant-loop decreases-loop
 returns c =
-    let p = c.before.loop.invariant in
-    let e : c.before.loop.i ≡ c.before.before.args.e = omega (arith, c.loop-test.false) in
+    let p = c.before.loop-i.invariant in
+    let e : c.before.loop-i.i ≡ c.before.before.args.e = omega (arith, c.loop-i-test.false) in
     let s = c.before.before.args in
     (wrote-to _ (omega arith) p.1.1.0, λ k h. p.1.1.1 k (omega arith))
 
-pub some-spec : {M : Type 1} → statement M
-some-spec =
+pub some_spec : {M : Type 1} → statement M
+some_spec =
     tie.close
     (tie.spec
     invariant-loop

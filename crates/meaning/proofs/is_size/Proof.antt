@@ -4,21 +4,21 @@ use Rattle.meaning.specs.Shape.{is_size}
 use Rattle.meaning.proofs.is_size.Statement.{statement}
 use Rattle.meaning.proofs.is_size.Tie as tie
 
-returns : tie.Need-returns
+returns : tie.Need-returns-then-n-eq4
 unfolding is_size
-returns c = rw (eq-eqb _ _ c.if1.true)
+returns c = rw (eq-eqb _ _ c.if-n-eq4.true)
 
-returns-2 : tie.Need-returns-2
+returns-2 : tie.Need-returns-then-n-eq8
 unfolding is_size
-returns-2 c = rw (ne_eqb _ _ c.before.if1.false, eq-eqb _ _ c.if2.true)
+returns-2 c = rw (ne_eqb _ _ c.before.if-n-eq4.false, eq-eqb _ _ c.if-n-eq8.true)
 
-returns-3 : tie.Need-returns-3
+returns-3 : tie.Need-returns-then-n-eq16
 unfolding is_size
-returns-3 c = rw (ne_eqb _ _ c.before.before.if1.false, ne_eqb _ _ c.before.if2.false, eq-eqb _ _ c.if3.true)
+returns-3 c = rw (ne_eqb _ _ c.before.before.if-n-eq4.false, ne_eqb _ _ c.before.if-n-eq8.false, eq-eqb _ _ c.if-n-eq16.true)
 
-returns-4 : tie.Need-returns-4
+returns-4 : tie.Need-returns
 unfolding is_size
-returns-4 c = rw (ne_eqb _ _ c.before.before.if1.false, ne_eqb _ _ c.before.if2.false, ne_eqb _ _ c.if3.false)
+returns-4 c = rw (ne_eqb _ _ c.before.before.if-n-eq4.false, ne_eqb _ _ c.before.if-n-eq8.false, ne_eqb _ _ c.if-n-eq16.false)
 
-pub is-size-spec : {M : Type 1} → statement M
-is-size-spec = tie.close (tie.spec returns returns-2 returns-3 returns-4)
+pub is_size_spec : {M : Type 1} → statement M
+is_size_spec = tie.close (tie.spec returns returns-2 returns-3 returns-4)

@@ -6,36 +6,36 @@ use Rattle.meaning.specs.Shape.{is_size, is_kind}
 use Rattle.meaning.proofs.line_refusal.Statement.{statement}
 use Rattle.meaning.proofs.line_refusal.Tie as tie
 
-is-size-requires : tie.Need-is-size-requires
+is-size-requires : tie.Need-is_size-requires
 is-size-requires c κs = search rules
 
-returns : tie.Need-returns
+returns : tie.Need-returns-then-not-is_size
 returns c =
-    let none : not (is_size c.before.before.args.n) ≡ true = ap not (sym c.before.is-size.ensures) ∙ c.if1.true in
+    let none : is_size c.before.before.args.n ≡ false = sym c.before.is_size.ensures ∙ c.if-not-is_size.true in
     rw none
 
-is-kind-requires : tie.Need-is-kind-requires
+is-kind-requires : tie.Need-is_kind-requires
 is-kind-requires c κs = search rules
 
-returns-2 : tie.Need-returns-2
+returns-2 : tie.Need-returns-then-not-is_kind
 returns-2 c =
     let s = c.before.before.before in
-    let size : not (is_size s.before.args.n) ≡ false = ap not (sym s.is-size.ensures) ∙ c.before.before.if1.false in
-    let none : not (is_kind s.before.args.kind) ≡ true = ap not (sym c.before.is-kind.ensures) ∙ c.if2.true in
+    let size : is_size s.before.args.n ≡ true = sym s.is_size.ensures ∙ c.before.before.if-not-is_size.false in
+    let none : is_kind s.before.args.kind ≡ false = sym c.before.is_kind.ensures ∙ c.if-not-is_kind.true in
     rw (size, none)
 
-length-refusal-requires : tie.Need-length-refusal-requires
+length-refusal-requires : tie.Need-length_refusal-requires
 length-refusal-requires c κs = search rules
 
-returns-3 : tie.Need-returns-3
+returns-3 : tie.Need-returns
 returns-3 c =
     let s = c.before.before.before.before in
-    let size : not (is_size s.before.args.n) ≡ false = ap not (sym s.is-size.ensures) ∙ c.before.before.before.if1.false in
-    let kind : not (is_kind s.before.args.kind) ≡ false = ap not (sym c.before.before.is-kind.ensures) ∙ c.before.if2.false in
-    c.length-refusal.ensures ∙ rw (size, kind)
+    let size : is_size s.before.args.n ≡ true = sym s.is_size.ensures ∙ c.before.before.before.if-not-is_size.false in
+    let kind : is_kind s.before.args.kind ≡ true = sym c.before.before.is_kind.ensures ∙ c.before.if-not-is_kind.false in
+    c.length_refusal.ensures ∙ rw (size, kind)
 
-pub line-refusal-spec : {M : Type 1} → statement M
-line-refusal-spec =
+pub line_refusal_spec : {M : Type 1} → statement M
+line_refusal_spec =
     tie.close
     (tie.spec
     is-size-requires

@@ -8,16 +8,16 @@ use Rattle.meaning.proofs.most_kept.Tie as tie
 least-requires : tie.Need-least-requires
 least-requires c κs = search rules
 
-returns : tie.Need-returns
+returns : tie.Need-returns-then-kind-eq0
 unfolding most_kept
-returns c = rw (eq-eqb _ _ c.before.if1.true) c.least.ensures
+returns c = rw (eq-eqb _ _ c.before.if-kind-eq0.true) c.least.ensures
 
 least-requires-2 : tie.Need-least-requires-2
 least-requires-2 c κs = search rules
 
-returns-2 : tie.Need-returns-2
+returns-2 : tie.Need-returns
 unfolding most_kept
-returns-2 c = rw (ne_eqb _ _ c.before.if1.false) c.least2.ensures
+returns-2 c = rw (ne_eqb _ _ c.before.if-kind-eq0.false) c.least-2.ensures
 
-pub most-kept-spec : {M : Type 1} → statement M
-most-kept-spec = tie.close (tie.spec least-requires returns least-requires-2 returns-2)
+pub most_kept_spec : {M : Type 1} → statement M
+most_kept_spec = tie.close (tie.spec least-requires returns least-requires-2 returns-2)

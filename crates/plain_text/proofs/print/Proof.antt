@@ -5,17 +5,17 @@ use borrow.Author.Rules.{rules}
 use Rattle.plain_text.proofs.print.Statement.{statement}
 use Rattle.plain_text.proofs.print.Tie as tie
 
-returns : tie.Need-returns
+returns : tie.Need-returns-then-end-text
 returns c = search rules
 
-slice-aggregate-write-all : tie.Need-slice-aggregate-write-all
+slice-aggregate-write-all : tie.Need-slice_bounds-write_all-end
 slice-aggregate-write-all c = sym (length-take-le _ _ (search rules))
 
-write-all-requires : tie.Need-write-all-requires
+write-all-requires : tie.Need-write_all-requires
 write-all-requires c κs = search rules
 
-returns-2 : tie.Need-returns-2
+returns-2 : tie.Need-returns
 returns-2 c = search rules
 
-pub print-spec : {M : Type 1} → statement M
-print-spec = tie.close (tie.spec returns slice-aggregate-write-all write-all-requires returns-2)
+pub print_spec : {M : Type 1} → statement M
+print_spec = tie.close (tie.spec returns slice-aggregate-write-all write-all-requires returns-2)

@@ -6,38 +6,38 @@ use borrow.Author.Rules.{rules}
 use Rattle.plain_text.proofs.put_word.Statement.{statement}
 use Rattle.plain_text.proofs.put_word.Tie as tie
 
-abbrev invariant-loop : tie.invariant-loop
+abbrev invariant-loop : tie.invariant-loop-i
 invariant-loop word text₀ at p₀ i₀ text p i = length text ≡ length text₀
 
-abbrev decreases-loop : tie.decreases-loop
+abbrev decreases-loop : tie.decreases-loop-i
 decreases-loop word text₀ at p₀ i₀ text p i = length word - i
 
-loop-holds : tie.Need-loop-init invariant-loop decreases-loop
+loop-holds : tie.Need-loop-i-init invariant-loop decreases-loop
 loop-holds c = search rules
 
-shared-slice-read-put : tie.Need-shared-slice-read-put invariant-loop decreases-loop
+shared-slice-read-put : tie.Need-bounds-word-i invariant-loop decreases-loop
 shared-slice-read-put c = search rules
 
-put-requires : tie.Need-put-requires invariant-loop decreases-loop
+put-requires : tie.Need-put-p-requires invariant-loop decreases-loop
 put-requires c κs = search rules
 
-add-i : tie.Need-overflow-add-i invariant-loop decreases-loop
+add-i : tie.Need-overflow_add-i invariant-loop decreases-loop
 add-i c = search rules
 
-loop-less : tie.Need-loop-smaller invariant-loop decreases-loop
+loop-less : tie.Need-loop-i-smaller invariant-loop decreases-loop
 loop-less c = search rules
 
-loop-again : tie.Need-loop-preserved invariant-loop decreases-loop
+loop-again : tie.Need-loop-i-preserved invariant-loop decreases-loop
 loop-again c = search rules
 
-same_length : tie.Need-same-length invariant-loop decreases-loop
+same_length : tie.Need-shape_of-text invariant-loop decreases-loop
 same_length c = search rules
 
 returns : tie.Need-returns invariant-loop decreases-loop
 returns c = search rules
 
-pub put-word-spec : {M : Type 1} → statement M
-put-word-spec =
+pub put_word_spec : {M : Type 1} → statement M
+put_word_spec =
     tie.close
     (tie.spec
     invariant-loop

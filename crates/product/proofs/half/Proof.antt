@@ -16,13 +16,13 @@ use Rattle.product.proofs.half.Tie as tie
 small : (c : tie.Start) → 2 ^ (c.args.shift - 1) ≤ 524288
 small c = pow_mono {j = 19} (omega arith)
 
-sub-result : tie.Need-overflow-sub-result
+sub-result : tie.Need-overflow_sub-result
 sub-result c = search rules
 
-cast-result : tie.Need-overflow-cast-result
+cast-result : tie.Need-overflow_cast-result
 cast-result c = search rules
 
-shl-result : tie.Need-overflow-shl-result
+shl-result : tie.Need-overflow_shl-result
 shl-result c = search rules
 
 returns : tie.Need-returns

@@ -5,17 +5,17 @@ use Rattle.algebra.proofs.Machine.{arg≤, add, shr, add-fits, val}
 use Rattle.product.proofs.round.Statement.{statement}
 use Rattle.product.proofs.round.Tie as tie
 
-add-result : tie.Need-overflow-add-result
+add-result : tie.Need-overflow_add-result
 add-result c = add-fits (arg≤ c.ranges.z c.requires.0) (arg≤ c.ranges.half c.requires.1.small) tt
 
-cast-result : tie.Need-overflow-cast-result
+cast-result : tie.Need-overflow_cast-result
 cast-result c = search rules
 
-shr-result : tie.Need-overflow-shr-result
+shr-result : tie.Need-overflow_shr-result
 shr-result c = search rules
 
 returns : tie.Need-returns
 returns c = val (shr (add (arg≤ c.ranges.z c.requires.0) (arg≤ c.ranges.half c.requires.1.small) tt) (2 ^ c.args.shift) tt)
 
-pub round-spec : {M : Type 1} → statement M
-round-spec = tie.close (tie.spec add-result cast-result shr-result returns)
+pub round_spec : {M : Type 1} → statement M
+round_spec = tie.close (tie.spec add-result cast-result shr-result returns)

@@ -12,58 +12,58 @@ use Rattle.algebra.proofs.Lists.{Filled, fill_none, fill-first}
 use Rattle.stage_weights.proofs.front.Statement.{statement}
 use Rattle.stage_weights.proofs.front.Tie as tie
 
-abbrev invariant-loop : tie.invariant-loop
+abbrev invariant-loop : tie.invariant-loop-k
 invariant-loop t most u₀ k₀ u k = (k ≤ most) × Filled 0 k u u₀ (at t)
 
-abbrev decreases-loop : tie.decreases-loop
+abbrev decreases-loop : tie.decreases-loop-k
 decreases-loop t most u₀ k₀ u k = most - k
 
-long : (c : tie.At-loop invariant-loop decreases-loop) → length c.loop.u ≡ length c.before.args.u.now
-long c = c.loop.invariant.1.long
+long : (c : tie.At-loop-k invariant-loop decreases-loop) → length c.loop-k.u ≡ length c.before.args.u.now
+long c = c.loop-k.invariant.1.long
 
-loop-holds : tie.Need-loop-init invariant-loop decreases-loop
+loop-holds : tie.Need-loop-k-init invariant-loop decreases-loop
 loop-holds c = (omega arith, fill_none 0 _ _)
 
-mul-u : tie.Need-overflow-mul-u invariant-loop decreases-loop
-mul-u c = omega (arith, c.before.before.requires, c.loop-test.true)
+mul-u : tie.Need-offset_bounds-t-k invariant-loop decreases-loop
+mul-u c = omega (arith, c.before.before.requires, c.loop-k-test.true)
 
-shared-slice-copy-out-u : tie.Need-shared-slice-copy-out-u invariant-loop decreases-loop
-shared-slice-copy-out-u c = omega (arith, c.before.before.requires, c.loop-test.true)
+shared-slice-copy-out-u : tie.Need-bounds-t-k invariant-loop decreases-loop
+shared-slice-copy-out-u c = omega (arith, c.before.before.requires, c.loop-k-test.true)
 
-mul-t9 : tie.Need-overflow-mul-t9 invariant-loop decreases-loop
-mul-t9 c = omega (arith, long c.before.before, c.before.before.before.requires, c.before.loop-test.true)
+mul-t9 : tie.Need-offset_bounds-u-k invariant-loop decreases-loop
+mul-t9 c = omega (arith, long c.before.before, c.before.before.before.requires, c.before.loop-k-test.true)
 
-slice-set-from-u : tie.Need-slice-set-from-u invariant-loop decreases-loop
-slice-set-from-u c = omega (arith, long c.before.before, c.before.before.before.requires, c.before.loop-test.true)
+slice-set-from-u : tie.Need-bounds-u-k invariant-loop decreases-loop
+slice-set-from-u c = omega (arith, long c.before.before, c.before.before.before.requires, c.before.loop-k-test.true)
 
-add-k : tie.Need-overflow-add-k invariant-loop decreases-loop
+add-k : tie.Need-overflow_add-k invariant-loop decreases-loop
 add-k c = search rules
 
-loop-less : tie.Need-loop-smaller invariant-loop decreases-loop
+loop-less : tie.Need-loop-k-smaller invariant-loop decreases-loop
 loop-less c = search rules
 
-loop-again : tie.Need-loop-preserved invariant-loop decreases-loop
+loop-again : tie.Need-loop-k-preserved invariant-loop decreases-loop
 loop-again c =
     let I = c.before in
     let L = I.before in (
       omega arith,
-      fill-first _ (omega (arith, L.before.requires, I.loop-test.true)) L.loop.invariant.1
-          (to_z-of_z w16 (at L.before.args.t.now L.loop.k) (record { sfits = c.u.given })),
+      fill-first _ (omega (arith, L.before.requires, I.loop-k-test.true)) L.loop-k.invariant.1
+          (to_z-of_z w16 (at L.before.args.t.now L.loop-k.k) (record { sfits = c.u-1.given })),
     )
 
-same_length : tie.Need-same-length invariant-loop decreases-loop
+same_length : tie.Need-shape_of-u invariant-loop decreases-loop
 same_length c = long c.before
 
 returns : tie.Need-returns invariant-loop decreases-loop
 returns c =
     let L = c.before in
     record {
-      long = L.loop.invariant.1.long;
-      same = λ k h g. ap (at L.loop.u) (sym (zero-add k)) ∙ L.loop.invariant.1.done k (omega (arith, L.before.requires, c.loop-test.false));
+      long = L.loop-k.invariant.1.long;
+      same = λ k h g. ap (at L.loop-k.u) (sym (zero-add k)) ∙ L.loop-k.invariant.1.done k (omega (arith, L.before.requires, c.loop-k-test.false));
     }
 
-pub front-spec : {M : Type 1} → statement M
-front-spec =
+pub front_spec : {M : Type 1} → statement M
+front_spec =
     tie.close
     (tie.spec
     invariant-loop

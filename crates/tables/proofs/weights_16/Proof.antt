@@ -9,5 +9,5 @@ returns : tie.Need-returns
 unfolding S fold first
 returns c = stored 16 _ refl tt
 
-pub weights-16-spec : {M : Type 1} → statement M
-weights-16-spec = tie.close (tie.spec returns)
+pub weights_16_spec : {M : Type 1} → statement M
+weights_16_spec = tie.close (tie.spec returns)

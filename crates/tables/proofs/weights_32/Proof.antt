@@ -9,5 +9,5 @@ returns : tie.Need-returns
 unfolding S fold first
 returns c = stored 32 _ refl tt
 
-pub weights-32-spec : {M : Type 1} → statement M
-weights-32-spec = tie.close (tie.spec returns)
+pub weights_32_spec : {M : Type 1} → statement M
+weights_32_spec = tie.close (tie.spec returns)

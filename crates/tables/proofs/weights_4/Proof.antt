@@ -9,5 +9,5 @@ returns : tie.Need-returns
 unfolding S fold first
 returns c = stored 4 _ refl tt
 
-pub weights-4-spec : {M : Type 1} → statement M
-weights-4-spec = tie.close (tie.spec returns)
+pub weights_4_spec : {M : Type 1} → statement M
+weights_4_spec = tie.close (tie.spec returns)

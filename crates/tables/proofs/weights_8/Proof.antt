@@ -9,5 +9,5 @@ returns : tie.Need-returns
 unfolding S fold first
 returns c = stored 8 _ refl tt
 
-pub weights-8-spec : {M : Type 1} → statement M
-weights-8-spec = tie.close (tie.spec returns)
+pub weights_8_spec : {M : Type 1} → statement M
+weights_8_spec = tie.close (tie.spec returns)

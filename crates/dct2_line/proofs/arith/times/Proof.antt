@@ -10,17 +10,17 @@ weight c = cast w32 (arg≤ {w = w16} c.ranges.w c.requires.1.0) tt
 abbrev input : tie.Start → MV w32
 input c = arg≤ c.ranges.v c.requires.1.1
 
-cast-result : tie.Need-overflow-cast-result
+cast-result : tie.Need-overflow_cast-result
 cast-result c = cast_fits w32 (arg≤ {w = w16} c.ranges.w c.requires.1.0) tt
 
-mul-result : tie.Need-overflow-mul-result
+mul-result : tie.Need-overflow_mul-result
 mul-result c = mul-fits (weight c) (input c) tt
 
-add-result : tie.Need-overflow-add-result
+add-result : tie.Need-overflow_add-result
 add-result c = add-fits (arg≤ c.ranges.a c.requires.0) (mul (weight c) (input c) tt) tt
 
 returns : tie.Need-returns
 returns c = val (add (arg≤ c.ranges.a c.requires.0) (mul (weight c) (input c) tt) tt)
 
-pub times-spec : {M : Type 1} → statement M
-times-spec = tie.close (tie.spec cast-result mul-result add-result returns)
+pub times_spec : {M : Type 1} → statement M
+times_spec = tie.close (tie.spec cast-result mul-result add-result returns)

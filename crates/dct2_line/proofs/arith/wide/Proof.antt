@@ -4,7 +4,7 @@ use Rattle.algebra.proofs.Machine.{arg, cast, cast_fits, val}
 use Rattle.dct2_line.proofs.arith.wide.Statement.{statement}
 use Rattle.dct2_line.proofs.arith.wide.Tie as tie
 
-cast-result : tie.Need-overflow-cast-result
+cast-result : tie.Need-overflow_cast-result
 cast-result c = cast_fits w32 (arg {w = w16} c.ranges.v) tt
 
 returns : tie.Need-returns

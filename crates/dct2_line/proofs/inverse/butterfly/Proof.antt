@@ -15,19 +15,19 @@ use Rattle.dct2_line.proofs.Joining.{join-none, join-next}
 use Rattle.dct2_line.proofs.inverse.butterfly.Statement.{statement}
 use Rattle.dct2_line.proofs.inverse.butterfly.Tie as tie
 
-abbrev invariant-loop : tie.invariant-loop
+abbrev invariant-loop : tie.invariant-loop-j
 invariant-loop e o h out₀ j₀ out j = (j ≤ h) × Joined j h e o out
 
-abbrev decreases-loop : tie.decreases-loop
+abbrev decreases-loop : tie.decreases-loop-j
 decreases-loop e o h out₀ j₀ out j = h - j
 
 -- the two sums as they are read
-module _ (c : tie.In-loop invariant-loop decreases-loop) where
+module _ (c : tie.In-loop-j invariant-loop decreases-loop) where
   abbrev h : ℕ
   h = c.before.before.args.h
 
   abbrev j : ℕ
-  j = c.before.loop.j
+  j = c.before.loop-j.j
 
   abbrev e : ℤ
   e = at c.before.before.args.e.now j
@@ -36,13 +36,13 @@ module _ (c : tie.In-loop invariant-loop decreases-loop) where
   o = at c.before.before.args.o.now j
 
   here : j < h
-  here = c.loop-test.true
+  here = c.loop-j-test.true
 
   few : h ≤ 16
   few = c.before.before.requires.0.few
 
-  long : length c.before.loop.out ≡ h + h
-  long = c.before.loop.invariant.1.long
+  long : length c.before.loop-j.out ≡ h + h
+  long = c.before.loop-j.invariant.1.long
 
   even-size : nat_abs e ≤ 1000000000
   even-size = c.before.before.requires.0.even j here
@@ -62,89 +62,89 @@ module _ (c : tie.In-loop invariant-loop decreases-loop) where
     subst (λ (z : ℤ). nat_abs z ≤ 1000000000) (sym reads-odd) odd-size,
   )
 
-loop-holds : tie.Need-loop-init invariant-loop decreases-loop
+loop-holds : tie.Need-loop-j-init invariant-loop decreases-loop
 loop-holds c = (omega arith, join-none c.requires.1)
 
-mul-plus : tie.Need-overflow-mul-plus invariant-loop decreases-loop
+mul-plus : tie.Need-offset_bounds-e-j invariant-loop decreases-loop
 mul-plus c = search rules
 
-shared-slice-copy-out-plus : tie.Need-shared-slice-copy-out-plus invariant-loop decreases-loop
+shared-slice-copy-out-plus : tie.Need-bounds-e-j invariant-loop decreases-loop
 shared-slice-copy-out-plus c = search rules
 
-mul-plus-2 : tie.Need-overflow-mul-plus-2 invariant-loop decreases-loop
+mul-plus-2 : tie.Need-offset_bounds-o-j invariant-loop decreases-loop
 mul-plus-2 c = search rules
 
-shared-slice-copy-out-plus-2 : tie.Need-shared-slice-copy-out-plus-2 invariant-loop decreases-loop
+shared-slice-copy-out-plus-2 : tie.Need-bounds-o-j invariant-loop decreases-loop
 shared-slice-copy-out-plus-2 c = search rules
 
 plus-requires : tie.Need-plus-requires invariant-loop decreases-loop
 plus-requires c κs = added c.before.before
 
-mul-out : tie.Need-overflow-mul-out invariant-loop decreases-loop
+mul-out : tie.Need-offset_bounds-out-j invariant-loop decreases-loop
 mul-out c = search rules
 
-slice-set-from-out : tie.Need-slice-set-from-out invariant-loop decreases-loop
+slice-set-from-out : tie.Need-bounds-out-j invariant-loop decreases-loop
 slice-set-from-out c = search rules
 
-mul-minus : tie.Need-overflow-mul-minus invariant-loop decreases-loop
+mul-minus : tie.Need-offset_bounds-e-j-in-loop-j invariant-loop decreases-loop
 mul-minus c = search rules
 
-shared-slice-copy-out-minus : tie.Need-shared-slice-copy-out-minus invariant-loop decreases-loop
+shared-slice-copy-out-minus : tie.Need-bounds-e-j-in-loop-j invariant-loop decreases-loop
 shared-slice-copy-out-minus c = search rules
 
-mul-minus-2 : tie.Need-overflow-mul-minus-2 invariant-loop decreases-loop
+mul-minus-2 : tie.Need-offset_bounds-o-j-in-loop-j invariant-loop decreases-loop
 mul-minus-2 c = search rules
 
-shared-slice-copy-out-minus-2 : tie.Need-shared-slice-copy-out-minus-2 invariant-loop decreases-loop
+shared-slice-copy-out-minus-2 : tie.Need-bounds-o-j-in-loop-j invariant-loop decreases-loop
 shared-slice-copy-out-minus-2 c = search rules
 
 minus-requires : tie.Need-minus-requires invariant-loop decreases-loop
 minus-requires c κs = added c.before.before.before.before.before
 
-add-t8 : tie.Need-overflow-add-t8 invariant-loop decreases-loop
+add-t8 : tie.Need-overflow_add-h invariant-loop decreases-loop
 add-t8 c = search rules
 
-sub-t18 : tie.Need-overflow-sub-t18 invariant-loop decreases-loop
+sub-t18 : tie.Need-overflow_sub-h invariant-loop decreases-loop
 sub-t18 c = search rules
 
-sub-t19 : tie.Need-overflow-sub-t19 invariant-loop decreases-loop
+sub-t19 : tie.Need-overflow_sub-h-in-loop-j invariant-loop decreases-loop
 sub-t19 c = search rules
 
-mul-t20 : tie.Need-overflow-mul-t20 invariant-loop decreases-loop
+mul-t20 : tie.Need-offset_bounds-out-h invariant-loop decreases-loop
 mul-t20 c = search rules
 
-slice-set-from-out-2 : tie.Need-slice-set-from-out-2 invariant-loop decreases-loop
+slice-set-from-out-2 : tie.Need-bounds-out-h invariant-loop decreases-loop
 slice-set-from-out-2 c =
     let I = c.before.before.before.before.before.before in
-    omega (arith, here I, long I, length-set I.before.loop.out (j I) (to_z w32 (of_z w32 c.before.before.before.plus.result)))
+    omega (arith, here I, long I, length-set I.before.loop-j.out (j I) (to_z w32 (of_z w32 c.before.before.before.plus.result)))
 
-add-j : tie.Need-overflow-add-j invariant-loop decreases-loop
+add-j : tie.Need-overflow_add-j invariant-loop decreases-loop
 add-j c = search rules
 
-loop-less : tie.Need-loop-smaller invariant-loop decreases-loop
+loop-less : tie.Need-loop-j-smaller invariant-loop decreases-loop
 loop-less c = search rules
 
-loop-again : tie.Need-loop-preserved invariant-loop decreases-loop
+loop-again : tie.Need-loop-j-preserved invariant-loop decreases-loop
 loop-again c =
     let P = c.before.before.before in
     let I = P.before.before.before in (
       omega (arith, here I),
-      join-next _ _ (here I) I.before.loop.invariant.1 (to_z-of_z w32 P.plus.result (search rules) ∙ P.plus.ensures ∙ (λ t. reads-even I t +ℤ reads-odd I t))
+      join-next _ _ (here I) I.before.loop-j.invariant.1 (to_z-of_z w32 P.plus.result (search rules) ∙ P.plus.ensures ∙ (λ t. reads-even I t +ℤ reads-odd I t))
           (to_z-of_z w32 c.minus.result (search rules) ∙ c.minus.ensures ∙ (λ t. reads-even I t -ℤ reads-odd I t)),
     )
 
-same_length : tie.Need-same-length invariant-loop decreases-loop
+same_length : tie.Need-shape_of-out invariant-loop decreases-loop
 same_length c = search rules
 
 returns : tie.Need-returns invariant-loop decreases-loop
 returns c =
     let L = c.before in
     let s = L.before.args in
-    let q : L.loop.j ≡ s.h = omega (arith, c.loop-test.false, L.loop.invariant.0) in
-    subst (λ (m : ℕ). Joined m s.h s.e.now s.o.now L.loop.out) q L.loop.invariant.1
+    let q : L.loop-j.j ≡ s.h = omega (arith, c.loop-j-test.false, L.loop-j.invariant.0) in
+    subst (λ (m : ℕ). Joined m s.h s.e.now s.o.now L.loop-j.out) q L.loop-j.invariant.1
 
-pub butterfly-spec : {M : Type 1} → statement M
-butterfly-spec =
+pub butterfly_spec : {M : Type 1} → statement M
+butterfly_spec =
     tie.close
     (tie.spec
     invariant-loop

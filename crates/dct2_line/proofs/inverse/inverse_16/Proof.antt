@@ -8,48 +8,48 @@ use Rattle.dct2_line.proofs.InverseStep.{evens-in, odds-there, step_given, step}
 use Rattle.dct2_line.proofs.inverse.inverse_16.Statement.{statement}
 use Rattle.dct2_line.proofs.inverse.inverse_16.Tie as tie
 
-mul-inverse-8 : tie.Need-overflow-mul-inverse-8
+mul-inverse-8 : tie.Need-overflow_mul-apart
 mul-inverse-8 c = omega (arith, c.requires.0.there 2 (omega arith))
 
-slice-aggregate-inverse-8 : tie.Need-slice-aggregate-inverse-8
+slice-aggregate-inverse-8 : tie.Need-slice_bounds-inverse_8-end
 slice-aggregate-inverse-8 c = search rules
 
-inverse-8-requires : tie.Need-inverse-8-requires
+inverse-8-requires : tie.Need-inverse_8-requires
 inverse-8-requires c κs = (evens-in {h = 8} c.before.requires.0, refl)
 
-mul-deal : tie.Need-overflow-mul-deal
+mul-deal : tie.Need-overflow_mul-apart-2
 mul-deal c = omega (arith, c.before.before.before.requires.0.there 2 (omega arith))
 
-slice-aggregate-deal : tie.Need-slice-aggregate-deal
+slice-aggregate-deal : tie.Need-slice_bounds-deal-end
 slice-aggregate-deal c = search rules
 
 deal-requires : tie.Need-deal-requires
 deal-requires c κs = odds-there {h = 8} c.before.before.before.before.requires.0
 
-odd-16-requires : tie.Need-odd-16-requires
+odd-16-requires : tie.Need-odd_16-t-requires
 odd-16-requires c κs = search rules
 
-slice-aggregate-line : tie.Need-slice-aggregate-line
+slice-aggregate-line : tie.Need-slice_bounds-line-end
 slice-aggregate-line c = search rules
 
-slice-aggregate-line-2 : tie.Need-slice-aggregate-line-2
+slice-aggregate-line-2 : tie.Need-slice_bounds-line-end-2
 slice-aggregate-line-2 c = search rules
 
-slice-aggregate-line-3 : tie.Need-slice-aggregate-line-3
+slice-aggregate-line-3 : tie.Need-slice_bounds-line-end-3
 slice-aggregate-line-3 c = search rules
 
 -- the odd half, as it is asked for
 line-requires : tie.Need-line-requires
 line-requires c κs =
     let D = c.before.before.before.before.before in (
-      pairs-given c.before.before.before.odd-16.ensures 4 refl _ _ D.deal.ensures _ (omega arith),
+      pairs-given c.before.before.before.odd_16-t.ensures 4 refl _ _ D.deal.ensures _ (omega arith),
       record { small = omega arith; short = omega arith },
     )
 
-slice-aggregate-butterfly : tie.Need-slice-aggregate-butterfly
+slice-aggregate-butterfly : tie.Need-slice_bounds-butterfly-end
 slice-aggregate-butterfly c = search rules
 
-slice-aggregate-butterfly-2 : tie.Need-slice-aggregate-butterfly-2
+slice-aggregate-butterfly-2 : tie.Need-slice_bounds-butterfly-end-2
 slice-aggregate-butterfly-2 c = search rules
 
 butterfly-requires : tie.Need-butterfly-requires
@@ -59,9 +59,9 @@ butterfly-requires c κs =
     let D = T.before.before in
     let E = D.before.before.before in
     let S = E.before.before in
-    (step_given S.requires.0 4 refl refl E.inverse-8.ensures T.odd-16.ensures D.deal.ensures L.line.ensures, S.requires.1)
+    (step_given S.requires.0 4 refl refl E.inverse_8.ensures T.odd_16-t.ensures D.deal.ensures L.line.ensures, S.requires.1)
 
-same_length : tie.Need-same-length
+same_length : tie.Need-shape_of-out
 same_length c = search rules
 
 returns : tie.Need-returns
@@ -71,10 +71,10 @@ returns c =
     let D = T.before.before in
     let E = D.before.before.before in
     let S = E.before.before in
-    step S.requires.0 4 refl refl E.inverse-8.ensures T.odd-16.ensures D.deal.ensures L.line.ensures halves-16 c.before.butterfly.ensures
+    step S.requires.0 4 refl refl E.inverse_8.ensures T.odd_16-t.ensures D.deal.ensures L.line.ensures halves-16 c.before.butterfly.ensures
 
-pub inverse-16-spec : {M : Type 1} → statement M
-inverse-16-spec =
+pub inverse_16_spec : {M : Type 1} → statement M
+inverse_16_spec =
     tie.close
     (tie.spec
     mul-inverse-8

@@ -6,5 +6,5 @@ use Rattle.dct2_line.proofs.table.odd_16.Tie as tie
 returns : tie.Need-returns
 returns c = table-odd16
 
-pub odd-16-spec : {M : Type 1} → statement M
-odd-16-spec = tie.close (tie.spec returns)
+pub odd_16_spec : {M : Type 1} → statement M
+odd_16_spec = tie.close (tie.spec returns)

@@ -6,5 +6,5 @@ use Rattle.dct2_line.proofs.table.odd_32.Tie as tie
 returns : tie.Need-returns
 returns c = table-odd32
 
-pub odd-32-spec : {M : Type 1} → statement M
-odd-32-spec = tie.close (tie.spec returns)
+pub odd_32_spec : {M : Type 1} → statement M
+odd_32_spec = tie.close (tie.spec returns)

@@ -6,5 +6,5 @@ use Rattle.dct2_line.proofs.table.odd_8.Tie as tie
 returns : tie.Need-returns
 returns c = table-odd8
 
-pub odd-8-spec : {M : Type 1} → statement M
-odd-8-spec = tie.close (tie.spec returns)
+pub odd_8_spec : {M : Type 1} → statement M
+odd_8_spec = tie.close (tie.spec returns)

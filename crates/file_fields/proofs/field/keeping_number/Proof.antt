@@ -10,20 +10,20 @@ use Rattle.file_fields.proofs.field.keeping_number.Tie as tie
 known : (c : tie.After-refusal) → c.refusal.result ≡ shape_number c.before.before.args.shape
 known c = shape-number c.before.before.args.shape c.refusal.ensures
 
-returns : tie.Need-returns
+returns : tie.Need-returns-then-bytes-ne2
 unfolding header_number
-returns c = simp (ne_eqb _ _ c.if1.true)
+returns c = simp (ne_eqb _ _ c.if-bytes-ne2.true)
 
 refusal-requires : tie.Need-refusal-requires
 refusal-requires c κs = search rules
 
-returns-2 : tie.Need-returns-2
+returns-2 : tie.Need-returns-then-refusal-eq0
 unfolding header_number
-returns-2 c = simp (eq-eqb _ _ c.before.before.if1.false, eq-eqb _ _ (sym (known c.before) ∙ c.if2.true))
+returns-2 c = simp (eq-eqb _ _ c.before.before.if-bytes-ne2.false, eq-eqb _ _ (sym (known c.before) ∙ c.if-refusal-eq0.true))
 
-returns-3 : tie.Need-returns-3
+returns-3 : tie.Need-returns
 unfolding header_number
-returns-3 c = simp (eq-eqb _ _ c.before.before.if1.false, ne_eqb _ _ (λ p. c.if2.false (known c.before ∙ p)))
+returns-3 c = simp (eq-eqb _ _ c.before.before.if-bytes-ne2.false, ne_eqb _ _ (λ p. c.if-refusal-eq0.false (known c.before ∙ p)))
 
-pub keeping-number-spec : {M : Type 1} → statement M
-keeping-number-spec = tie.close (tie.spec returns refusal-requires returns-2 returns-3)
+pub keeping_number_spec : {M : Type 1} → statement M
+keeping_number_spec = tie.close (tie.spec returns refusal-requires returns-2 returns-3)

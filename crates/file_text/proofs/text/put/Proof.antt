@@ -4,13 +4,13 @@ use Rattle.file_text.proofs.Writing.{one}
 use Rattle.file_text.proofs.text.put.Statement.{statement}
 use Rattle.file_text.proofs.text.put.Tie as tie
 
-slice-write-out : tie.Need-slice-write-out
+slice-write-out : tie.Need-bounds-out-at
 slice-write-out c = search rules
 
-add-result : tie.Need-overflow-add-result
+add-result : tie.Need-overflow_add-result
 add-result c = search rules
 
-same_length : tie.Need-same-length
+same_length : tie.Need-shape_of-out
 same_length c = search rules
 
 returns : tie.Need-returns

@@ -14,45 +14,45 @@ use Rattle.file_text.proofs.Writing.{nothing}
 use Rattle.file_text.proofs.text.put_residuals.Statement.{statement}
 use Rattle.file_text.proofs.text.put_residuals.Tie as tie
 
-abbrev invariant-loop : tie.invariant-loop
+abbrev invariant-loop : tie.invariant-loop-i
 invariant-loop zs out₀ at p₀ i₀ out p i =
     (i ≤ length zs) × (length out ≡ length out₀) × Wrote (spaced (take i zs)) (12 * i) at out₀ out p
 
-abbrev decreases-loop : tie.decreases-loop
+abbrev decreases-loop : tie.decreases-loop-i
 decreases-loop zs out₀ at p₀ i₀ out p i = length zs - i
 
-loop-holds : tie.Need-loop-init invariant-loop decreases-loop
+loop-holds : tie.Need-loop-i-init invariant-loop decreases-loop
 loop-holds c = (search rules, refl, nothing 0 c.before.args.at c.before.args.out.now)
 
-mul-z : tie.Need-overflow-mul-z invariant-loop decreases-loop
+mul-z : tie.Need-offset_bounds-zs-i invariant-loop decreases-loop
 mul-z c = search rules
 
-shared-slice-copy-out-z : tie.Need-shared-slice-copy-out-z invariant-loop decreases-loop
+shared-slice-copy-out-z : tie.Need-bounds-zs-i invariant-loop decreases-loop
 shared-slice-copy-out-z c = search rules
 
-put-integer-requires : tie.Need-put-integer-requires invariant-loop decreases-loop
+put-integer-requires : tie.Need-put_integer-p-requires invariant-loop decreases-loop
 put-integer-requires c κs = search rules
 
-add-i : tie.Need-overflow-add-i invariant-loop decreases-loop
+add-i : tie.Need-overflow_add-i invariant-loop decreases-loop
 add-i c = search rules
 
-loop-less : tie.Need-loop-smaller invariant-loop decreases-loop
+loop-less : tie.Need-loop-i-smaller invariant-loop decreases-loop
 loop-less c = search rules
 
-loop-again : tie.Need-loop-preserved invariant-loop decreases-loop
+loop-again : tie.Need-loop-i-preserved invariant-loop decreases-loop
 loop-again c =
     let zs = c.before.before.before.before.before.before.before.before.args.zs.now in
-    let l = c.before.before.before.before.before.before.loop in
-    (search rules, search rules, wrote-more zs l.i (omega arith) (to_z-of_z w32 (get_or zs l.i (pos 0)) (record { sfits = c.before.before.before.before.z.given })) l.invariant.2 c.before.before.put-integer.ensures)
+    let l = c.before.before.before.before.before.before.loop-i in
+    (search rules, search rules, wrote-more zs l.i (omega arith) (to_z-of_z w32 (get_or zs l.i (pos 0)) (record { sfits = c.before.before.before.before.z-1.given })) l.invariant.2 c.before.before.put_integer-p.ensures)
 
-same_length : tie.Need-same-length invariant-loop decreases-loop
+same_length : tie.Need-shape_of-out invariant-loop decreases-loop
 same_length c = search rules
 
 returns : tie.Need-returns invariant-loop decreases-loop
-returns c = wrote-all c.before.before.before.args.zs.now c.before.loop.i (omega arith) c.before.loop.invariant.2
+returns c = wrote-all c.before.before.before.args.zs.now c.before.loop-i.i (omega arith) c.before.loop-i.invariant.2
 
-pub put-residuals-spec : {M : Type 1} → statement M
-put-residuals-spec =
+pub put_residuals_spec : {M : Type 1} → statement M
+put_residuals_spec =
     tie.close
     (tie.spec
     invariant-loop

@@ -13,16 +13,16 @@ use Rattle.forward_stage.proofs.place.clear_beyond.Tie as tie
 clear-requires : tie.Need-clear-requires
 clear-requires c κs = search rules
 
-same_length : tie.Need-same-length
+same_length : tie.Need-shape_of-out
 same_length c = search rules
 
-returns : tie.Need-returns
+returns : tie.Need-returns-then-kept-out
 returns c =
     let e = c.before.clear.ensures in
     (ap length e ∙ tab-length _ (λ _. pos 0), λ _ k h. ap (λ (l : List ℤ). at l k) e ∙ tab-at _ (λ _. pos 0) k h)
 
-returns-2 : tie.Need-returns-2
-returns-2 c = (refl, λ l. absurd (omega (arith, c.if1.false)))
+returns-2 : tie.Need-returns-else-kept-out
+returns-2 c = (refl, λ l. absurd (omega (arith, c.if-kept-out.false)))
 
-pub clear-beyond-spec : {M : Type 1} → statement M
-clear-beyond-spec = tie.close (tie.spec clear-requires same_length returns returns-2)
+pub clear_beyond_spec : {M : Type 1} → statement M
+clear_beyond_spec = tie.close (tie.spec clear-requires same_length returns returns-2)

@@ -3,17 +3,17 @@ use borrow.Author.Tests.{eq-eqb, ne_eqb}
 use Rattle.forward_stage.proofs.shift.log.Statement.{statement}
 use Rattle.forward_stage.proofs.shift.log.Tie as tie
 
-returns : tie.Need-returns
-returns c = rw (eq-eqb _ _ c.if1.true)
+returns : tie.Need-returns-then-n-eq4
+returns c = rw (eq-eqb _ _ c.if-n-eq4.true)
 
-returns-2 : tie.Need-returns-2
-returns-2 c = rw (ne_eqb _ _ c.before.if1.false, eq-eqb _ _ c.if2.true)
+returns-2 : tie.Need-returns-then-n-eq8
+returns-2 c = rw (ne_eqb _ _ c.before.if-n-eq4.false, eq-eqb _ _ c.if-n-eq8.true)
 
-returns-3 : tie.Need-returns-3
-returns-3 c = rw (ne_eqb _ _ c.before.before.if1.false, ne_eqb _ _ c.before.if2.false, eq-eqb _ _ c.if3.true)
+returns-3 : tie.Need-returns-then-n-eq16
+returns-3 c = rw (ne_eqb _ _ c.before.before.if-n-eq4.false, ne_eqb _ _ c.before.if-n-eq8.false, eq-eqb _ _ c.if-n-eq16.true)
 
-returns-4 : tie.Need-returns-4
-returns-4 c = rw (ne_eqb _ _ c.before.before.if1.false, ne_eqb _ _ c.before.if2.false, ne_eqb _ _ c.if3.false)
+returns-4 : tie.Need-returns-else-n-eq16
+returns-4 c = rw (ne_eqb _ _ c.before.before.if-n-eq4.false, ne_eqb _ _ c.before.if-n-eq8.false, ne_eqb _ _ c.if-n-eq16.false)
 
-pub log-spec : {M : Type 1} → statement M
-log-spec = tie.close (tie.spec returns returns-2 returns-3 returns-4)
+pub log_spec : {M : Type 1} → statement M
+log_spec = tie.close (tie.spec returns returns-2 returns-3 returns-4)

@@ -9,14 +9,14 @@ use Rattle.forward_stage.proofs.shift.row_shift.Tie as tie
 log-requires : tie.Need-log-requires
 log-requires c κs = search rules
 
-add-result : tie.Need-overflow-add-result
+add-result : tie.Need-overflow_add-result
 add-result c = omega (arith, c.before.log.ensures, log-in c.before.before.args.shape.width, depth-cases _ c.before.before.requires)
 
-sub-result : tie.Need-overflow-sub-result
+sub-result : tie.Need-overflow_sub-result
 sub-result c = omega (arith, c.before.log.ensures, log-in c.before.before.args.shape.width, depth-cases _ c.before.before.requires)
 
 returns : tie.Need-returns
 returns c = search rules
 
-pub row-shift-spec : {M : Type 1} → statement M
-row-shift-spec = tie.close (tie.spec log-requires add-result sub-result returns)
+pub row_shift_spec : {M : Type 1} → statement M
+row_shift_spec = tie.close (tie.spec log-requires add-result sub-result returns)

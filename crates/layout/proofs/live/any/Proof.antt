@@ -13,45 +13,45 @@ use Rattle.layout.proofs.Looking.{clear-more}
 use Rattle.layout.proofs.live.any.Statement.{statement}
 use Rattle.layout.proofs.live.any.Tie as tie
 
-abbrev invariant-loop : tie.invariant-loop
+abbrev invariant-loop : tie.invariant-loop-i
 invariant-loop c a b found₀ i₀ found i = (a ≤ i) × ((i ≤ b) × (found ≡ false → Clear c a i))
 
-abbrev decreases-loop : tie.decreases-loop
+abbrev decreases-loop : tie.decreases-loop-i
 decreases-loop c a b found₀ i₀ found i = b - i
 
-loop-holds : tie.Need-loop-init invariant-loop decreases-loop
+loop-holds : tie.Need-loop-i-init invariant-loop decreases-loop
 loop-holds c = (omega arith, (omega arith, λ e k h g. absurd (omega arith)))
 
-mul-if1 : tie.Need-overflow-mul-if1 invariant-loop decreases-loop
+mul-if1 : tie.Need-offset_bounds-c-i invariant-loop decreases-loop
 mul-if1 c = omega arith
 
-shared-slice-copy-out-if1 : tie.Need-shared-slice-copy-out-if1 invariant-loop decreases-loop
+shared-slice-copy-out-if1 : tie.Need-bounds-c-i invariant-loop decreases-loop
 shared-slice-copy-out-if1 c = omega arith
 
-add-i : tie.Need-overflow-add-i invariant-loop decreases-loop
+add-i : tie.Need-overflow_add-i invariant-loop decreases-loop
 add-i c = omega arith
 
-loop-less : tie.Need-loop-smaller invariant-loop decreases-loop
+loop-less : tie.Need-loop-i-smaller invariant-loop decreases-loop
 loop-less c = omega arith
 
-loop-again : tie.Need-loop-preserved invariant-loop decreases-loop
+loop-again : tie.Need-loop-i-preserved invariant-loop decreases-loop
 loop-again c =
     let L = c.before.before.before in
     let l = L.before.args.c.now in
-    let z = at l L.loop.i in
-    let v : to_z w16 (of_z w16 z) ≡ z = to_z-of_z w16 z (record { sfits = c.before.if12.given }) in (
+    let z = at l L.loop-i.i in
+    let v : to_z w16 (of_z w16 z) ≡ z = to_z-of_z w16 z (record { sfits = c.before.t9-1.given }) in (
       omega arith,
       (
         omega arith,
-        λ e. ⊎_elim (λ t. absurd (true≢false (sym t.1 ∙ e))) (λ t. clear-more l L.before.args.a L.loop.i (L.loop.invariant.1.1 (sym t.1 ∙ e)) (sym v ∙ ap (to_z w16) t.0.left)) c.if1.branch,
+        λ e. ⊎_elim (λ t. absurd (true≢false (sym t.1 ∙ e))) (λ t. clear-more l L.before.args.a L.loop-i.i (L.loop-i.invariant.1.1 (sym t.1 ∙ e)) (sym v ∙ ap (to_z w16) t.0.false)) c.if-c-i-ne0.branch,
       ),
     )
 
 returns : tie.Need-returns invariant-loop decreases-loop
 returns c f =
     let L = c.before in
-    let e : L.loop.i ≡ L.before.args.b = omega arith in
-    subst (λ (i : ℕ). Clear L.before.args.c.now L.before.args.a i) e (L.loop.invariant.1.1 f)
+    let e : L.loop-i.i ≡ L.before.args.b = omega arith in
+    subst (λ (i : ℕ). Clear L.before.args.c.now L.before.args.a i) e (L.loop-i.invariant.1.1 f)
 
 pub any_spec : {M : Type 1} → statement M
 any_spec =

@@ -13,25 +13,25 @@ use Rattle.layout.proofs.live.live_columns.Tie as tie
 small : (c : tie.Start) → c.args.w ≤ 32
 small c = size_in c.args.w c.requires.0
 
-marks-requires : tie.Need-marks-requires
+marks-requires : tie.Need-marks-seen-requires
 marks-requires c κs = (small c, c.requires.1)
 
-sub-live-rows : tie.Need-overflow-sub-live-rows
+sub-live-rows : tie.Need-slice_bounds-live_rows-count
 sub-live-rows c = search rules
 
-part-live-rows-start : tie.Need-slice-bounds-live-rows-start
+part-live-rows-start : tie.Need-slice_bounds-live_rows-start
 part-live-rows-start c = search rules
 
-part-live-rows-end : tie.Need-slice-bounds-live-rows-end
+part-live-rows-end : tie.Need-slice_bounds-live_rows-end
 part-live-rows-end c = omega (arith, small c.before.before)
 
-live-rows-requires : tie.Need-live-rows-requires
+live-rows-requires : tie.Need-live_rows-requires
 live-rows-requires c κs =
     let s = c.before.before.before in
-    (s.requires.0, part-long s.args.w c.before.before.marks.result (omega (arith, small s, c.before.before.marks.ensures.long)) ∙ sym (mul-one s.args.w))
+    (s.requires.0, part-long s.args.w c.before.before.marks-seen.result (omega (arith, small s, c.before.before.marks-seen.ensures.long)) ∙ sym (mul-one s.args.w))
 
 returns : tie.Need-returns
-returns c = columns-live c.before.before.before.marks.ensures c.live-rows.ensures
+returns c = columns-live c.before.before.before.marks-seen.ensures c.live_rows.ensures
 
-pub live-columns-spec : {M : Type 1} → statement M
-live-columns-spec = tie.close (tie.spec marks-requires sub-live-rows part-live-rows-start part-live-rows-end live-rows-requires returns)
+pub live_columns_spec : {M : Type 1} → statement M
+live_columns_spec = tie.close (tie.spec marks-requires sub-live-rows part-live-rows-start part-live-rows-end live-rows-requires returns)

@@ -5,11 +5,11 @@ use mathlib.Core.Bool.{false≢true}
 use Rattle.layout.proofs.small.is_small.Statement.{statement}
 use Rattle.layout.proofs.small.is_small.Tie as tie
 
-returns : tie.Need-returns
+returns : tie.Need-returns-then-shape-gt8
 returns c e = absurd (false≢true e)
 
-returns-2 : tie.Need-returns-2
-returns-2 c e = (omega (arith, c.before.if1.false), leb-true _ _ e)
+returns-2 : tie.Need-returns
+returns-2 c e = (omega (arith, c.before.if-shape-gt8.false), leb-true _ _ e)
 
-pub is-small-spec : {M : Type 1} → statement M
-is-small-spec = tie.close (tie.spec returns returns-2)
+pub is_small_spec : {M : Type 1} → statement M
+is_small_spec = tie.close (tie.spec returns returns-2)

@@ -13,91 +13,91 @@ use Rattle.layout.proofs.Zipping.{fill-pair, even-at, odd-at}
 use Rattle.layout.proofs.zip.zip_row.Statement.{statement}
 use Rattle.layout.proofs.zip.zip_row.Tie as tie
 
-abbrev invariant-loop : tie.invariant-loop
+abbrev invariant-loop : tie.invariant-loop-x
 invariant-loop c a w n z₀ x₀ z x = (x ≤ n) × Filled 0 (2 * x) z z₀ (zipped_at c a w)
 
-abbrev decreases-loop : tie.decreases-loop
+abbrev decreases-loop : tie.decreases-loop-x
 decreases-loop c a w n z₀ x₀ z x = n - x
 
-long : (c : tie.At-loop invariant-loop decreases-loop) → length c.loop.z ≡ 2 * c.before.args.n
-long c = c.loop.invariant.1.long ∙ c.before.requires.1.1
+long : (c : tie.At-loop-x invariant-loop decreases-loop) → length c.loop-x.z ≡ 2 * c.before.args.n
+long c = c.loop-x.invariant.1.long ∙ c.before.requires.1.1
 
-inside : (c : tie.In-loop invariant-loop decreases-loop) → let s = c.before.before.args in s.a + s.w + c.before.loop.x < length s.c.now
-inside c = omega (arith, c.loop-test.true, c.before.before.requires.1.0)
+inside : (c : tie.In-loop-x invariant-loop decreases-loop) → let s = c.before.before.args in s.a + s.w + c.before.loop-x.x < length s.c.now
+inside c = omega (arith, c.loop-x-test.true, c.before.before.requires.1.0)
 
-loop-holds : tie.Need-loop-init invariant-loop decreases-loop
+loop-holds : tie.Need-loop-x-init invariant-loop decreases-loop
 loop-holds c = (omega arith, fill_none 0 _ _)
 
-add-z : tie.Need-overflow-add-z invariant-loop decreases-loop
+add-z : tie.Need-overflow_add-z invariant-loop decreases-loop
 add-z c = omega (arith, inside c)
 
-mul-z : tie.Need-overflow-mul-z invariant-loop decreases-loop
+mul-z : tie.Need-offset_bounds-c-a invariant-loop decreases-loop
 mul-z c = omega (arith, inside c)
 
-shared-slice-copy-out-z : tie.Need-shared-slice-copy-out-z invariant-loop decreases-loop
+shared-slice-copy-out-z : tie.Need-bounds-c-a invariant-loop decreases-loop
 shared-slice-copy-out-z c = omega (arith, inside c)
 
-mul-z-2 : tie.Need-overflow-mul-z-2 invariant-loop decreases-loop
-mul-z-2 c = omega (arith, c.before.loop-test.true, long c.before.before)
+mul-z-2 : tie.Need-overflow_mul-z invariant-loop decreases-loop
+mul-z-2 c = omega (arith, c.before.loop-x-test.true, long c.before.before)
 
-mul-z-3 : tie.Need-overflow-mul-z-3 invariant-loop decreases-loop
-mul-z-3 c = omega (arith, c.before.loop-test.true, long c.before.before)
+mul-z-3 : tie.Need-offset_bounds-z-x invariant-loop decreases-loop
+mul-z-3 c = omega (arith, c.before.loop-x-test.true, long c.before.before)
 
-slice-set-from-z : tie.Need-slice-set-from-z invariant-loop decreases-loop
-slice-set-from-z c = omega (arith, c.before.loop-test.true, long c.before.before)
+slice-set-from-z : tie.Need-bounds-z-x invariant-loop decreases-loop
+slice-set-from-z c = omega (arith, c.before.loop-x-test.true, long c.before.before)
 
-add-z-2 : tie.Need-overflow-add-z-2 invariant-loop decreases-loop
+add-z-2 : tie.Need-overflow_add-z-in-loop-x invariant-loop decreases-loop
 add-z-2 c = omega (arith, inside c.before)
 
-add-z-3 : tie.Need-overflow-add-z-3 invariant-loop decreases-loop
+add-z-3 : tie.Need-overflow_add-z-in-loop-x-2 invariant-loop decreases-loop
 add-z-3 c = omega (arith, inside c.before)
 
-mul-z-4 : tie.Need-overflow-mul-z-4 invariant-loop decreases-loop
+mul-z-4 : tie.Need-offset_bounds-c-a-in-loop-x invariant-loop decreases-loop
 mul-z-4 c = omega (arith, inside c.before)
 
-shared-slice-copy-out-z-2 : tie.Need-shared-slice-copy-out-z-2 invariant-loop decreases-loop
+shared-slice-copy-out-z-2 : tie.Need-bounds-c-a-in-loop-x invariant-loop decreases-loop
 shared-slice-copy-out-z-2 c = omega (arith, inside c.before)
 
-mul-t9 : tie.Need-overflow-mul-t9 invariant-loop decreases-loop
-mul-t9 c = omega (arith, c.before.before.loop-test.true, long c.before.before.before)
+mul-t9 : tie.Need-overflow_mul-x invariant-loop decreases-loop
+mul-t9 c = omega (arith, c.before.before.loop-x-test.true, long c.before.before.before)
 
-add-t16 : tie.Need-overflow-add-t16 invariant-loop decreases-loop
-add-t16 c = omega (arith, c.before.before.loop-test.true, long c.before.before.before)
+add-t16 : tie.Need-overflow_add-x invariant-loop decreases-loop
+add-t16 c = omega (arith, c.before.before.loop-x-test.true, long c.before.before.before)
 
-mul-t17 : tie.Need-overflow-mul-t17 invariant-loop decreases-loop
-mul-t17 c = omega (arith, c.before.before.loop-test.true, long c.before.before.before)
+mul-t17 : tie.Need-offset_bounds-z-x-in-loop-x invariant-loop decreases-loop
+mul-t17 c = omega (arith, c.before.before.loop-x-test.true, long c.before.before.before)
 
-slice-set-from-z-2 : tie.Need-slice-set-from-z-2 invariant-loop decreases-loop
-slice-set-from-z-2 c = simp length-set (omega (arith, c.before.before.loop-test.true, long c.before.before.before))
+slice-set-from-z-2 : tie.Need-bounds-z-x-in-loop-x invariant-loop decreases-loop
+slice-set-from-z-2 c = simp length-set (omega (arith, c.before.before.loop-x-test.true, long c.before.before.before))
 
-add-x : tie.Need-overflow-add-x invariant-loop decreases-loop
+add-x : tie.Need-overflow_add-x-in-loop-x invariant-loop decreases-loop
 add-x c = search rules
 
-loop-less : tie.Need-loop-smaller invariant-loop decreases-loop
+loop-less : tie.Need-loop-x-smaller invariant-loop decreases-loop
 loop-less c = search rules
 
-loop-again : tie.Need-loop-preserved invariant-loop decreases-loop
+loop-again : tie.Need-loop-x-preserved invariant-loop decreases-loop
 loop-again c =
     let I = c.before.before in
     let L = I.before in
     let s = L.before.args in
     let l = s.c.now in (
       omega arith,
-      fill-pair L.loop.x _ _ (omega (arith, I.loop-test.true, L.before.requires.1.1)) L.loop.invariant.1
-          (to_z-of_z w16 (at l (s.a + L.loop.x)) (record { sfits = c.before.z.given }) ∙ ap (at l) (even-at s.a s.w L.loop.x))
-          (to_z-of_z w16 (at l (s.a + s.w + L.loop.x)) (record { sfits = c.z2.given }) ∙ ap (at l) (odd-at s.a s.w L.loop.x)),
+      fill-pair L.loop-x.x _ _ (omega (arith, I.loop-x-test.true, L.before.requires.1.1)) L.loop-x.invariant.1
+          (to_z-of_z w16 (at l (s.a + L.loop-x.x)) (record { sfits = c.before.z-1.given }) ∙ ap (at l) (even-at s.a s.w L.loop-x.x))
+          (to_z-of_z w16 (at l (s.a + s.w + L.loop-x.x)) (record { sfits = c.z-in-loop-x-1.given }) ∙ ap (at l) (odd-at s.a s.w L.loop-x.x)),
     )
 
-same_length : tie.Need-same-length invariant-loop decreases-loop
-same_length c = c.before.loop.invariant.1.long
+same_length : tie.Need-shape_of-z invariant-loop decreases-loop
+same_length c = c.before.loop-x.invariant.1.long
 
 returns : tie.Need-returns invariant-loop decreases-loop
 returns c =
     let L = c.before in
-    filled-to L.before.requires.1.1 (omega (arith, L.loop.invariant.0)) (omega (arith, c.loop-test.false)) L.loop.invariant.1
+    filled-to L.before.requires.1.1 (omega (arith, L.loop-x.invariant.0)) (omega (arith, c.loop-x-test.false)) L.loop-x.invariant.1
 
-pub zip-row-spec : {M : Type 1} → statement M
-zip-row-spec =
+pub zip_row_spec : {M : Type 1} → statement M
+zip_row_spec =
     tie.close
     (tie.spec
     invariant-loop

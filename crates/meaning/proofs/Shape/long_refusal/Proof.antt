@@ -4,20 +4,20 @@ use mathlib.Core.Path.{◌∙◌}
 use Rattle.meaning.proofs.Shape.long_refusal.Statement.{statement}
 use Rattle.meaning.proofs.Shape.long_refusal.Tie as tie
 
-is-size-requires : tie.Need-is-size-requires
+is-size-requires : tie.Need-is_size-requires
 is-size-requires c κs = search rules
 
-is-size-requires-2 : tie.Need-is-size-requires-2
+is-size-requires-2 : tie.Need-is_size-requires-2
 is-size-requires-2 c κs = search rules
 
-is-long-depth-requires : tie.Need-is-long-depth-requires
+is-long-depth-requires : tie.Need-is_long_depth-requires
 is-long-depth-requires c κs = search rules
 
-refusal-by-requires : tie.Need-refusal-by-requires
+refusal-by-requires : tie.Need-refusal_by-requires
 refusal-by-requires c κs = search rules
 
 returns : tie.Need-returns
-returns c = c.refusal-by.ensures ∙ rw (c.before.before.before.is-size.ensures, c.before.before.is-size2.ensures, c.before.is-long-depth.ensures)
+returns c = c.refusal_by.ensures ∙ rw (c.before.before.before.is_size.ensures, c.before.before.is_size-2.ensures, c.before.is_long_depth.ensures)
 
-pub long-refusal-spec : {M : Type 1} → statement M
-long-refusal-spec = tie.close (tie.spec is-size-requires is-size-requires-2 is-long-depth-requires refusal-by-requires returns)
+pub long_refusal_spec : {M : Type 1} → statement M
+long_refusal_spec = tie.close (tie.spec is-size-requires is-size-requires-2 is-long-depth-requires refusal-by-requires returns)

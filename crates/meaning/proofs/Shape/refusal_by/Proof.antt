@@ -19,46 +19,46 @@ third s = test (not (is_kind s.args.self.horizontal)) 3 ∷ test (not (is_kind s
 abbrev all : tie.Start → List Refusal
 all s = shape_tests_by s.args.width s.args.height s.args.depth s.args.self
 
-returns : tie.Need-returns
-returns c = rw c.if1.true
+returns : tie.Need-returns-then-not-width
+returns c = rw c.if-not-width.true
 
-returns-2 : tie.Need-returns-2
-returns-2 c = rw (c.before.if1.false, c.if2.true)
+returns-2 : tie.Need-returns-then-not-height
+returns-2 c = rw (c.before.if-not-width.false, c.if-not-height.true)
 
-past2 : (c : tie.Else2) → number_of (all c.before.before) ≡ number_of (third c.before.before)
-past2 c = rw (c.before.if1.false, c.if2.false)
+past2 : (c : tie.Else-not-height) → number_of (all c.before.before) ≡ number_of (third c.before.before)
+past2 c = rw (c.before.if-not-width.false, c.if-not-height.false)
 
-is-kind-requires : tie.Need-is-kind-requires
+is-kind-requires : tie.Need-is_kind-requires
 is-kind-requires c κs = search rules
 
-returns-3 : tie.Need-returns-3
-returns-3 c = sym (past2 c.before.before ∙ rw (← c.before.is-kind.ensures, c.if3.true))
+returns-3 : tie.Need-returns-then-not-is_kind
+returns-3 c = sym (past2 c.before.before ∙ rw (← c.before.is_kind.ensures, c.if-not-is_kind.true))
 
-is-kind-requires-2 : tie.Need-is-kind-requires-2
+is-kind-requires-2 : tie.Need-is_kind-requires-2
 is-kind-requires-2 c κs = search rules
 
-returns-4 : tie.Need-returns-4
+returns-4 : tie.Need-returns-then-not-is_kind-2
 returns-4 c =
-    sym (past2 c.before.before.before.before ∙ rw (← c.before.before.before.is-kind.ensures, c.before.before.if3.false, ← c.before.is-kind2.ensures, c.if4.true))
+    sym (past2 c.before.before.before.before ∙ rw (← c.before.before.before.is_kind.ensures, c.before.before.if-not-is_kind.false, ← c.before.is_kind-2.ensures, c.if-not-is_kind-2.true))
 
-past4 : (c : tie.Else4) → let s = c.before.before.before.before.before.before in number_of (all s) ≡ number_of (fifth s)
+past4 : (c : tie.Else-not-is_kind-2) → let s = c.before.before.before.before.before.before in number_of (all s) ≡ number_of (fifth s)
 past4 c =
-    past2 c.before.before.before.before ∙ rw (← c.before.before.before.is-kind.ensures, c.before.before.if3.false, ← c.before.is-kind2.ensures, c.if4.false)
+    past2 c.before.before.before.before ∙ rw (← c.before.before.before.is_kind.ensures, c.before.before.if-not-is_kind.false, ← c.before.is_kind-2.ensures, c.if-not-is_kind-2.false)
 
-returns-5 : tie.Need-returns-5
-returns-5 c = sym (past4 c.before ∙ rw c.if5.true)
+returns-5 : tie.Need-returns-then-not-depth
+returns-5 c = sym (past4 c.before ∙ rw c.if-not-depth.true)
 
 keeps-requires : tie.Need-keeps-requires
 keeps-requires c κs = search rules
 
-returns-6 : tie.Need-returns-6
-returns-6 c = sym (past4 c.before.before.before ∙ rw (c.before.before.if5.false, ← c.before.keeps.ensures, c.if6.true))
+returns-6 : tie.Need-returns-then-not-keeps
+returns-6 c = sym (past4 c.before.before.before ∙ rw (c.before.before.if-not-depth.false, ← c.before.keeps.ensures, c.if-not-keeps.true))
 
-returns-7 : tie.Need-returns-7
-returns-7 c = sym (past4 c.before.before.before ∙ rw (c.before.before.if5.false, ← c.before.keeps.ensures, c.if6.false))
+returns-7 : tie.Need-returns
+returns-7 c = sym (past4 c.before.before.before ∙ rw (c.before.before.if-not-depth.false, ← c.before.keeps.ensures, c.if-not-keeps.false))
 
-pub refusal-by-spec : {M : Type 1} → statement M
-refusal-by-spec =
+pub refusal_by_spec : {M : Type 1} → statement M
+refusal_by_spec =
     tie.close
     (tie.spec
     returns

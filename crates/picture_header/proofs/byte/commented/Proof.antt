@@ -6,5 +6,5 @@ use Rattle.picture_header.proofs.byte.commented.Tie as tie
 returns : tie.Need-returns
 returns c = search rules
 
-pub commented-spec : {M : Type 1} → statement M
-commented-spec = tie.close (tie.spec returns)
+pub commented_spec : {M : Type 1} → statement M
+commented_spec = tie.close (tie.spec returns)

@@ -3,11 +3,11 @@ use borrow.Author.Tests.{le-leb, lt-leb}
 use Rattle.picture_header.proofs.byte.is_digit.Statement.{statement}
 use Rattle.picture_header.proofs.byte.is_digit.Tie as tie
 
-returns : tie.Need-returns
-returns c = rw (lt-leb 48 _ c.if1.true)
+returns : tie.Need-returns-then-b-lt48
+returns c = rw (lt-leb 48 _ c.if-b-lt48.true)
 
-returns-2 : tie.Need-returns-2
-returns-2 c = rw (le-leb 48 _ c.if1.false)
+returns-2 : tie.Need-returns
+returns-2 c = rw (le-leb 48 _ c.if-b-lt48.false)
 
-pub is-digit-spec : {M : Type 1} → statement M
-is-digit-spec = tie.close (tie.spec returns returns-2)
+pub is_digit_spec : {M : Type 1} → statement M
+is_digit_spec = tie.close (tie.spec returns returns-2)

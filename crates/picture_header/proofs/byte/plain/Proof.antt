@@ -9,39 +9,39 @@ use Rattle.picture_header.proofs.byte.plain.Tie as tie
 commented-requires : tie.Need-commented-requires
 commented-requires c κs = search rules
 
-returns : tie.Need-returns
+returns : tie.Need-returns-then-b-eq35
 unfolding plain
-returns c = rw (eq-eqb _ 35 c.before.if1.true) c.commented.ensures
+returns c = rw (eq-eqb _ 35 c.before.if-b-eq35.true) c.commented.ensures
 
-is-space-requires : tie.Need-is-space-requires
+is-space-requires : tie.Need-is_space-requires
 is-space-requires c κs = search rules
 
 white-requires : tie.Need-white-requires
 white-requires c κs = search rules
 
-returns-2 : tie.Need-returns-2
+returns-2 : tie.Need-returns-then-is_space
 unfolding plain
-returns-2 c = rw (ne_eqb _ 35 c.before.before.before.if1.false, sym c.before.before.is-space.ensures ∙ c.before.if2.true) c.white.ensures
+returns-2 c = rw (ne_eqb _ 35 c.before.before.before.if-b-eq35.false, sym c.before.before.is_space.ensures ∙ c.before.if-is_space.true) c.white.ensures
 
-is-digit-requires : tie.Need-is-digit-requires
+is-digit-requires : tie.Need-is_digit-requires
 is-digit-requires c κs = search rules
 
 digit-requires : tie.Need-digit-requires
-digit-requires c κs = (c.before.before.before.before.before.requires, sym c.before.is_digit.ensures ∙ c.if3.true)
+digit-requires c κs = (c.before.before.before.before.before.requires, sym c.before.is_digit.ensures ∙ c.if-is_digit.true)
 
-returns-3 : tie.Need-returns-3
+returns-3 : tie.Need-returns-then-is_digit
 unfolding plain
-returns-3 c = rw (ne_eqb _ 35 c.before.before.before.before.before.if1.false, sym c.before.before.before.before.is-space.ensures ∙ c.before.before.before.if2.false, sym c.before.before.is_digit.ensures ∙ c.before.if3.true) c.digit.ensures
+returns-3 c = rw (ne_eqb _ 35 c.before.before.before.before.before.if-b-eq35.false, sym c.before.before.before.before.is_space.ensures ∙ c.before.before.before.if-is_space.false, sym c.before.before.is_digit.ensures ∙ c.before.if-is_digit.true) c.digit.ensures
 
-no-header-requires : tie.Need-no-header-requires
+no-header-requires : tie.Need-no_header-requires
 no-header-requires c κs = search rules
 
-returns-4 : tie.Need-returns-4
+returns-4 : tie.Need-returns
 unfolding plain
-returns-4 c = rw (ne_eqb _ 35 c.before.before.before.before.before.if1.false, sym c.before.before.before.before.is-space.ensures ∙ c.before.before.before.if2.false, sym c.before.before.is_digit.ensures ∙ c.before.if3.false) c.no_Header.ensures
+returns-4 c = rw (ne_eqb _ 35 c.before.before.before.before.before.if-b-eq35.false, sym c.before.before.before.before.is_space.ensures ∙ c.before.before.before.if-is_space.false, sym c.before.before.is_digit.ensures ∙ c.before.if-is_digit.false) c.no_Header.ensures
 
-pub plain-spec : {M : Type 1} → statement M
-plain-spec =
+pub plain_spec : {M : Type 1} → statement M
+plain_spec =
     tie.close
     (tie.spec
     commented-requires

@@ -6,11 +6,11 @@ use Rattle.algebra.proofs.Machine.{arg≤, lit, sub, sub-fits, val}
 use Rattle.shared_steps.proofs.arith.negated.Statement.{statement}
 use Rattle.shared_steps.proofs.arith.negated.Tie as tie
 
-sub-result : tie.Need-overflow-sub-result
+sub-result : tie.Need-overflow_sub-result
 sub-result c = sub-fits (lit w32 0) (arg≤ c.ranges.a c.requires) tt
 
 returns : tie.Need-returns
 returns c = val (sub (lit w32 0) (arg≤ c.ranges.a c.requires) tt) ∙ +ℤ_idl (neg_ℤ c.args.a)
 
-pub negated-spec : {M : Type 1} → statement M
-negated-spec = tie.close (tie.spec sub-result returns)
+pub negated_spec : {M : Type 1} → statement M
+negated_spec = tie.close (tie.spec sub-result returns)

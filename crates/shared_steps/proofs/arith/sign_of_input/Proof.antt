@@ -19,20 +19,20 @@ sized : (c : tie.Start) {z : ℤ} → z ≡ signed c.args.less c.args.input → 
 sized c e =
     (e, subst (λ (z : ℤ). nat_abs z ≤ 32768) (sym e) (omega (arith, abs-signed c.args.less c.args.input, (in-fits c.ranges.input).within)))
 
-sub-result : tie.Need-overflow-sub-result
+sub-result : tie.Need-overflow_sub-result
 sub-result c = sub-fits (lit w32 0) (input c.before) tt
 
-cast-result : tie.Need-overflow-cast-result
+cast-result : tie.Need-overflow_cast-result
 cast-result c = cast_fits w32 (arg {w = w16} c.before.ranges.input) tt
 
-cast-result-2 : tie.Need-overflow-cast-result-2
+cast-result-2 : tie.Need-overflow_cast-result-else-less
 cast-result-2 c = cast_fits w32 (arg {w = w16} c.before.ranges.input) tt
 
-returns : tie.Need-returns
-returns c = sized c.before (val (sub (lit w32 0) (input c.before) tt) ∙ +ℤ_idl (neg_ℤ c.before.args.input) ∙ rw c.if1.true)
+returns : tie.Need-returns-then-less
+returns c = sized c.before (val (sub (lit w32 0) (input c.before) tt) ∙ +ℤ_idl (neg_ℤ c.before.args.input) ∙ rw c.if-less.true)
 
-returns-2 : tie.Need-returns-2
-returns-2 c = sized c.before (val (input c.before) ∙ rw c.if1.false)
+returns-2 : tie.Need-returns-else-less
+returns-2 c = sized c.before (val (input c.before) ∙ rw c.if-less.false)
 
-pub sign-of-input-spec : {M : Type 1} → statement M
-sign-of-input-spec = tie.close (tie.spec cast-result sub-result cast-result-2 returns returns-2)
+pub sign_of_input_spec : {M : Type 1} → statement M
+sign_of_input_spec = tie.close (tie.spec cast-result sub-result cast-result-2 returns returns-2)

@@ -8,7 +8,7 @@ use Rattle.algebra.proofs.Machine.{arg, cast, cast_fits, val}
 use Rattle.shared_steps.proofs.arith.wide.Statement.{statement}
 use Rattle.shared_steps.proofs.arith.wide.Tie as tie
 
-cast-result : tie.Need-overflow-cast-result
+cast-result : tie.Need-overflow_cast-result
 cast-result c = cast_fits w32 (arg c.ranges.a) tt
 
 returns : tie.Need-returns

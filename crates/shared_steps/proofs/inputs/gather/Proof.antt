@@ -10,52 +10,52 @@ use Rattle.shared_steps.proofs.Gathering.{gather-next}
 use Rattle.shared_steps.proofs.inputs.gather.Statement.{statement}
 use Rattle.shared_steps.proofs.inputs.gather.Tie as tie
 
-abbrev invariant-loop : tie.invariant-loop
+abbrev invariant-loop : tie.invariant-loop-g
 invariant-loop x n p q class back from to t₀ g₀ t g = (g ≤ to) × Gathered n p q class (reading back n x) g t
 
-abbrev decreases-loop : tie.decreases-loop
+abbrev decreases-loop : tie.decreases-loop-g
 decreases-loop x n p q class back from to t₀ g₀ t g = to - g
 
-loop-holds : tie.Need-loop-init invariant-loop decreases-loop
+loop-holds : tie.Need-loop-g-init invariant-loop decreases-loop
 loop-holds c = (c.requires.1.0.0, c.requires.1.1)
 
-folded-input-requires : tie.Need-folded-input-requires invariant-loop decreases-loop
+folded-input-requires : tie.Need-folded_input-requires invariant-loop decreases-loop
 folded-input-requires c κs =
     let p = c.before.before.requires in
-    (p.0, (omega (arith, c.loop-test.true, p.1.0.1), p.1.1.size))
+    (p.0, (omega (arith, c.loop-g-test.true, p.1.0.1), p.1.1.size))
 
-mul-t13 : tie.Need-overflow-mul-t13 invariant-loop decreases-loop
+mul-t13 : tie.Need-offset_bounds-t-g invariant-loop decreases-loop
 mul-t13 c = search rules
 
-slice-set-from-t : tie.Need-slice-set-from-t invariant-loop decreases-loop
-slice-set-from-t c = omega (arith, c.before.loop-test.true, c.before.before.before.requires.1.0.1, c.before.before.loop.invariant.1.long)
+slice-set-from-t : tie.Need-bounds-t-g invariant-loop decreases-loop
+slice-set-from-t c = omega (arith, c.before.loop-g-test.true, c.before.before.before.requires.1.0.1, c.before.before.loop-g.invariant.1.long)
 
-add-g : tie.Need-overflow-add-g invariant-loop decreases-loop
+add-g : tie.Need-overflow_add-g invariant-loop decreases-loop
 add-g c = search rules
 
-loop-less : tie.Need-loop-smaller invariant-loop decreases-loop
-loop-less c = omega (arith, c.before.loop-test.true)
+loop-less : tie.Need-loop-g-smaller invariant-loop decreases-loop
+loop-less c = omega (arith, c.before.loop-g-test.true)
 
-loop-again : tie.Need-loop-preserved invariant-loop decreases-loop
+loop-again : tie.Need-loop-g-preserved invariant-loop decreases-loop
 loop-again c =
     let L = c.before in
-    let r = reads 425984 c.folded-input.ensures.0 c.folded-input.ensures.1 (omega arith) in (
+    let r = reads 425984 c.folded_input.ensures.0 c.folded_input.ensures.1 (omega arith) in (
       omega (arith, L.loop-test.true),
-      gather-next _ L.before.loop.invariant.1 (omega (arith, L.loop-test.true, L.before.before.requires.1.0.1)) r.is (is-small r),
+      gather-next _ L.before.loop-g.invariant.1 (omega (arith, L.loop-test.true, L.before.before.requires.1.0.1)) r.is (is-small r),
     )
 
-same_length : tie.Need-same-length invariant-loop decreases-loop
-same_length c = c.before.loop.invariant.1.long ∙ sym c.before.before.requires.1.1.long
+same_length : tie.Need-shape_of-t invariant-loop decreases-loop
+same_length c = c.before.loop-g.invariant.1.long ∙ sym c.before.before.requires.1.1.long
 
 returns : tie.Need-returns invariant-loop decreases-loop
 returns c =
     let s = c.before.before.args in
-    let L = c.before.loop in
-    let e : L.g ≡ s.to = omega (arith, L.invariant.0, c.loop-test.false) in
+    let L = c.before.loop-g in
+    let e : L.g ≡ s.to = omega (arith, L.invariant.0, c.loop-g-test.false) in
     subst (λ (k : ℕ). Gathered s.n s.p s.q s.class (reading s.back s.n s.x.now) k L.t) e L.invariant.1
 
-pub gather-spec : {M : Type 1} → statement M
-gather-spec =
+pub gather_spec : {M : Type 1} → statement M
+gather_spec =
     tie.close
     (tie.spec
     invariant-loop

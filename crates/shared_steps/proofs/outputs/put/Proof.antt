@@ -19,13 +19,13 @@ dot-requires c κs = search rules
 sign-requires : tie.Need-sign-requires
 sign-requires c κs = search rules
 
-mul-t13 : tie.Need-overflow-mul-t13
+mul-t13 : tie.Need-offset_bounds-y-i
 mul-t13 c = search rules
 
-slice-set-from-y : tie.Need-slice-set-from-y
+slice-set-from-y : tie.Need-bounds-y-i
 slice-set-from-y c = search rules
 
-same_length : tie.Need-same-length
+same_length : tie.Need-shape_of-y
 same_length c = search rules
 
 returns : tie.Need-returns

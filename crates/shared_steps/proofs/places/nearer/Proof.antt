@@ -5,17 +5,17 @@ use Prim.Native.Nat.{◌+◌}
 use Rattle.shared_steps.proofs.places.nearer.Statement.{statement}
 use Rattle.shared_steps.proofs.places.nearer.Tie as tie
 
-add-if1 : tie.Need-overflow-add-if1
+add-if1 : tie.Need-overflow_add-w
 add-if1 c = search rules
 
-sub-result : tie.Need-overflow-sub-result
+sub-result : tie.Need-overflow_sub-result
 sub-result c = search rules
 
-returns : tie.Need-returns
+returns : tie.Need-returns-then-w-q
 returns c = let s = c.before.args in rw (lt-ltb (s.w + s.w) s.q c.if1.true)
 
-returns-2 : tie.Need-returns-2
+returns-2 : tie.Need-returns-else-w-q
 returns-2 c = let s = c.before.args in rw (le-ltb (s.w + s.w) s.q c.if1.false)
 
-pub nearer-spec : {M : Type 1} → statement M
-nearer-spec = tie.close (tie.spec add-if1 sub-result returns returns-2)
+pub nearer_spec : {M : Type 1} → statement M
+nearer_spec = tie.close (tie.spec add-if1 sub-result returns returns-2)

@@ -20,10 +20,10 @@ spot c =
     let s = c.before in
     omega (arith, c.place.ensures, turned-in s.args.back s.args.n s.args.k s.requires.1, s.requires.0)
 
-mul_wide : tie.Need-overflow-mul-wide
+mul_wide : tie.Need-offset_bounds-x-place
 mul_wide c = omega (arith, spot c)
 
-shared-slice-copy-out-wide : tie.Need-shared-slice-copy-out-wide
+shared-slice-copy-out-wide : tie.Need-bounds-x-place
 shared-slice-copy-out-wide c = spot c
 
 wide-requires : tie.Need-wide-requires
@@ -33,10 +33,10 @@ returns : tie.Need-returns
 returns c =
     let s = c.before.before.before.args in
     let e = to_z-of_z w32 c.wide.result (search rules) in (
-      e ∙ c.wide.ensures.0 ∙ to_z-of_z w16 _ (record { sfits = c.before.wide-arg.given }) ∙ ap (at s.x.now) c.before.before.place.ensures,
+      e ∙ c.wide.ensures.0 ∙ to_z-of_z w16 _ (record { sfits = c.before.wide-arg-1.given }) ∙ ap (at s.x.now) c.before.before.place.ensures,
       subst (λ (z : ℤ). nat_abs z ≤ 32768) (sym e) c.wide.ensures.1,
     )
 
-pub taken-spec : {M : Type 1} → statement M
-taken-spec =
+pub taken_spec : {M : Type 1} → statement M
+taken_spec =
     tie.close (tie.spec place-requires mul_wide shared-slice-copy-out-wide wide-requires returns)

@@ -19,100 +19,100 @@ use Rattle.shared_steps.proofs.Adding.{row_done}
 use Rattle.shared_steps.proofs.sums.row.Statement.{statement}
 use Rattle.shared_steps.proofs.sums.row.Tie as tie
 
-abbrev invariant-loop : tie.invariant-loop
+abbrev invariant-loop : tie.invariant-loop-g
 invariant-loop w n i m x change a₀ v g₀ a g = (g ≤ m) × Filled 0 g a a₀ (λ k. at a₀ k +ℤ S n i k *ℤ to_z w32 v)
 
-abbrev decreases-loop : tie.decreases-loop
+abbrev decreases-loop : tie.decreases-loop-g
 decreases-loop w n i m x change a₀ v g₀ a g = m - g
 
-mul-sign-of-input : tie.Need-overflow-mul-sign-of-input invariant-loop decreases-loop
+mul-sign-of-input : tie.Need-offset_bounds-x-i invariant-loop decreases-loop
 mul-sign-of-input c = omega (arith, c.requires.0, c.requires.1.few)
 
-shared-slice-copy-out-sign-of-input : tie.Need-shared-slice-copy-out-sign-of-input invariant-loop decreases-loop
+shared-slice-copy-out-sign-of-input : tie.Need-bounds-x-i invariant-loop decreases-loop
 shared-slice-copy-out-sign-of-input c = omega (arith, c.requires.0, c.requires.1.inputs)
 
-sign-of-input-requires : tie.Need-sign-of-input-requires invariant-loop decreases-loop
+sign-of-input-requires : tie.Need-sign_of_input-v-requires invariant-loop decreases-loop
 sign-of-input-requires c κs = search rules
 
 -- the input as it is used
-value : (c : tie.After-sign-of-input invariant-loop decreases-loop) → let s = c.before.before.args in
-    (to_z w32 (of_z w32 c.sign-of-input.result) ≡ used s.change s.x.now s.i) × (nat_abs (to_z w32 (of_z w32 c.sign-of-input.result)) ≤ 32768)
+value : (c : tie.After-sign_of_input-v invariant-loop decreases-loop) → let s = c.before.before.args in
+    (to_z w32 (of_z w32 c.sign_of_input-v.result) ≡ used s.change s.x.now s.i) × (nat_abs (to_z w32 (of_z w32 c.sign_of_input-v.result)) ≤ 32768)
 value c =
     let s = c.before.before.args in
     let b = s.change && eqb (s.i % 2) 1 in
-    let h = c.sign-of-input.ensures.1 in (
-      read_back c.sign-of-input.result 32768 h (omega arith) ∙ c.sign-of-input.ensures.0
-          ∙ ap (signed b) (to_z-of_z w16 _ (record { sfits = c.before.sign-of-input-arg.given })),
-      read_small c.sign-of-input.result 32768 h (omega arith),
+    let h = c.sign_of_input-v.ensures.1 in (
+      read_back c.sign_of_input-v.result 32768 h (omega arith) ∙ c.sign_of_input-v.ensures.0
+          ∙ ap (signed b) (to_z-of_z w16 _ (record { sfits = c.before.sign_of_input-arg-1.given })),
+      read_small c.sign_of_input-v.result 32768 h (omega arith),
     )
 
 -- the sum, which the loop has not reached
-summed : (c : tie.In-loop invariant-loop decreases-loop) → let s = c.before.before.before.before in
-    (to_z w32 (of_z w32 (at c.before.loop.a c.before.loop.g)) ≡ at s.args.a.now c.before.loop.g) × (nat_abs (at s.args.a.now c.before.loop.g) ≤ 94371840)
+summed : (c : tie.In-loop-g invariant-loop decreases-loop) → let s = c.before.before.before.before in
+    (to_z w32 (of_z w32 (at c.before.loop-g.a c.before.loop-g.g)) ≡ at s.args.a.now c.before.loop-g.g) × (nat_abs (at s.args.a.now c.before.loop-g.g) ≤ 94371840)
 summed c =
     let s = c.before.before.before.before in
-    let g = c.before.loop.g in
-    let h : nat_abs (at s.args.a.now g) ≤ 94371840 = omega (arith, s.requires.1.sums.small g c.loop-test.true, s.requires.0, s.requires.1.few) in
-    (ap (λ (z : ℤ). to_z w32 (of_z w32 z)) (c.before.loop.invariant.1.after g (omega arith)) ∙ read_back (at s.args.a.now g) 94371840 h (omega arith), h)
+    let g = c.before.loop-g.g in
+    let h : nat_abs (at s.args.a.now g) ≤ 94371840 = omega (arith, s.requires.1.sums.small g c.loop-g-test.true, s.requires.0, s.requires.1.few) in
+    (ap (λ (z : ℤ). to_z w32 (of_z w32 z)) (c.before.loop-g.invariant.1.after g (omega arith)) ∙ read_back (at s.args.a.now g) 94371840 h (omega arith), h)
 
 weighs : (c : tie.After-stored invariant-loop decreases-loop) → let s = c.before.before.before.before.before.before.args in
-    to_z w32 (of_z w32 c.stored.result) ≡ S s.n s.i c.before.before.before.loop.g
+    to_z w32 (of_z w32 c.stored.result) ≡ S s.n s.i c.before.before.before.loop-g.g
 weighs c = to_z-of_z w32 c.stored.result (search rules) ∙ c.stored.ensures
 
-loop-holds : tie.Need-loop-init invariant-loop decreases-loop
+loop-holds : tie.Need-loop-g-init invariant-loop decreases-loop
 loop-holds c = (omega arith, fill_none 0 _ _)
 
-mul-mac : tie.Need-overflow-mul-mac invariant-loop decreases-loop
-mul-mac c = omega (arith, c.loop-test.true, c.before.before.before.before.requires.1.fits, c.before.before.before.before.requires.1.few)
+mul-mac : tie.Need-offset_bounds-a-g invariant-loop decreases-loop
+mul-mac c = omega (arith, c.loop-g-test.true, c.before.before.before.before.requires.1.fits, c.before.before.before.before.requires.1.few)
 
-slice-copy-out-mac : tie.Need-slice-copy-out-mac invariant-loop decreases-loop
-slice-copy-out-mac c = omega (arith, c.loop-test.true, c.before.loop.invariant.1.long, c.before.before.before.before.requires.1.sums.long)
+slice-copy-out-mac : tie.Need-slice_copy_out-mac invariant-loop decreases-loop
+slice-copy-out-mac c = omega (arith, c.loop-g-test.true, c.before.loop-g.invariant.1.long, c.before.before.before.before.requires.1.sums.long)
 
 stored-requires : tie.Need-stored-requires invariant-loop decreases-loop
 stored-requires c κs =
     let p = c.before.before.before.before.before.requires in
-    (p.0, (omega (arith, c.before.loop-test.true, p.1.fits), (p.1.few, p.1.table)))
+    (p.0, (omega (arith, c.before.loop-g-test.true, p.1.fits), (p.1.few, p.1.table)))
 
 mac-requires : tie.Need-mac-requires invariant-loop decreases-loop
 mac-requires c κs =
     let L = c.before.before in
     let s = L.before.before.before.before.args in (
       subst (λ (z : ℤ). nat_abs z ≤ 1000000000) (sym (summed L).0) (omega (arith, (summed L).1)),
-      (subst (λ (z : ℤ). nat_abs z ≤ 90) (sym (weighs c)) (S-size s.n s.i L.before.loop.g), omega (arith, (value L.before.before).1)),
+      (subst (λ (z : ℤ). nat_abs z ≤ 90) (sym (weighs c)) (S-size s.n s.i L.before.loop-g.g), omega (arith, (value L.before.before).1)),
     )
 
-mul-t22 : tie.Need-overflow-mul-t22 invariant-loop decreases-loop
-mul-t22 c = omega (arith, c.before.before.before.loop-test.true, c.before.before.before.before.before.before.before.requires.1.fits, c.before.before.before.before.before.before.before.requires.1.few)
+mul-t22 : tie.Need-offset_bounds-a-g-in-loop-g invariant-loop decreases-loop
+mul-t22 c = omega (arith, c.before.before.before.loop-g-test.true, c.before.before.before.before.before.before.before.requires.1.fits, c.before.before.before.before.before.before.before.requires.1.few)
 
-slice-set-from-a : tie.Need-slice-set-from-a invariant-loop decreases-loop
-slice-set-from-a c = omega (arith, c.before.before.before.loop-test.true, c.before.before.before.before.loop.invariant.1.long, c.before.before.before.before.before.before.before.requires.1.sums.long)
+slice-set-from-a : tie.Need-bounds-a-g invariant-loop decreases-loop
+slice-set-from-a c = omega (arith, c.before.before.before.loop-g-test.true, c.before.before.before.before.loop-g.invariant.1.long, c.before.before.before.before.before.before.before.requires.1.sums.long)
 
-add-g : tie.Need-overflow-add-g invariant-loop decreases-loop
-add-g c = omega (arith, c.before.before.before.loop-test.true, c.before.before.before.before.before.before.before.requires.1.fits, c.before.before.before.before.before.before.before.requires.1.few)
+add-g : tie.Need-overflow_add-g invariant-loop decreases-loop
+add-g c = omega (arith, c.before.before.before.loop-g-test.true, c.before.before.before.before.before.before.before.requires.1.fits, c.before.before.before.before.before.before.before.requires.1.few)
 
-loop-less : tie.Need-loop-smaller invariant-loop decreases-loop
-loop-less c = omega (arith, c.before.before.before.loop-test.true)
+loop-less : tie.Need-loop-g-smaller invariant-loop decreases-loop
+loop-less c = omega (arith, c.before.before.before.loop-g-test.true)
 
-loop-again : tie.Need-loop-preserved invariant-loop decreases-loop
+loop-again : tie.Need-loop-g-preserved invariant-loop decreases-loop
 loop-again c =
     let L = c.before.before.before in
     let s = L.before.before.before.before in
-    let v = L.before.before.sign-of-input.result in (
-      omega (arith, L.loop-test.true),
-      fill-first _ (omega (arith, L.loop-test.true, s.requires.1.sums.long)) L.before.loop.invariant.1
+    let v = L.before.before.sign_of_input-v.result in (
+      omega (arith, L.loop-g-test.true),
+      fill-first _ (omega (arith, L.loop-g-test.true, s.requires.1.sums.long)) L.before.loop-g.invariant.1
           (to_z-of_z w32 c.mac.result (search rules) ∙ c.mac.ensures ∙ (λ j. (summed L).0 j +ℤ weighs c.before j *ℤ to_z w32 (of_z w32 v))),
     )
 
-same_length : tie.Need-same-length invariant-loop decreases-loop
-same_length c = c.before.loop.invariant.1.long
+same_length : tie.Need-shape_of-a invariant-loop decreases-loop
+same_length c = c.before.loop-g.invariant.1.long
 
 returns : tie.Need-returns invariant-loop decreases-loop
 returns c =
     let s = c.before.before.before.before in
-    row_done _ s.requires.1 c.loop-test.false c.before.loop.invariant.1 (value c.before.before).0 (subst (λ (z : ℤ). nat_abs z ≤ 32768) (value c.before.before).0 (value c.before.before).1)
+    row_done _ s.requires.1 c.loop-g-test.false c.before.loop-g.invariant.1 (value c.before.before).0 (subst (λ (z : ℤ). nat_abs z ≤ 32768) (value c.before.before).0 (value c.before.before).1)
 
-pub row-spec : {M : Type 1} → statement M
-row-spec =
+pub row_spec : {M : Type 1} → statement M
+row_spec =
     tie.close
     (tie.spec
     invariant-loop

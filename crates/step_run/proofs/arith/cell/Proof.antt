@@ -11,20 +11,20 @@ use mathlib.Core.Path.{◌≡◌, ap, ◌∙◌}
 use Rattle.step_run.proofs.arith.cell.Statement.{statement}
 use Rattle.step_run.proofs.arith.cell.Tie as tie
 
-returns : tie.Need-returns
-returns c = let s = c.before in let e : lt_z s.args.x (pos 0) ≡ true = rw (to_z-of_z w32 s.args.x s.ranges.x) at c.if1.true in cell_below s.args.x e
+returns : tie.Need-returns-then-x-lt0
+returns c = let s = c.before in let e : lt_z s.args.x (pos 0) ≡ true = rw (to_z-of_z w32 s.args.x s.ranges.x) at c.if-x-lt0.true in cell_below s.args.x e
 
-cast-result : tie.Need-overflow-cast-result
+cast-result : tie.Need-overflow_cast-result
 cast-result c =
     let s = c.before in
-    let e : lt_z s.args.x (pos 0) ≡ false = rw (to_z-of_z w32 s.args.x s.ranges.x) at c.if1.false in
+    let e : lt_z s.args.x (pos 0) ≡ false = rw (to_z-of_z w32 s.args.x s.ranges.x) at c.if-x-lt0.false in
     rw (to_z-of_z w32 s.args.x s.ranges.x) (not-below s.args.x e, record { fits = count_fits s.args.x s.ranges.x })
 
-returns-2 : tie.Need-returns-2
+returns-2 : tie.Need-returns
 returns-2 c =
     let s = c.before in
-    let e : lt_z s.args.x (pos 0) ≡ false = rw (to_z-of_z w32 s.args.x s.ranges.x) at c.if1.false in
+    let e : lt_z s.args.x (pos 0) ≡ false = rw (to_z-of_z w32 s.args.x s.ranges.x) at c.if-x-lt0.false in
     ap nat_abs (to_z-of_z w32 s.args.x s.ranges.x) ∙ cell-from s.args.x e
 
-pub cell-spec : {M : Type 1} → statement M
-cell-spec = tie.close (tie.spec returns cast-result returns-2)
+pub cell_spec : {M : Type 1} → statement M
+cell_spec = tie.close (tie.spec returns cast-result returns-2)

@@ -10,17 +10,17 @@ x64 c = cast w64 (arg c.ranges.x) tt
 abbrev y64 : tie.Start → MV w64
 y64 c = cast w64 (arg c.ranges.y) tt
 
-cast-result : tie.Need-overflow-cast-result
+cast-result : tie.Need-overflow_cast-result
 cast-result c = cast_fits w64 (arg c.ranges.x) tt
 
-cast-result-2 : tie.Need-overflow-cast-result-2
+cast-result-2 : tie.Need-overflow_cast-result-2
 cast-result-2 c = cast_fits w64 (arg c.ranges.y) tt
 
-sub-result : tie.Need-overflow-sub-result
+sub-result : tie.Need-overflow_sub-result
 sub-result c = sub-fits (x64 c) (y64 c) tt
 
 returns : tie.Need-returns
 returns c = val (sub (x64 c) (y64 c) tt)
 
-pub difference-spec : {M : Type 1} → statement M
-difference-spec = tie.close (tie.spec cast-result cast-result-2 sub-result returns)
+pub difference_spec : {M : Type 1} → statement M
+difference_spec = tie.close (tie.spec cast-result cast-result-2 sub-result returns)

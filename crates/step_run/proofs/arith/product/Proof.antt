@@ -10,17 +10,17 @@ x64 c = cast w64 (arg c.ranges.x) tt
 abbrev y64 : tie.Start → MV w64
 y64 c = cast w64 (arg c.ranges.y) tt
 
-cast-result : tie.Need-overflow-cast-result
+cast-result : tie.Need-overflow_cast-result
 cast-result c = cast_fits w64 (arg c.ranges.x) tt
 
-cast-result-2 : tie.Need-overflow-cast-result-2
+cast-result-2 : tie.Need-overflow_cast-result-2
 cast-result-2 c = cast_fits w64 (arg c.ranges.y) tt
 
-mul-result : tie.Need-overflow-mul-result
+mul-result : tie.Need-overflow_mul-result
 mul-result c = mul-fits (x64 c) (y64 c) tt
 
 returns : tie.Need-returns
 returns c = val (mul (x64 c) (y64 c) tt)
 
-pub product-spec : {M : Type 1} → statement M
-product-spec = tie.close (tie.spec cast-result cast-result-2 mul-result returns)
+pub product_spec : {M : Type 1} → statement M
+product_spec = tie.close (tie.spec cast-result cast-result-2 mul-result returns)

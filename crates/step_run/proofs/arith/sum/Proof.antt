@@ -10,17 +10,17 @@ x64 c = cast w64 (arg c.ranges.x) tt
 abbrev y64 : tie.Start → MV w64
 y64 c = cast w64 (arg c.ranges.y) tt
 
-cast-result : tie.Need-overflow-cast-result
+cast-result : tie.Need-overflow_cast-result
 cast-result c = cast_fits w64 (arg c.ranges.x) tt
 
-cast-result-2 : tie.Need-overflow-cast-result-2
+cast-result-2 : tie.Need-overflow_cast-result-2
 cast-result-2 c = cast_fits w64 (arg c.ranges.y) tt
 
-add-result : tie.Need-overflow-add-result
+add-result : tie.Need-overflow_add-result
 add-result c = add-fits (x64 c) (y64 c) tt
 
 returns : tie.Need-returns
 returns c = val (add (x64 c) (y64 c) tt)
 
-pub sum-spec : {M : Type 1} → statement M
-sum-spec = tie.close (tie.spec cast-result cast-result-2 add-result returns)
+pub sum_spec : {M : Type 1} → statement M
+sum_spec = tie.close (tie.spec cast-result cast-result-2 add-result returns)

@@ -10,26 +10,26 @@ use borrow.Author.Rules.{rules}
 use Rattle.step_run.proofs.run.held.Statement.{statement}
 use Rattle.step_run.proofs.run.held.Tie as tie
 
-cell-requires : tie.Need-cell-requires
+cell-requires : tie.Need-cell-k-requires
 cell-requires c κs = search rules
 
-mul-result : tie.Need-overflow-mul-result
+mul-result : tie.Need-offset_bounds-values-k
 mul-result c = search rules
 
-shared-slice-copy-out-result : tie.Need-shared-slice-copy-out-result
+shared-slice-copy-out-result : tie.Need-bounds-values-k
 shared-slice-copy-out-result c = search rules
 
-returns : tie.Need-returns
+returns : tie.Need-returns-then-k-values
 returns c =
     let s = c.before.before.before in
-    let o = c.before.before.cell.ensures ∙ ap cell_of (to_z-of_z w32 s.args.o s.ranges.o) in
-    to_z-of_z w32 (at s.args.values.now c.before.before.cell.result) (record { sfits = c.result.given }) ∙ ap (at s.args.values.now) o
+    let o = c.before.before.cell-k.ensures ∙ ap cell_of (to_z-of_z w32 s.args.o s.ranges.o) in
+    to_z-of_z w32 (at s.args.values.now c.before.before.cell-k.result-1) (record { sfits = c.result-1.given }) ∙ ap (at s.args.values.now) o
 
-returns-2 : tie.Need-returns-2
+returns-2 : tie.Need-returns
 returns-2 c =
     let s = c.before.before in
-    let o = c.before.cell.ensures ∙ ap cell_of (to_z-of_z w32 s.args.o s.ranges.o) in
-    sym (get_or-eq_default s.args.values.now (pos 0) c.if1.false) ∙ ap (at s.args.values.now) o
+    let o = c.before.cell-k.ensures ∙ ap cell_of (to_z-of_z w32 s.args.o s.ranges.o) in
+    sym (get_or-eq_default s.args.values.now (pos 0) c.if-k-values.false) ∙ ap (at s.args.values.now) o
 
 pub held_spec : {M : Type 1} → statement M
 held_spec =

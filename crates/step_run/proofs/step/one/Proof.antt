@@ -18,10 +18,10 @@ use Rattle.step_run.proofs.step.one.Statement.{statement}
 use Rattle.step_run.proofs.step.one.Tie as tie
 
 -- what the calls before the tests gave
-two_is : (c : tie.After-reads-two) → c.reads_two.result ≡ reads_two c.before.before.args.o
+two_is : (c : tie.After-reads_two-two) → c.reads_two.result ≡ reads_two c.before.before.args.o
 two_is c = let s = c.before.before in c.reads_two.ensures ∙ ap reads_two (to_z-of_z w32 s.args.o s.ranges.o)
 
-second_is : (c : tie.After-second) → let s = c.before.before.before.args in c.second.result ≡ cond (reads_two s.o) (cell_of s.d) s.a
+second_is : (c : tie.After-second-b) → let s = c.before.before.before.args in c.second.result ≡ cond (reads_two s.o) (cell_of s.d) s.a
 second_is c = let s = c.before.before.before in c.second.ensures ∙ (λ i. cond (two_is c.before i) (cell_of (to_z-of_z w32 s.args.d s.ranges.d i)) s.args.a)
 
 inside_is : (c : tie.After-inside) → let s = c.before.before.before.before.args in
@@ -29,13 +29,13 @@ inside_is : (c : tie.After-inside) → let s = c.before.before.before.before.arg
 inside_is c = let s = c.before.before.before.before.args in c.inside.ensures ∙ (λ i. ltb s.t s.n && (ltb s.a s.n && ltb (second_is c.before i) s.n))
 
 -- the three cells lie inside
-cells_in : (c : tie.Then1) → let s = c.before.before.before.before.before.args in (s.t < s.n) × ((s.a < s.n) × (c.before.before.second.result < s.n))
-cells_in c = let s = c.before.before.before.before.before.args in three s.t s.a c.before.before.second.result s.n (sym c.before.inside.ensures ∙ c.if1.true)
+cells_in : (c : tie.Then-inside) → let s = c.before.before.before.before.before.args in (s.t < s.n) × ((s.a < s.n) × (c.before.before.second-b.result < s.n))
+cells_in c = let s = c.before.before.before.before.before.args in three s.t s.a c.before.before.second-b.result s.n (sym c.before.inside.ensures ∙ c.if1.true)
 
-reads-two-requires : tie.Need-reads-two-requires
+reads-two-requires : tie.Need-reads_two-two-requires
 reads-two-requires c κs = search rules
 
-second-requires : tie.Need-second-requires
+second-requires : tie.Need-second-b-requires
 second-requires c κs = search rules
 
 inside-requires : tie.Need-inside-requires
@@ -44,53 +44,53 @@ inside-requires c κs = search rules
 known-requires : tie.Need-known-requires
 known-requires c κs = (omega (arith, cells_in c.before), omega (arith, cells_in c.before))
 
-operand-requires : tie.Need-operand-requires
+operand-requires : tie.Need-operand-y-requires
 operand-requires c κs = omega (arith, cells_in c.before.before.before.before)
 
-mul-combine : tie.Need-overflow-mul-combine
+mul-combine : tie.Need-offset_bounds-values-a
 mul-combine c = omega (arith, cells_in c.before.before.before.before.before)
 
-slice-copy-out-combine : tie.Need-slice-copy-out-combine
+slice-copy-out-combine : tie.Need-slice_copy_out-combine
 slice-copy-out-combine c = omega (arith, cells_in c.before.before.before.before.before)
 
-combine-requires : tie.Need-combine-requires
+combine-requires : tie.Need-combine-z-requires
 combine-requires c κs = search rules
 
 store-requires : tie.Need-store-requires
 store-requires c κs = (omega (arith, cells_in c.before.before.before.before.before.before.before.before.before), omega (arith, cells_in c.before.before.before.before.before.before.before.before.before))
 
-same_length : tie.Need-same-length
+same_length : tie.Need-shape_of-values-then-known
 same_length c = search rules
 
-same-length-2 : tie.Need-same-length-2
+same-length-2 : tie.Need-shape_of-written-then-known
 same-length-2 c = search rules
 
-returns : tie.Need-returns
+returns : tie.Need-returns-then-known
 returns c =
     let q = c.before.before.before.before.before.before.before.before.before.before.before.before.before.before.before.before.before.before in
     let s = q.args in
-    let e = sym (inside_is c.before.before.before.before.before.before.before.before.before.before.before.before.before.before) ∙ c.before.before.before.before.before.before.before.before.before.before.before.before.before.if1.true in
+    let e = sym (inside_is c.before.before.before.before.before.before.before.before.before.before.before.before.before.before) ∙ c.before.before.before.before.before.before.before.before.before.before.before.before.before.if-inside.true in
     let m = second_is c.before.before.before.before.before.before.before.before.before.before.before.before.before.before.before in
     let f : get_or s.written.now s.a false && get_or s.written.now (cond (reads_two s.o) (cell_of s.d) s.a) false ≡ true =
-    ap (λ m. get_or s.written.now s.a false && get_or s.written.now m false) (sym m) ∙ sym c.before.before.before.before.before.before.before.before.before.before.before.known.ensures ∙ c.before.before.before.before.before.before.before.before.before.before.if2.true in
-    let y = to_z-of_z w32 c.before.before.before.before.before.before.before.before.operand.result (search rules) ∙ c.before.before.before.before.before.before.before.before.operand.ensures ∙ (λ i. cond (two_is c.before.before.before.before.before.before.before.before.before.before.before.before.before.before.before.before i) (at s.values.now (m i)) (to_z-of_z w32 s.d q.ranges.d i)) in
-    let z = to_z-of_z w64 c.before.before.before.before.before.before.combine.result (search rules) ∙ c.before.before.before.before.before.before.combine.ensures ∙ (λ i. combined (to_z-of_z w32 s.o q.ranges.o i) (to_z-of_z w32 (at s.values.now s.a) (record { sfits = c.before.before.before.before.before.before.before.combine-arg.given }) i) (y i)) in
+    ap (λ m. get_or s.written.now s.a false && get_or s.written.now m false) (sym m) ∙ sym c.before.before.before.before.before.before.before.before.before.before.before.known.ensures ∙ c.before.before.before.before.before.before.before.before.before.before.if-known.true in
+    let y = to_z-of_z w32 c.before.before.before.before.before.before.before.before.operand-y.result (search rules) ∙ c.before.before.before.before.before.before.before.before.operand-y.ensures ∙ (λ i. cond (two_is c.before.before.before.before.before.before.before.before.before.before.before.before.before.before.before.before i) (at s.values.now (m i)) (to_z-of_z w32 s.d q.ranges.d i)) in
+    let z = to_z-of_z w64 c.before.before.before.before.before.before.combine-z.result (search rules) ∙ c.before.before.before.before.before.before.combine-z.ensures ∙ (λ i. combined (to_z-of_z w32 s.o q.ranges.o i) (to_z-of_z w32 (at s.values.now s.a) (record { sfits = c.before.before.before.before.before.before.before.combine-arg-1.given }) i) (y i)) in
     λ k. c.before.before.before.store.ensures (k + multiplies (step_from s.o s.t s.a s.d))
     ∙ (λ i. cond (fits32 (z i)) (ran (state (set s.values.now s.t (z i)) (set s.written.now s.t true) (k + multiplies (step_from s.o s.t s.a s.d)))) (refused 29))
     ∙ sym (step-parts s.o s.t s.a s.d s.n s.values.now s.written.now k ∙ rw (e, f))
 
-same-length-3 : tie.Need-same-length-3
+same-length-3 : tie.Need-shape_of-written-then-inside
 same-length-3 c = search rules
 
-returns-2 : tie.Need-returns-2
+returns-2 : tie.Need-returns-then-inside
 returns-2 c =
     let s = c.before.before.before.before.before.before.before.before.args in
-    let e = sym (inside_is c.before.before.before.before) ∙ c.before.before.before.if1.true in
+    let e = sym (inside_is c.before.before.before.before) ∙ c.before.before.before.if-inside.true in
     let f : get_or s.written.now s.a false && get_or s.written.now (cond (reads_two s.o) (cell_of s.d) s.a) false ≡ false =
     ap (λ m. get_or s.written.now s.a false && get_or s.written.now m false) (sym (second_is c.before.before.before.before.before)) ∙ sym c.before.known.ensures ∙ c.if2.false in
     λ k. sym (step-parts s.o s.t s.a s.d s.n s.values.now s.written.now k ∙ rw (e, f))
 
-returns-3 : tie.Need-returns-3
+returns-3 : tie.Need-returns
 returns-3 c =
     let s = c.before.before.before.before.before.args in
     let e = sym (inside_is c.before) ∙ c.if1.false in

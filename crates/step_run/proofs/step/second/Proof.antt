@@ -10,10 +10,10 @@ use Rattle.step_run.proofs.step.second.Tie as tie
 cell-requires : tie.Need-cell-requires
 cell-requires c κs = search rules
 
-returns : tie.Need-returns
-returns c = let s = c.before.before in c.cell.ensures ∙ ap cell_of (to_z-of_z w32 s.args.d s.ranges.d) ∙ rw c.before.if1.true
+returns : tie.Need-returns-then-two
+returns c = let s = c.before.before in c.cell.ensures ∙ ap cell_of (to_z-of_z w32 s.args.d s.ranges.d) ∙ rw c.before.if-two.true
 
-returns-2 : tie.Need-returns-2
+returns-2 : tie.Need-returns
 returns-2 c = search rules
 
 pub second_spec : {M : Type 1} → statement M

@@ -12,36 +12,36 @@ fits-requires : tie.Need-fits-requires
 fits-requires c κs = search rules
 
 narrow-requires : tie.Need-narrow-requires
-narrow-requires c κs = sym c.before.fits2.ensures ∙ c.if1.true
+narrow-requires c κs = sym c.before.fits2.ensures ∙ c.if-fits.true
 
-mul-t7 : tie.Need-overflow-mul-t7
+mul-t7 : tie.Need-offset_bounds-values-t
 mul-t7 c = search rules
 
-slice-set-from-values : tie.Need-slice-set-from-values
+slice-set-from-values : tie.Need-bounds-values-t
 slice-set-from-values c = search rules
 
-slice-write-written : tie.Need-slice-write-written
+slice-write-written : tie.Need-bounds-written-t
 slice-write-written c = search rules
 
-same_length : tie.Need-same-length
+same_length : tie.Need-shape_of-values-then-fits
 same_length c = search rules
 
-same-length-2 : tie.Need-same-length-2
+same-length-2 : tie.Need-shape_of-written-then-fits
 same-length-2 c = search rules
 
-returns : tie.Need-returns
+returns : tie.Need-returns-then-fits
 returns c =
     let s = c.before.before.before.before in
     let z = s.args.z in
-    let e : fits32 z ≡ true = ap fits32 (sym (to_z-of_z w64 z s.ranges.z)) ∙ sym c.before.before.fits2.ensures ∙ c.before.if1.true in
+    let e : fits32 z ≡ true = ap fits32 (sym (to_z-of_z w64 z s.ranges.z)) ∙ sym c.before.before.fits2.ensures ∙ c.before.if-fits.true in
     let y = to_z-of_z w32 c.narrow.result (search rules) ∙ c.narrow.ensures ∙ to_z-of_z w64 z s.ranges.z in
     λ k. rw (y, e)
 
-returns-2 : tie.Need-returns-2
+returns-2 : tie.Need-returns
 returns-2 c =
     let s = c.before.before.before in
     let z = s.args.z in
-    let e : fits32 z ≡ false = ap fits32 (sym (to_z-of_z w64 z s.ranges.z)) ∙ sym c.before.fits2.ensures ∙ c.if1.false in
+    let e : fits32 z ≡ false = ap fits32 (sym (to_z-of_z w64 z s.ranges.z)) ∙ sym c.before.fits2.ensures ∙ c.if-fits.false in
     λ k. rw e
 
 pub store_spec : {M : Type 1} → statement M

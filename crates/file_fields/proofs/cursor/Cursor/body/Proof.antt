@@ -10,38 +10,38 @@ use Rattle.file_fields.proofs.Found.{body-within}
 use Rattle.file_fields.proofs.cursor.Cursor.body.Statement.{statement}
 use Rattle.file_fields.proofs.cursor.Cursor.body.Tie as tie
 
-found-requires : tie.Need-found-requires
+found-requires : tie.Need-found-field-requires
 found-requires c κs = search rules
 
-add-end : tie.Need-overflow-add-end
+add-end : tie.Need-overflow_add-end
 add-end c =
     let s = c.before.before.before.args in
     let f = s.file.now in
-    let h : c.before.found.result.start + c.before.found.result.bytes ≤ length f = rw c.before.found.ensures (body-within f s.self) in
+    let h : c.before.found-field.result-1.start + c.before.found-field.result-1.bytes ≤ length f = rw c.before.found-field.ensures (body-within f s.self) in
     omega arith
 
-sub-result : tie.Need-overflow-sub-result
+sub-result : tie.Need-slice_bounds-result-count
 sub-result c = search rules
 
-part-result-start : tie.Need-slice-bounds-result-start
+part-result-start : tie.Need-slice_bounds-result-start
 part-result-start c = search rules
 
-part-result-end : tie.Need-slice-bounds-result-end
+part-result-end : tie.Need-slice_bounds-result-end
 part-result-end c =
     let s = c.before.before.before.args in
     let f = s.file.now in
-    let h : c.before.found.result.start + c.before.found.result.bytes ≤ length f = rw c.before.found.ensures (body-within f s.self) in
+    let h : c.before.found-field.result-1.start + c.before.found-field.result-1.bytes ≤ length f = rw c.before.found-field.ensures (body-within f s.self) in
     omega arith
 
 returns : tie.Need-returns
 returns c =
     let s = c.before.before.before.before.args in
     let f = s.file.now in
-    let r = c.before.before.found.result in
+    let r = c.before.before.found-field.result-1 in
     let e : r.start + r.bytes - r.start ≡ r.bytes = omega arith in
-    rw (e, c.before.before.found.ensures, add_comm (body_start f s.self) s.file.ptr.1)
+    rw (e, c.before.before.found-field.ensures, add_comm (body_start f s.self) s.file.ptr.1)
 
-pub body-spec : {M : Type 1} → statement M
-body-spec =
+pub body_spec : {M : Type 1} → statement M
+body_spec =
     tie.close
     (tie.spec found-requires add-end sub-result part-result-start part-result-end returns)
