@@ -9,22 +9,22 @@ use Rattle.product.specs.Product.{spot}
 use Rattle.full_line.proofs.stored.Statement.{statement}
 use Rattle.full_line.proofs.stored.Tie as tie
 
-mul_wide : tie.Need-overflow-mul-wide
+mul_wide : tie.Need-overflow_mul-j
 mul_wide c = search rules
 
-mul-wide-2 : tie.Need-overflow-mul-wide-2
+mul-wide-2 : tie.Need-overflow_mul-i
 mul-wide-2 c = search rules
 
-add_wide : tie.Need-overflow-add-wide
+add_wide : tie.Need-overflow_add-i
 add_wide c = search rules
 
-add-wide-2 : tie.Need-overflow-add-wide-2
+add-wide-2 : tie.Need-overflow_add-j
 add-wide-2 c = search rules
 
-mul-wide-3 : tie.Need-overflow-mul-wide-3
+mul-wide-3 : tie.Need-offset_bounds-t-j
 mul-wide-3 c = search rules
 
-shared-slice-copy-out-wide : tie.Need-shared-slice-copy-out-wide
+shared-slice-copy-out-wide : tie.Need-bounds-t-j
 shared-slice-copy-out-wide c = search rules
 
 wide-requires : tie.Need-wide-requires
@@ -34,10 +34,10 @@ returns : tie.Need-returns
 returns c =
     let s = c.before.before.args in
     let z = at s.t.now (2 * s.j + spot s.apart s.i) in
-    to_z-of_z w32 c.wide.result (search rules) ∙ c.wide.ensures ∙ to_z-of_z w16 z (record { sfits = c.before.wide-arg.given })
+    to_z-of_z w32 c.wide.result (search rules) ∙ c.wide.ensures ∙ to_z-of_z w16 z (record { sfits = c.before.wide-arg-1.given })
 
-pub stored-spec : {M : Type 1} → statement M
-stored-spec =
+pub stored_spec : {M : Type 1} → statement M
+stored_spec =
     tie.close
     (tie.spec
     mul_wide

@@ -4,7 +4,7 @@ use Rattle.algebra.proofs.Machine.{arg, cast, cast_fits, val}
 use Rattle.full_line.proofs.wide.Statement.{statement}
 use Rattle.full_line.proofs.wide.Tie as tie
 
-cast-result : tie.Need-overflow-cast-result
+cast-result : tie.Need-overflow_cast-result
 cast-result c = cast_fits w32 (arg {w = w16} c.ranges.v) tt
 
 returns : tie.Need-returns

@@ -55,7 +55,7 @@ module _ (c : tie.After-total invariant-loop decreases-loop) where
   summed : to_z w32 (of_z w32 c.total.result) ≡ value (i In)
   summed =
       let s = In.before.before.args in
-      to_z-of_z w32 c.total.result (search rules) ∙ c.total.ensures ∙ sum-cong s.pairs (at c.before.before.products.new.1.1.1.1.1.0) terms (λ k h. (c.before.before.products.ensures k h).0)
+      to_z-of_z w32 c.total.result (search rules) ∙ c.total.ensures ∙ sum-cong s.pairs (at c.before.before.products.new.s) terms (λ k h. (c.before.before.products.ensures k h).0)
       ∙ pairs-line s.a.now 0 2 s.b.now s.apart (i In) s.pairs
 
   size : nat_abs (value (i In)) ≤ sum_size
@@ -92,7 +92,7 @@ loop-less c = omega (arith, (In c).loop-i-test.true)
 loop-again : tie.Need-loop-i-preserved invariant-loop decreases-loop
 loop-again c =
     let I = In c in
-    let p = I.before.loop-i.inv in
+    let p = I.before.loop-i.invariant in
     let j = I.before.before.args.j in
     let here : i I ≡ j + (i I - j) = omega arith in
     let more : i I + 1 - j ≡ i I - j + 1 = omega arith in (

@@ -21,113 +21,113 @@ use Rattle.kernel_levels.proofs.Stored.{first-2-2, first-2-2-right, odd-16-8, od
 use Rattle.kernels_along_32_32.proofs.along_32_32_8.Statement.{statement}
 use Rattle.kernels_along_32_32.proofs.along_32_32_8.Tie as tie
 
-abbrev invariant-loop : tie.invariant-loop
+abbrev invariant-loop : tie.invariant-loop-l
 invariant-loop m apart many half shift r r0₀ r1₀ r2₀ r3₀ l₀ r0 r1 r2 r3 l = (l ≤ 8) × (WroteFrom 0 (8 * l) r0 r0₀ (tiled 8 (λ j l. shifted (to_z w32 half) shift (rows_sum 32 32 8 apart m j l)) 0) × (WroteFrom 0 (8 * l) r1 r1₀ (tiled 8 (λ j l. shifted (to_z w32 half) shift (rows_sum 32 32 8 apart m j l)) 8) × (WroteFrom 0 (8 * l) r2 r2₀ (tiled 8 (λ j l. shifted (to_z w32 half) shift (rows_sum 32 32 8 apart m j l)) 16) × WroteFrom 0 (8 * l) r3 r3₀ (tiled 8 (λ j l. shifted (to_z w32 half) shift (rows_sum 32 32 8 apart m j l)) 24))))
 
-abbrev decreases-loop : tie.decreases-loop
+abbrev decreases-loop : tie.decreases-loop-l
 decreases-loop m apart many half shift r r0₀ r1₀ r2₀ r3₀ l₀ r0 r1 r2 r3 l = 8 - l
 
-gathered-8 : (c : tie.After-take invariant-loop decreases-loop) → Gathered 8 32 (across c.before.before.before.before.before.args.m.now 8 c.before.before.before.before.before.args.apart c.before.before.before.before.loop.l) c.take.new.1.1.1.1.0
-gathered-8 c = group-next c.before.before.before.before.before.requires.0 0 c.before.before.before.before.loop.l c.before.before.before.loop-test.true _ (omega arith) (omega arith) (omega arith) (gather_none 32 _) c.take.ensures
+gathered-8 : (c : tie.After-take invariant-loop decreases-loop) → Gathered 8 32 (across c.before.before.before.before.before.args.m.now 8 c.before.before.before.before.before.args.apart c.before.before.before.before.loop-l.l) c.take.new.a
+gathered-8 c = group-next c.before.before.before.before.before.requires.0 0 c.before.before.before.before.loop-l.l c.before.before.before.loop-l-test.true _ (omega arith) (omega arith) (omega arith) (gather_none 32 _) c.take.ensures
 
-gathered-16 : (c : tie.After-take2 invariant-loop decreases-loop) → Gathered 16 32 (across c.before.before.before.before.before.before.before.before.before.args.m.now 8 c.before.before.before.before.before.before.before.before.before.args.apart c.before.before.before.before.before.before.before.before.loop.l) c.take2.new.1.1.1.1.0
-gathered-16 c = group-next c.before.before.before.before.before.before.before.before.before.requires.0 1 c.before.before.before.before.before.before.before.before.loop.l c.before.before.before.before.before.before.before.loop-test.true _ (omega arith) (omega arith) (omega arith) (gathered-8 c.before.before.before.before) c.take2.ensures
+gathered-16 : (c : tie.After-take-in-loop-l invariant-loop decreases-loop) → Gathered 16 32 (across c.before.before.before.before.before.before.before.before.before.args.m.now 8 c.before.before.before.before.before.before.before.before.before.args.apart c.before.before.before.before.before.before.before.before.loop-l.l) c.take-in-loop-l.new.a
+gathered-16 c = group-next c.before.before.before.before.before.before.before.before.before.requires.0 1 c.before.before.before.before.before.before.before.before.loop-l.l c.before.before.before.before.before.before.before.loop-l-test.true _ (omega arith) (omega arith) (omega arith) (gathered-8 c.before.before.before.before) c.take-in-loop-l.ensures
 
-gathered-24 : (c : tie.After-take3 invariant-loop decreases-loop) → Gathered 24 32 (across c.before.before.before.before.before.before.before.before.before.before.before.before.before.args.m.now 8 c.before.before.before.before.before.before.before.before.before.before.before.before.before.args.apart c.before.before.before.before.before.before.before.before.before.before.before.before.loop.l) c.take3.new.1.1.1.1.0
-gathered-24 c = group-next c.before.before.before.before.before.before.before.before.before.before.before.before.before.requires.0 2 c.before.before.before.before.before.before.before.before.before.before.before.before.loop.l c.before.before.before.before.before.before.before.before.before.before.before.loop-test.true _ (omega arith) (omega arith) (omega arith) (gathered-16 c.before.before.before.before) c.take3.ensures
+gathered-24 : (c : tie.After-take-in-loop-l-2 invariant-loop decreases-loop) → Gathered 24 32 (across c.before.before.before.before.before.before.before.before.before.before.before.before.before.args.m.now 8 c.before.before.before.before.before.before.before.before.before.before.before.before.before.args.apart c.before.before.before.before.before.before.before.before.before.before.before.before.loop-l.l) c.take-in-loop-l-2.new.a
+gathered-24 c = group-next c.before.before.before.before.before.before.before.before.before.before.before.before.before.requires.0 2 c.before.before.before.before.before.before.before.before.before.before.before.before.loop-l.l c.before.before.before.before.before.before.before.before.before.before.before.loop-l-test.true _ (omega arith) (omega arith) (omega arith) (gathered-16 c.before.before.before.before) c.take-in-loop-l-2.ensures
 
-abbrev inputs : tie.After-take4 invariant-loop decreases-loop → List ℤ
-inputs c = c.take4.new.1.1.1.1.0
+abbrev inputs : tie.After-take-in-loop-l-3 invariant-loop decreases-loop → List ℤ
+inputs c = c.take-in-loop-l-3.new.a
 
-abbrev turn : tie.After-take4 invariant-loop decreases-loop → tie.In-loop invariant-loop decreases-loop
+abbrev turn : tie.After-take-in-loop-l-3 invariant-loop decreases-loop → tie.In-loop-l invariant-loop decreases-loop
 turn c = c.before.before.before.before.before.before.before.before.before.before.before.before.before.before.before
 
-abbrev start : tie.After-take4 invariant-loop decreases-loop → tie.Start invariant-loop decreases-loop
+abbrev start : tie.After-take-in-loop-l-3 invariant-loop decreases-loop → tie.Start invariant-loop decreases-loop
 start c = c.before.before.before.before.before.before.before.before.before.before.before.before.before.before.before.before.before
 
-abbrev inputs-deal : tie.After-deal invariant-loop decreases-loop → tie.After-take4 invariant-loop decreases-loop
+abbrev inputs-deal : tie.After-deal invariant-loop decreases-loop → tie.After-take-in-loop-l-3 invariant-loop decreases-loop
 inputs-deal c = c.before.before.before.before
 
-abbrev inputs-some : tie.After-some invariant-loop decreases-loop → tie.After-take4 invariant-loop decreases-loop
+abbrev inputs-some : tie.After-some invariant-loop decreases-loop → tie.After-take-in-loop-l-3 invariant-loop decreases-loop
 inputs-some c = inputs-deal c.before.before.before.before.before
 
-abbrev inputs-lift : tie.After-lift invariant-loop decreases-loop → tie.After-take4 invariant-loop decreases-loop
+abbrev inputs-lift : tie.After-lift invariant-loop decreases-loop → tie.After-take-in-loop-l-3 invariant-loop decreases-loop
 inputs-lift c = inputs-some c.before.before.before
 
-abbrev inputs-deal2 : tie.After-deal2 invariant-loop decreases-loop → tie.After-take4 invariant-loop decreases-loop
+abbrev inputs-deal2 : tie.After-deal-in-loop-l invariant-loop decreases-loop → tie.After-take-in-loop-l-3 invariant-loop decreases-loop
 inputs-deal2 c = inputs-lift c.before.before.before.before
 
-abbrev inputs-some2 : tie.After-some2 invariant-loop decreases-loop → tie.After-take4 invariant-loop decreases-loop
+abbrev inputs-some2 : tie.After-some-in-loop-l invariant-loop decreases-loop → tie.After-take-in-loop-l-3 invariant-loop decreases-loop
 inputs-some2 c = inputs-deal2 c.before.before.before.before.before
 
-abbrev inputs-butterfly : tie.After-butterfly invariant-loop decreases-loop → tie.After-take4 invariant-loop decreases-loop
+abbrev inputs-butterfly : tie.After-butterfly invariant-loop decreases-loop → tie.After-take-in-loop-l-3 invariant-loop decreases-loop
 inputs-butterfly c = inputs-some2 c.before.before.before.before.before
 
-abbrev inputs-deal3 : tie.After-deal3 invariant-loop decreases-loop → tie.After-take4 invariant-loop decreases-loop
+abbrev inputs-deal3 : tie.After-deal-in-loop-l-2 invariant-loop decreases-loop → tie.After-take-in-loop-l-3 invariant-loop decreases-loop
 inputs-deal3 c = inputs-butterfly c.before.before.before.before
 
-abbrev inputs-some3 : tie.After-some3 invariant-loop decreases-loop → tie.After-take4 invariant-loop decreases-loop
+abbrev inputs-some3 : tie.After-some-in-loop-l-2 invariant-loop decreases-loop → tie.After-take-in-loop-l-3 invariant-loop decreases-loop
 inputs-some3 c = inputs-deal3 c.before.before.before.before.before
 
-abbrev inputs-butterfly2 : tie.After-butterfly2 invariant-loop decreases-loop → tie.After-take4 invariant-loop decreases-loop
+abbrev inputs-butterfly2 : tie.After-butterfly-in-loop-l invariant-loop decreases-loop → tie.After-take-in-loop-l-3 invariant-loop decreases-loop
 inputs-butterfly2 c = inputs-some3 c.before.before.before.before.before
 
-abbrev inputs-deal4 : tie.After-deal4 invariant-loop decreases-loop → tie.After-take4 invariant-loop decreases-loop
+abbrev inputs-deal4 : tie.After-deal-in-loop-l-3 invariant-loop decreases-loop → tie.After-take-in-loop-l-3 invariant-loop decreases-loop
 inputs-deal4 c = inputs-butterfly2 c.before.before.before.before
 
-abbrev inputs-some4 : tie.After-some4 invariant-loop decreases-loop → tie.After-take4 invariant-loop decreases-loop
+abbrev inputs-some4 : tie.After-some-in-loop-l-3 invariant-loop decreases-loop → tie.After-take-in-loop-l-3 invariant-loop decreases-loop
 inputs-some4 c = inputs-deal4 c.before.before.before.before.before
 
-abbrev inputs-some5 : tie.After-some5 invariant-loop decreases-loop → tie.After-take4 invariant-loop decreases-loop
+abbrev inputs-some5 : tie.After-some-in-loop-l-4 invariant-loop decreases-loop → tie.After-take-in-loop-l-3 invariant-loop decreases-loop
 inputs-some5 c = inputs-some4 c.before.before.before.before.before
 
-abbrev inputs-butterfly3 : tie.After-butterfly3 invariant-loop decreases-loop → tie.After-take4 invariant-loop decreases-loop
+abbrev inputs-butterfly3 : tie.After-butterfly-in-loop-l-2 invariant-loop decreases-loop → tie.After-take-in-loop-l-3 invariant-loop decreases-loop
 inputs-butterfly3 c = inputs-some5 c.before.before.before.before.before
 
-abbrev inputs-deal5 : tie.After-deal5 invariant-loop decreases-loop → tie.After-take4 invariant-loop decreases-loop
+abbrev inputs-deal5 : tie.After-deal-in-loop-l-4 invariant-loop decreases-loop → tie.After-take-in-loop-l-3 invariant-loop decreases-loop
 inputs-deal5 c = inputs-butterfly3 c.before.before.before.before
 
-abbrev inputs-some6 : tie.After-some6 invariant-loop decreases-loop → tie.After-take4 invariant-loop decreases-loop
+abbrev inputs-some6 : tie.After-some-in-loop-l-5 invariant-loop decreases-loop → tie.After-take-in-loop-l-3 invariant-loop decreases-loop
 inputs-some6 c = inputs-deal5 c.before.before.before.before.before
 
-abbrev inputs-some7 : tie.After-some7 invariant-loop decreases-loop → tie.After-take4 invariant-loop decreases-loop
+abbrev inputs-some7 : tie.After-some-in-loop-l-6 invariant-loop decreases-loop → tie.After-take-in-loop-l-3 invariant-loop decreases-loop
 inputs-some7 c = inputs-some6 c.before.before.before.before.before
 
-abbrev inputs-some8 : tie.After-some8 invariant-loop decreases-loop → tie.After-take4 invariant-loop decreases-loop
+abbrev inputs-some8 : tie.After-some-in-loop-l-7 invariant-loop decreases-loop → tie.After-take-in-loop-l-3 invariant-loop decreases-loop
 inputs-some8 c = inputs-some7 c.before.before.before.before.before
 
-abbrev inputs-some9 : tie.After-some9 invariant-loop decreases-loop → tie.After-take4 invariant-loop decreases-loop
+abbrev inputs-some9 : tie.After-some-in-loop-l-8 invariant-loop decreases-loop → tie.After-take-in-loop-l-3 invariant-loop decreases-loop
 inputs-some9 c = inputs-some8 c.before.before.before.before.before
 
-abbrev inputs-some10 : tie.After-some10 invariant-loop decreases-loop → tie.After-take4 invariant-loop decreases-loop
+abbrev inputs-some10 : tie.After-some-in-loop-l-9 invariant-loop decreases-loop → tie.After-take-in-loop-l-3 invariant-loop decreases-loop
 inputs-some10 c = inputs-some9 c.before.before.before.before.before
 
-abbrev inputs-some11 : tie.After-some11 invariant-loop decreases-loop → tie.After-take4 invariant-loop decreases-loop
+abbrev inputs-some11 : tie.After-some-in-loop-l-10 invariant-loop decreases-loop → tie.After-take-in-loop-l-3 invariant-loop decreases-loop
 inputs-some11 c = inputs-some10 c.before.before.before.before.before
 
-abbrev inputs-some12 : tie.After-some12 invariant-loop decreases-loop → tie.After-take4 invariant-loop decreases-loop
+abbrev inputs-some12 : tie.After-some-in-loop-l-11 invariant-loop decreases-loop → tie.After-take-in-loop-l-3 invariant-loop decreases-loop
 inputs-some12 c = inputs-some11 c.before.before.before.before.before
 
-abbrev inputs-some13 : tie.After-some13 invariant-loop decreases-loop → tie.After-take4 invariant-loop decreases-loop
+abbrev inputs-some13 : tie.After-some-in-loop-l-12 invariant-loop decreases-loop → tie.After-take-in-loop-l-3 invariant-loop decreases-loop
 inputs-some13 c = inputs-some12 c.before.before.before.before.before
 
-abbrev inputs-butterfly4 : tie.After-butterfly4 invariant-loop decreases-loop → tie.After-take4 invariant-loop decreases-loop
+abbrev inputs-butterfly4 : tie.After-butterfly-in-loop-l-3 invariant-loop decreases-loop → tie.After-take-in-loop-l-3 invariant-loop decreases-loop
 inputs-butterfly4 c = inputs-some13 c.before.before.before.before.before
 
-abbrev inputs-round : tie.After-round invariant-loop decreases-loop → tie.After-take4 invariant-loop decreases-loop
+abbrev inputs-round : tie.After-round invariant-loop decreases-loop → tie.After-take-in-loop-l-3 invariant-loop decreases-loop
 inputs-round c = inputs-butterfly4 c.before.before.before.before
 
-abbrev inputs-round2 : tie.After-round2 invariant-loop decreases-loop → tie.After-take4 invariant-loop decreases-loop
+abbrev inputs-round2 : tie.After-round-in-loop-l invariant-loop decreases-loop → tie.After-take-in-loop-l-3 invariant-loop decreases-loop
 inputs-round2 c = inputs-round c.before.before.before.before
 
-abbrev inputs-round3 : tie.After-round3 invariant-loop decreases-loop → tie.After-take4 invariant-loop decreases-loop
+abbrev inputs-round3 : tie.After-round-in-loop-l-2 invariant-loop decreases-loop → tie.After-take-in-loop-l-3 invariant-loop decreases-loop
 inputs-round3 c = inputs-round2 c.before.before.before.before
 
-abbrev inputs-round4 : tie.After-round4 invariant-loop decreases-loop → tie.After-take4 invariant-loop decreases-loop
+abbrev inputs-round4 : tie.After-round-in-loop-l-3 invariant-loop decreases-loop → tie.After-take-in-loop-l-3 invariant-loop decreases-loop
 inputs-round4 c = inputs-round3 c.before.before.before.before
 
-gathered-32 : (c : tie.After-take4 invariant-loop decreases-loop) → Gathered 32 32 (across (start c).args.m.now 8 (start c).args.apart (turn c).before.loop.l) c.take4.new.1.1.1.1.0
-gathered-32 c = group-next (start c).pre.0 3 (turn c).before.loop.l (turn c).loop-test.taken _ (omega arith) (omega arith) (omega arith) (gathered-24 c.before.before.before.before) c.take4.ensures
+gathered-32 : (c : tie.After-take-in-loop-l-3 invariant-loop decreases-loop) → Gathered 32 32 (across (start c).args.m.now 8 (start c).args.apart (turn c).before.loop-l.l) c.take-in-loop-l-3.new.a
+gathered-32 c = group-next (start c).requires.0 3 (turn c).before.loop-l.l (turn c).loop-l-test.true _ (omega arith) (omega arith) (omega arith) (gathered-24 c.before.before.before.before) c.take-in-loop-l-3.ensures
 
 abbrev half : tie.Start invariant-loop decreases-loop → ℤ
 half c = to_z w32 (of_z w32 c.args.half)
@@ -138,524 +138,524 @@ half_is c = to_z-of_z w32 c.args.half c.ranges.half
 half-small : (c : tie.Start invariant-loop decreases-loop) → nat_abs (half c) ≤ 1000000
 half-small c = subst (λ (z : ℤ). nat_abs z ≤ 1000000) (sym (half_is c)) c.requires.0.small
 
-dealt-2 : (c : tie.After-deal invariant-loop decreases-loop) → Dealt 2 2 (evens (evens (evens (evens (at (inputs (inputs-deal c))))))) c.deal.new.1.1.1.1.0
+dealt-2 : (c : tie.After-deal invariant-loop decreases-loop) → Dealt 2 2 (evens (evens (evens (evens (at (inputs (inputs-deal c))))))) c.deal.new.a
 dealt-2 c = dealt (omega arith) c.deal.ensures (λ i l. let e : 0 + i * 16 ≡ 2 * (2 * (2 * (2 * (i)))) = omega arith in ap (at (inputs (inputs-deal c))) e)
 
-made-2-2 : (c : tie.After-some invariant-loop decreases-loop) → Made 2 2 (line_sum c.before.before.before.before.before.deal.new.1.1.1.1.0 0 2 first-2-2 4 1) c.some.new.1.1.1.1.1.1.0
+made-2-2 : (c : tie.After-some invariant-loop decreases-loop) → Made 2 2 (line_sum c.before.before.before.before.before.deal.new.a 0 2 first-2-2 4 1) c.some.new.out
 made-2-2 c = made-next 2 (omega arith) (made_none 2 _) c.some.ensures
 
-level-2 : (c : tie.After-lift invariant-loop decreases-loop) → Sums 2 2 (half (start (inputs-lift c))) (evens (evens (evens (evens (at (inputs (inputs-lift c))))))) 1 c.lift.new.1.1.0
+level-2 : (c : tie.After-lift invariant-loop decreases-loop) → Sums 2 2 (half (start (inputs-lift c))) (evens (evens (evens (evens (at (inputs (inputs-lift c))))))) 1 c.lift.new.e
 level-2 c = lowest (half-small (start (inputs-lift c))) first-2-2-right (dealt-2 c.before.before.before.before.before.before.before.before) (made-2-2 c.before.before.before) c.lift.ensures
 
-dealt-4 : (c : tie.After-deal2 invariant-loop decreases-loop) → Dealt 2 2 (λ i. (evens (evens (evens (at (inputs (inputs-deal2 c)))))) (2 * i + 1)) c.deal2.new.1.1.1.1.0
-dealt-4 c = dealt (omega arith) c.deal2.ensures (λ i l. let e : 8 + i * 16 ≡ 2 * (2 * (2 * (2 * i + 1))) = omega arith in ap (at (inputs (inputs-deal2 c))) e)
+dealt-4 : (c : tie.After-deal-in-loop-l invariant-loop decreases-loop) → Dealt 2 2 (λ i. (evens (evens (evens (at (inputs (inputs-deal2 c)))))) (2 * i + 1)) c.deal-in-loop-l.new.a
+dealt-4 c = dealt (omega arith) c.deal-in-loop-l.ensures (λ i l. let e : 8 + i * 16 ≡ 2 * (2 * (2 * (2 * i + 1))) = omega arith in ap (at (inputs (inputs-deal2 c))) e)
 
-made-4-2 : (c : tie.After-some2 invariant-loop decreases-loop) → Made 2 2 (line_sum c.before.before.before.before.before.deal2.new.1.1.1.1.0 0 2 odd-4-2 4 1) c.some2.new.1.1.1.1.1.1.0
-made-4-2 c = made-next 2 (omega arith) (made_none 2 _) c.some2.ensures
+made-4-2 : (c : tie.After-some-in-loop-l invariant-loop decreases-loop) → Made 2 2 (line_sum c.before.before.before.before.before.deal-in-loop-l.new.a 0 2 odd-4-2 4 1) c.some-in-loop-l.new.out
+made-4-2 c = made-next 2 (omega arith) (made_none 2 _) c.some-in-loop-l.ensures
 
-level-4 : (c : tie.After-butterfly invariant-loop decreases-loop) → Sums 4 4 (half (start (inputs-butterfly c))) (evens (evens (evens (at (inputs (inputs-butterfly c)))))) 2 c.butterfly.new.1.1.1.1.1.0
+level-4 : (c : tie.After-butterfly invariant-loop decreases-loop) → Sums 4 4 (half (start (inputs-butterfly c))) (evens (evens (evens (at (inputs (inputs-butterfly c)))))) 2 c.butterfly.new.out
 level-4 c = up {x = evens (evens (evens (at (inputs (inputs-butterfly c)))))} halves-4 (omega arith) odd-4-2-right (dealt-4 c.before.before.before.before.before.before.before.before.before.before) (level-2 c.before.before.before.before.before.before.before.before.before.before.before.before.before.before) (made-4-2 c.before.before.before.before.before) c.butterfly.ensures
 
-dealt-8 : (c : tie.After-deal3 invariant-loop decreases-loop) → Dealt 4 4 (λ i. (evens (evens (at (inputs (inputs-deal3 c))))) (2 * i + 1)) c.deal3.new.1.1.1.1.0
-dealt-8 c = dealt (omega arith) c.deal3.ensures (λ i l. let e : 4 + i * 8 ≡ 2 * (2 * (2 * i + 1)) = omega arith in ap (at (inputs (inputs-deal3 c))) e)
+dealt-8 : (c : tie.After-deal-in-loop-l-2 invariant-loop decreases-loop) → Dealt 4 4 (λ i. (evens (evens (at (inputs (inputs-deal3 c))))) (2 * i + 1)) c.deal-in-loop-l-2.new.a
+dealt-8 c = dealt (omega arith) c.deal-in-loop-l-2.ensures (λ i l. let e : 4 + i * 8 ≡ 2 * (2 * (2 * i + 1)) = omega arith in ap (at (inputs (inputs-deal3 c))) e)
 
-made-8-4 : (c : tie.After-some3 invariant-loop decreases-loop) → Made 4 4 (line_sum c.before.before.before.before.before.deal3.new.1.1.1.1.0 0 2 odd-8-4 8 2) c.some3.new.1.1.1.1.1.1.0
-made-8-4 c = made-next 4 (omega arith) (made_none 4 _) c.some3.ensures
+made-8-4 : (c : tie.After-some-in-loop-l-2 invariant-loop decreases-loop) → Made 4 4 (line_sum c.before.before.before.before.before.deal-in-loop-l-2.new.a 0 2 odd-8-4 8 2) c.some-in-loop-l-2.new.out
+made-8-4 c = made-next 4 (omega arith) (made_none 4 _) c.some-in-loop-l-2.ensures
 
-level-8 : (c : tie.After-butterfly2 invariant-loop decreases-loop) → Sums 8 8 (half (start (inputs-butterfly2 c))) (evens (evens (at (inputs (inputs-butterfly2 c))))) 3 c.butterfly2.new.1.1.1.1.1.0
-level-8 c = up {x = evens (evens (at (inputs (inputs-butterfly2 c))))} halves-8 (omega arith) odd-8-4-right (dealt-8 c.before.before.before.before.before.before.before.before.before.before) (level-4 c.before.before.before.before.before.before.before.before.before.before.before.before.before.before) (made-8-4 c.before.before.before.before.before) c.butterfly2.ensures
+level-8 : (c : tie.After-butterfly-in-loop-l invariant-loop decreases-loop) → Sums 8 8 (half (start (inputs-butterfly2 c))) (evens (evens (at (inputs (inputs-butterfly2 c))))) 3 c.butterfly-in-loop-l.new.out
+level-8 c = up {x = evens (evens (at (inputs (inputs-butterfly2 c))))} halves-8 (omega arith) odd-8-4-right (dealt-8 c.before.before.before.before.before.before.before.before.before.before) (level-4 c.before.before.before.before.before.before.before.before.before.before.before.before.before.before) (made-8-4 c.before.before.before.before.before) c.butterfly-in-loop-l.ensures
 
-dealt-16 : (c : tie.After-deal4 invariant-loop decreases-loop) → Dealt 8 8 (λ i. (evens (at (inputs (inputs-deal4 c)))) (2 * i + 1)) c.deal4.new.1.1.1.1.0
-dealt-16 c = dealt (omega arith) c.deal4.ensures (λ i l. let e : 2 + i * 4 ≡ 2 * (2 * i + 1) = omega arith in ap (at (inputs (inputs-deal4 c))) e)
+dealt-16 : (c : tie.After-deal-in-loop-l-3 invariant-loop decreases-loop) → Dealt 8 8 (λ i. (evens (at (inputs (inputs-deal4 c)))) (2 * i + 1)) c.deal-in-loop-l-3.new.a
+dealt-16 c = dealt (omega arith) c.deal-in-loop-l-3.ensures (λ i l. let e : 2 + i * 4 ≡ 2 * (2 * i + 1) = omega arith in ap (at (inputs (inputs-deal4 c))) e)
 
-made-16-4 : (c : tie.After-some4 invariant-loop decreases-loop) → Made 4 8 (line_sum c.before.before.before.before.before.deal4.new.1.1.1.1.0 0 2 odd-16-8 16 4) c.some4.new.1.1.1.1.1.1.0
-made-16-4 c = made-next 4 (omega arith) (made_none 8 _) c.some4.ensures
+made-16-4 : (c : tie.After-some-in-loop-l-3 invariant-loop decreases-loop) → Made 4 8 (line_sum c.before.before.before.before.before.deal-in-loop-l-3.new.a 0 2 odd-16-8 16 4) c.some-in-loop-l-3.new.out
+made-16-4 c = made-next 4 (omega arith) (made_none 8 _) c.some-in-loop-l-3.ensures
 
-made-16-8 : (c : tie.After-some5 invariant-loop decreases-loop) → Made 8 8 (line_sum c.before.before.before.before.before.before.before.before.before.before.deal4.new.1.1.1.1.0 0 2 odd-16-8 16 4) c.some5.new.1.1.1.1.1.1.0
-made-16-8 c = made-next 8 (omega arith) (made-16-4 c.before.before.before.before.before) c.some5.ensures
+made-16-8 : (c : tie.After-some-in-loop-l-4 invariant-loop decreases-loop) → Made 8 8 (line_sum c.before.before.before.before.before.before.before.before.before.before.deal-in-loop-l-3.new.a 0 2 odd-16-8 16 4) c.some-in-loop-l-4.new.out
+made-16-8 c = made-next 8 (omega arith) (made-16-4 c.before.before.before.before.before) c.some-in-loop-l-4.ensures
 
-level-16 : (c : tie.After-butterfly3 invariant-loop decreases-loop) → Sums 16 16 (half (start (inputs-butterfly3 c))) (evens (at (inputs (inputs-butterfly3 c)))) 4 c.butterfly3.new.1.1.1.1.1.0
-level-16 c = up {x = evens (at (inputs (inputs-butterfly3 c)))} halves-16 (omega arith) odd-16-8-right (dealt-16 c.before.before.before.before.before.before.before.before.before.before.before.before.before.before.before) (level-8 c.before.before.before.before.before.before.before.before.before.before.before.before.before.before.before.before.before.before.before) (made-16-8 c.before.before.before.before.before) c.butterfly3.ensures
+level-16 : (c : tie.After-butterfly-in-loop-l-2 invariant-loop decreases-loop) → Sums 16 16 (half (start (inputs-butterfly3 c))) (evens (at (inputs (inputs-butterfly3 c)))) 4 c.butterfly-in-loop-l-2.new.out
+level-16 c = up {x = evens (at (inputs (inputs-butterfly3 c)))} halves-16 (omega arith) odd-16-8-right (dealt-16 c.before.before.before.before.before.before.before.before.before.before.before.before.before.before.before) (level-8 c.before.before.before.before.before.before.before.before.before.before.before.before.before.before.before.before.before.before.before) (made-16-8 c.before.before.before.before.before) c.butterfly-in-loop-l-2.ensures
 
-dealt-32 : (c : tie.After-deal5 invariant-loop decreases-loop) → Dealt 16 16 (λ i. (at (inputs (inputs-deal5 c))) (2 * i + 1)) c.deal5.new.1.1.1.1.0
-dealt-32 c = dealt (omega arith) c.deal5.ensures (λ i l. let e : 1 + i * 2 ≡ 2 * i + 1 = omega arith in ap (at (inputs (inputs-deal5 c))) e)
+dealt-32 : (c : tie.After-deal-in-loop-l-4 invariant-loop decreases-loop) → Dealt 16 16 (λ i. (at (inputs (inputs-deal5 c))) (2 * i + 1)) c.deal-in-loop-l-4.new.a
+dealt-32 c = dealt (omega arith) c.deal-in-loop-l-4.ensures (λ i l. let e : 1 + i * 2 ≡ 2 * i + 1 = omega arith in ap (at (inputs (inputs-deal5 c))) e)
 
-made-32-2 : (c : tie.After-some6 invariant-loop decreases-loop) → Made 2 16 (line_sum c.before.before.before.before.before.deal5.new.1.1.1.1.0 0 2 odd-32-16 32 8) c.some6.new.1.1.1.1.1.1.0
-made-32-2 c = made-next 2 (omega arith) (made_none 16 _) c.some6.ensures
+made-32-2 : (c : tie.After-some-in-loop-l-5 invariant-loop decreases-loop) → Made 2 16 (line_sum c.before.before.before.before.before.deal-in-loop-l-4.new.a 0 2 odd-32-16 32 8) c.some-in-loop-l-5.new.out
+made-32-2 c = made-next 2 (omega arith) (made_none 16 _) c.some-in-loop-l-5.ensures
 
-made-32-4 : (c : tie.After-some7 invariant-loop decreases-loop) → Made 4 16 (line_sum c.before.before.before.before.before.before.before.before.before.before.deal5.new.1.1.1.1.0 0 2 odd-32-16 32 8) c.some7.new.1.1.1.1.1.1.0
-made-32-4 c = made-next 4 (omega arith) (made-32-2 c.before.before.before.before.before) c.some7.ensures
+made-32-4 : (c : tie.After-some-in-loop-l-6 invariant-loop decreases-loop) → Made 4 16 (line_sum c.before.before.before.before.before.before.before.before.before.before.deal-in-loop-l-4.new.a 0 2 odd-32-16 32 8) c.some-in-loop-l-6.new.out
+made-32-4 c = made-next 4 (omega arith) (made-32-2 c.before.before.before.before.before) c.some-in-loop-l-6.ensures
 
-made-32-6 : (c : tie.After-some8 invariant-loop decreases-loop) → Made 6 16 (line_sum c.before.before.before.before.before.before.before.before.before.before.before.before.before.before.before.deal5.new.1.1.1.1.0 0 2 odd-32-16 32 8) c.some8.new.1.1.1.1.1.1.0
-made-32-6 c = made-next 6 (omega arith) (made-32-4 c.before.before.before.before.before) c.some8.ensures
+made-32-6 : (c : tie.After-some-in-loop-l-7 invariant-loop decreases-loop) → Made 6 16 (line_sum c.before.before.before.before.before.before.before.before.before.before.before.before.before.before.before.deal-in-loop-l-4.new.a 0 2 odd-32-16 32 8) c.some-in-loop-l-7.new.out
+made-32-6 c = made-next 6 (omega arith) (made-32-4 c.before.before.before.before.before) c.some-in-loop-l-7.ensures
 
-made-32-8 : (c : tie.After-some9 invariant-loop decreases-loop) → Made 8 16 (line_sum c.before.before.before.before.before.before.before.before.before.before.before.before.before.before.before.before.before.before.before.before.deal5.new.1.1.1.1.0 0 2 odd-32-16 32 8) c.some9.new.1.1.1.1.1.1.0
-made-32-8 c = made-next 8 (omega arith) (made-32-6 c.before.before.before.before.before) c.some9.ensures
+made-32-8 : (c : tie.After-some-in-loop-l-8 invariant-loop decreases-loop) → Made 8 16 (line_sum c.before.before.before.before.before.before.before.before.before.before.before.before.before.before.before.before.before.before.before.before.deal-in-loop-l-4.new.a 0 2 odd-32-16 32 8) c.some-in-loop-l-8.new.out
+made-32-8 c = made-next 8 (omega arith) (made-32-6 c.before.before.before.before.before) c.some-in-loop-l-8.ensures
 
-made-32-10 : (c : tie.After-some10 invariant-loop decreases-loop) → Made 10 16 (line_sum c.before.before.before.before.before.before.before.before.before.before.before.before.before.before.before.before.before.before.before.before.before.before.before.before.before.deal5.new.1.1.1.1.0 0 2 odd-32-16 32 8) c.some10.new.1.1.1.1.1.1.0
-made-32-10 c = made-next 10 (omega arith) (made-32-8 c.before.before.before.before.before) c.some10.ensures
+made-32-10 : (c : tie.After-some-in-loop-l-9 invariant-loop decreases-loop) → Made 10 16 (line_sum c.before.before.before.before.before.before.before.before.before.before.before.before.before.before.before.before.before.before.before.before.before.before.before.before.before.deal-in-loop-l-4.new.a 0 2 odd-32-16 32 8) c.some-in-loop-l-9.new.out
+made-32-10 c = made-next 10 (omega arith) (made-32-8 c.before.before.before.before.before) c.some-in-loop-l-9.ensures
 
-made-32-12 : (c : tie.After-some11 invariant-loop decreases-loop) → Made 12 16 (line_sum c.before.before.before.before.before.before.before.before.before.before.before.before.before.before.before.before.before.before.before.before.before.before.before.before.before.before.before.before.before.before.deal5.new.1.1.1.1.0 0 2 odd-32-16 32 8) c.some11.new.1.1.1.1.1.1.0
-made-32-12 c = made-next 12 (omega arith) (made-32-10 c.before.before.before.before.before) c.some11.ensures
+made-32-12 : (c : tie.After-some-in-loop-l-10 invariant-loop decreases-loop) → Made 12 16 (line_sum c.before.before.before.before.before.before.before.before.before.before.before.before.before.before.before.before.before.before.before.before.before.before.before.before.before.before.before.before.before.before.deal-in-loop-l-4.new.a 0 2 odd-32-16 32 8) c.some-in-loop-l-10.new.out
+made-32-12 c = made-next 12 (omega arith) (made-32-10 c.before.before.before.before.before) c.some-in-loop-l-10.ensures
 
-made-32-14 : (c : tie.After-some12 invariant-loop decreases-loop) → Made 14 16 (line_sum c.before.before.before.before.before.before.before.before.before.before.before.before.before.before.before.before.before.before.before.before.before.before.before.before.before.before.before.before.before.before.before.before.before.before.before.deal5.new.1.1.1.1.0 0 2 odd-32-16 32 8) c.some12.new.1.1.1.1.1.1.0
-made-32-14 c = made-next 14 (omega arith) (made-32-12 c.before.before.before.before.before) c.some12.ensures
+made-32-14 : (c : tie.After-some-in-loop-l-11 invariant-loop decreases-loop) → Made 14 16 (line_sum c.before.before.before.before.before.before.before.before.before.before.before.before.before.before.before.before.before.before.before.before.before.before.before.before.before.before.before.before.before.before.before.before.before.before.before.deal-in-loop-l-4.new.a 0 2 odd-32-16 32 8) c.some-in-loop-l-11.new.out
+made-32-14 c = made-next 14 (omega arith) (made-32-12 c.before.before.before.before.before) c.some-in-loop-l-11.ensures
 
-made-32-16 : (c : tie.After-some13 invariant-loop decreases-loop) → Made 16 16 (line_sum c.before.before.before.before.before.before.before.before.before.before.before.before.before.before.before.before.before.before.before.before.before.before.before.before.before.before.before.before.before.before.before.before.before.before.before.before.before.before.before.before.deal5.new.1.1.1.1.0 0 2 odd-32-16 32 8) c.some13.new.1.1.1.1.1.1.0
-made-32-16 c = made-next 16 (omega arith) (made-32-14 c.before.before.before.before.before) c.some13.ensures
+made-32-16 : (c : tie.After-some-in-loop-l-12 invariant-loop decreases-loop) → Made 16 16 (line_sum c.before.before.before.before.before.before.before.before.before.before.before.before.before.before.before.before.before.before.before.before.before.before.before.before.before.before.before.before.before.before.before.before.before.before.before.before.before.before.before.before.deal-in-loop-l-4.new.a 0 2 odd-32-16 32 8) c.some-in-loop-l-12.new.out
+made-32-16 c = made-next 16 (omega arith) (made-32-14 c.before.before.before.before.before) c.some-in-loop-l-12.ensures
 
-level-32 : (c : tie.After-butterfly4 invariant-loop decreases-loop) → Sums 32 32 (half (start (inputs-butterfly4 c))) (at (inputs (inputs-butterfly4 c))) 5 c.butterfly4.new.1.1.1.1.1.0
-level-32 c = up {x = at (inputs (inputs-butterfly4 c))} halves-32 (omega arith) odd-32-16-right (dealt-32 c.before.before.before.before.before.before.before.before.before.before.before.before.before.before.before.before.before.before.before.before.before.before.before.before.before.before.before.before.before.before.before.before.before.before.before.before.before.before.before.before.before.before.before.before.before) (level-16 c.before.before.before.before.before.before.before.before.before.before.before.before.before.before.before.before.before.before.before.before.before.before.before.before.before.before.before.before.before.before.before.before.before.before.before.before.before.before.before.before.before.before.before.before.before.before.before.before.before) (made-32-16 c.before.before.before.before.before) c.butterfly4.ensures
+level-32 : (c : tie.After-butterfly-in-loop-l-3 invariant-loop decreases-loop) → Sums 32 32 (half (start (inputs-butterfly4 c))) (at (inputs (inputs-butterfly4 c))) 5 c.butterfly-in-loop-l-3.new.out
+level-32 c = up {x = at (inputs (inputs-butterfly4 c))} halves-32 (omega arith) odd-32-16-right (dealt-32 c.before.before.before.before.before.before.before.before.before.before.before.before.before.before.before.before.before.before.before.before.before.before.before.before.before.before.before.before.before.before.before.before.before.before.before.before.before.before.before.before.before.before.before.before.before) (level-16 c.before.before.before.before.before.before.before.before.before.before.before.before.before.before.before.before.before.before.before.before.before.before.before.before.before.before.before.before.before.before.before.before.before.before.before.before.before.before.before.before.before.before.before.before.before.before.before.before.before) (made-32-16 c.before.before.before.before.before) c.butterfly-in-loop-l-3.ensures
 
 abbrev value : tie.Start invariant-loop decreases-loop → ℕ → ℕ → ℤ
 value c = λ j l. shifted (half c) c.args.shift (rows_sum 32 32 8 c.args.apart c.args.m.now j l)
 
-row-0 : (c : tie.After-round invariant-loop decreases-loop) → WroteFrom 0 (8 * ((turn (inputs-round c)).before.loop.l + 1)) c.round.new.1.1.1.1.1.1.0 (replicate 64 (pos 0)) (tiled 8 (value (start (inputs-round c))) 0)
-row-0 c = round-next (start (inputs-round c)).args.shift 8 (start (inputs-round c)).args.apart (turn (inputs-round c)).before.loop.l (start (inputs-round c)).args.m.now (gathered-32 (inputs-round c)) (level-32 c.before.before.before.before) 0 (omega arith) (turn (inputs-round c)).before.loop.inv.1.0 c.round.ensures
+row-0 : (c : tie.After-round invariant-loop decreases-loop) → WroteFrom 0 (8 * ((turn (inputs-round c)).before.loop-l.l + 1)) c.round.new.r (replicate 64 (pos 0)) (tiled 8 (value (start (inputs-round c))) 0)
+row-0 c = round-next (start (inputs-round c)).args.shift 8 (start (inputs-round c)).args.apart (turn (inputs-round c)).before.loop-l.l (start (inputs-round c)).args.m.now (gathered-32 (inputs-round c)) (level-32 c.before.before.before.before) 0 (omega arith) (turn (inputs-round c)).before.loop-l.invariant.1.0 c.round.ensures
 
-row-8 : (c : tie.After-round2 invariant-loop decreases-loop) → WroteFrom 0 (8 * ((turn (inputs-round2 c)).before.loop.l + 1)) c.round2.new.1.1.1.1.1.1.0 (replicate 64 (pos 0)) (tiled 8 (value (start (inputs-round2 c))) 8)
-row-8 c = round-next (start (inputs-round2 c)).args.shift 8 (start (inputs-round2 c)).args.apart (turn (inputs-round2 c)).before.loop.l (start (inputs-round2 c)).args.m.now (gathered-32 (inputs-round2 c)) (level-32 c.before.before.before.before.before.before.before.before) 8 (omega arith) (turn (inputs-round2 c)).before.loop.inv.1.1.0 c.round2.ensures
+row-8 : (c : tie.After-round-in-loop-l invariant-loop decreases-loop) → WroteFrom 0 (8 * ((turn (inputs-round2 c)).before.loop-l.l + 1)) c.round-in-loop-l.new.r (replicate 64 (pos 0)) (tiled 8 (value (start (inputs-round2 c))) 8)
+row-8 c = round-next (start (inputs-round2 c)).args.shift 8 (start (inputs-round2 c)).args.apart (turn (inputs-round2 c)).before.loop-l.l (start (inputs-round2 c)).args.m.now (gathered-32 (inputs-round2 c)) (level-32 c.before.before.before.before.before.before.before.before) 8 (omega arith) (turn (inputs-round2 c)).before.loop-l.invariant.1.1.0 c.round-in-loop-l.ensures
 
-row-16 : (c : tie.After-round3 invariant-loop decreases-loop) → WroteFrom 0 (8 * ((turn (inputs-round3 c)).before.loop.l + 1)) c.round3.new.1.1.1.1.1.1.0 (replicate 64 (pos 0)) (tiled 8 (value (start (inputs-round3 c))) 16)
-row-16 c = round-next (start (inputs-round3 c)).args.shift 8 (start (inputs-round3 c)).args.apart (turn (inputs-round3 c)).before.loop.l (start (inputs-round3 c)).args.m.now (gathered-32 (inputs-round3 c)) (level-32 c.before.before.before.before.before.before.before.before.before.before.before.before) 16 (omega arith) (turn (inputs-round3 c)).before.loop.inv.1.1.1.0 c.round3.ensures
+row-16 : (c : tie.After-round-in-loop-l-2 invariant-loop decreases-loop) → WroteFrom 0 (8 * ((turn (inputs-round3 c)).before.loop-l.l + 1)) c.round-in-loop-l-2.new.r (replicate 64 (pos 0)) (tiled 8 (value (start (inputs-round3 c))) 16)
+row-16 c = round-next (start (inputs-round3 c)).args.shift 8 (start (inputs-round3 c)).args.apart (turn (inputs-round3 c)).before.loop-l.l (start (inputs-round3 c)).args.m.now (gathered-32 (inputs-round3 c)) (level-32 c.before.before.before.before.before.before.before.before.before.before.before.before) 16 (omega arith) (turn (inputs-round3 c)).before.loop-l.invariant.1.1.1.0 c.round-in-loop-l-2.ensures
 
-row-24 : (c : tie.After-round4 invariant-loop decreases-loop) → WroteFrom 0 (8 * ((turn (inputs-round4 c)).before.loop.l + 1)) c.round4.new.1.1.1.1.1.1.0 (replicate 64 (pos 0)) (tiled 8 (value (start (inputs-round4 c))) 24)
-row-24 c = round-next (start (inputs-round4 c)).args.shift 8 (start (inputs-round4 c)).args.apart (turn (inputs-round4 c)).before.loop.l (start (inputs-round4 c)).args.m.now (gathered-32 (inputs-round4 c)) (level-32 c.before.before.before.before.before.before.before.before.before.before.before.before.before.before.before.before) 24 (omega arith) (turn (inputs-round4 c)).before.loop.inv.1.1.1.1 c.round4.ensures
+row-24 : (c : tie.After-round-in-loop-l-3 invariant-loop decreases-loop) → WroteFrom 0 (8 * ((turn (inputs-round4 c)).before.loop-l.l + 1)) c.round-in-loop-l-3.new.r (replicate 64 (pos 0)) (tiled 8 (value (start (inputs-round4 c))) 24)
+row-24 c = round-next (start (inputs-round4 c)).args.shift 8 (start (inputs-round4 c)).args.apart (turn (inputs-round4 c)).before.loop-l.l (start (inputs-round4 c)).args.m.now (gathered-32 (inputs-round4 c)) (level-32 c.before.before.before.before.before.before.before.before.before.before.before.before.before.before.before.before) 24 (omega arith) (turn (inputs-round4 c)).before.loop-l.invariant.1.1.1.1 c.round-in-loop-l-3.ensures
 
-columns-8 : (c : tie.After-spread-8-8 invariant-loop decreases-loop) → Columns 8 8 32 (value c.before.before.before.before.before) c.spread-8-8.new.1.1.1.0
-columns-8 c = columns-next (columns-none _ c.before.before.before.before.before.requires.1) (wrote-to 64 (omega (arith, c.before.before.before.before.loop.invariant.0, c.before.before.before.loop-test.false)) c.before.before.before.before.loop.invariant.1.0) c.spread-8-8.ensures
+columns-8 : (c : tie.After-spread_8_8 invariant-loop decreases-loop) → Columns 8 8 32 (value c.before.before.before.before.before) c.spread_8_8.new.r
+columns-8 c = columns-next (columns-none _ c.before.before.before.before.before.requires.1) (wrote-to 64 (omega (arith, c.before.before.before.before.loop-l.invariant.0, c.before.before.before.loop-l-test.false)) c.before.before.before.before.loop-l.invariant.1.0) c.spread_8_8.ensures
 
-columns-16 : (c : tie.After-spread-8-82 invariant-loop decreases-loop) → Columns 16 8 32 (value c.before.before.before.before.before.before.before.before.before) c.spread-8-82.new.1.1.1.0
-columns-16 c = columns-next (columns-8 c.before.before.before.before) (wrote-to 64 (omega (arith, c.before.before.before.before.before.before.before.before.loop.invariant.0, c.before.before.before.before.before.before.before.loop-test.false)) c.before.before.before.before.before.before.before.before.loop.invariant.1.1.0) c.spread-8-82.ensures
+columns-16 : (c : tie.After-spread_8_8-2 invariant-loop decreases-loop) → Columns 16 8 32 (value c.before.before.before.before.before.before.before.before.before) c.spread_8_8-2.new.r
+columns-16 c = columns-next (columns-8 c.before.before.before.before) (wrote-to 64 (omega (arith, c.before.before.before.before.before.before.before.before.loop-l.invariant.0, c.before.before.before.before.before.before.before.loop-l-test.false)) c.before.before.before.before.before.before.before.before.loop-l.invariant.1.1.0) c.spread_8_8-2.ensures
 
-columns-24 : (c : tie.After-spread-8-83 invariant-loop decreases-loop) → Columns 24 8 32 (value c.before.before.before.before.before.before.before.before.before.before.before.before.before) c.spread-8-83.new.1.1.1.0
-columns-24 c = columns-next (columns-16 c.before.before.before.before) (wrote-to 64 (omega (arith, c.before.before.before.before.before.before.before.before.before.before.before.before.loop.invariant.0, c.before.before.before.before.before.before.before.before.before.before.before.loop-test.false)) c.before.before.before.before.before.before.before.before.before.before.before.before.loop.invariant.1.1.1.0) c.spread-8-83.ensures
+columns-24 : (c : tie.After-spread_8_8-3 invariant-loop decreases-loop) → Columns 24 8 32 (value c.before.before.before.before.before.before.before.before.before.before.before.before.before) c.spread_8_8-3.new.r
+columns-24 c = columns-next (columns-16 c.before.before.before.before) (wrote-to 64 (omega (arith, c.before.before.before.before.before.before.before.before.before.before.before.before.loop-l.invariant.0, c.before.before.before.before.before.before.before.before.before.before.before.loop-l-test.false)) c.before.before.before.before.before.before.before.before.before.before.before.before.loop-l.invariant.1.1.1.0) c.spread_8_8-3.ensures
 
-columns-32 : (c : tie.After-spread-8-84 invariant-loop decreases-loop) → Columns 32 8 32 (value c.before.before.before.before.before.before.before.before.before.before.before.before.before.before.before.before.before) c.spread-8-84.new.1.1.1.0
-columns-32 c = columns-next (columns-24 c.before.before.before.before) (wrote-to 64 (omega (arith, c.before.before.before.before.before.before.before.before.before.before.before.before.before.before.before.before.loop.invariant.0, c.before.before.before.before.before.before.before.before.before.before.before.before.before.before.before.loop-test.false)) c.before.before.before.before.before.before.before.before.before.before.before.before.before.before.before.before.loop.invariant.1.1.1.1) c.spread-8-84.ensures
+columns-32 : (c : tie.After-spread_8_8-4 invariant-loop decreases-loop) → Columns 32 8 32 (value c.before.before.before.before.before.before.before.before.before.before.before.before.before.before.before.before.before) c.spread_8_8-4.new.r
+columns-32 c = columns-next (columns-24 c.before.before.before.before) (wrote-to 64 (omega (arith, c.before.before.before.before.before.before.before.before.before.before.before.before.before.before.before.before.loop-l.invariant.0, c.before.before.before.before.before.before.before.before.before.before.before.before.before.before.before.loop-l-test.false)) c.before.before.before.before.before.before.before.before.before.before.before.before.before.before.before.before.loop-l.invariant.1.1.1.1) c.spread_8_8-4.ensures
 
-loop-holds : tie.Need-loop-init invariant-loop decreases-loop
+loop-holds : tie.Need-loop-l-init invariant-loop decreases-loop
 loop-holds c = (omega arith, (wrote-to _ (omega arith) (wrote_none 0 _ _), (wrote-to _ (omega arith) (wrote_none 0 _ _), (wrote-to _ (omega arith) (wrote_none 0 _ _), wrote-to _ (omega arith) (wrote_none 0 _ _)))))
 
-mul-take : tie.Need-overflow-mul-take invariant-loop decreases-loop
-mul-take c = omega (arith, group-there c.before.before.requires.0 0 c.before.loop.l c.loop-test.true 0 (omega arith) (omega arith))
+mul-take : tie.Need-offset_bounds-m-i0 invariant-loop decreases-loop
+mul-take c = omega (arith, group-there c.before.before.requires.0 0 c.before.loop-l.l c.loop-l-test.true 0 (omega arith) (omega arith))
 
-sub-take : tie.Need-overflow-sub-take invariant-loop decreases-loop
-sub-take c = omega (arith, group-there c.before.before.requires.0 0 c.before.loop.l c.loop-test.true 0 (omega arith) (omega arith))
+sub-take : tie.Need-slice_bounds-take-count invariant-loop decreases-loop
+sub-take c = omega (arith, group-there c.before.before.requires.0 0 c.before.loop-l.l c.loop-l-test.true 0 (omega arith) (omega arith))
 
-part-take-start : tie.Need-slice-bounds-take-start invariant-loop decreases-loop
-part-take-start c = omega (arith, group-there c.before.before.requires.0 0 c.before.loop.l c.loop-test.true 0 (omega arith) (omega arith))
+part-take-start : tie.Need-slice_bounds-take-start invariant-loop decreases-loop
+part-take-start c = omega (arith, group-there c.before.before.requires.0 0 c.before.loop-l.l c.loop-l-test.true 0 (omega arith) (omega arith))
 
-part-take-end : tie.Need-slice-bounds-take-end invariant-loop decreases-loop
-part-take-end c = omega (arith, group-there c.before.before.requires.0 0 c.before.loop.l c.loop-test.true 0 (omega arith) (omega arith))
+part-take-end : tie.Need-slice_bounds-take-end invariant-loop decreases-loop
+part-take-end c = omega (arith, group-there c.before.before.requires.0 0 c.before.loop-l.l c.loop-l-test.true 0 (omega arith) (omega arith))
 
-slice-aggregate-take : tie.Need-slice-aggregate-take invariant-loop decreases-loop
+slice-aggregate-take : tie.Need-slice_bounds-take-end-in-loop-l invariant-loop decreases-loop
 slice-aggregate-take c = refl
 
 take-requires : tie.Need-take-requires invariant-loop decreases-loop
-take-requires c κs = (omega arith, λ i h. group-room c.before.before.before.before.requires.0 0 c.before.before.before.loop.l c.before.before.loop-test.true _ i (omega arith) (omega arith) (omega arith))
+take-requires c κs = (omega arith, λ i h. group-room c.before.before.before.before.requires.0 0 c.before.before.before.loop-l.l c.before.before.loop-l-test.true _ i (omega arith) (omega arith) (omega arith))
 
-mul-i8 : tie.Need-overflow-mul-i8 invariant-loop decreases-loop
-mul-i8 c = omega (arith, group-there c.before.before.before.before.before.before.requires.0 1 c.before.before.before.before.before.loop.l c.before.before.before.before.loop-test.true 0 (omega arith) (omega arith))
+mul-i8 : tie.Need-overflow_mul-i8 invariant-loop decreases-loop
+mul-i8 c = omega (arith, group-there c.before.before.before.before.before.before.requires.0 1 c.before.before.before.before.before.loop-l.l c.before.before.before.before.loop-l-test.true 0 (omega arith) (omega arith))
 
-add-i8 : tie.Need-overflow-add-i8 invariant-loop decreases-loop
-add-i8 c = omega (arith, group-there c.before.before.before.before.before.before.requires.0 1 c.before.before.before.before.before.loop.l c.before.before.before.before.loop-test.true 0 (omega arith) (omega arith))
+add-i8 : tie.Need-overflow_add-i8 invariant-loop decreases-loop
+add-i8 c = omega (arith, group-there c.before.before.before.before.before.before.requires.0 1 c.before.before.before.before.before.loop-l.l c.before.before.before.before.loop-l-test.true 0 (omega arith) (omega arith))
 
-mul-take-2 : tie.Need-overflow-mul-take-2 invariant-loop decreases-loop
-mul-take-2 c = omega (arith, group-there c.before.before.before.before.before.before.requires.0 1 c.before.before.before.before.before.loop.l c.before.before.before.before.loop-test.true 0 (omega arith) (omega arith))
+mul-take-2 : tie.Need-offset_bounds-m-i8 invariant-loop decreases-loop
+mul-take-2 c = omega (arith, group-there c.before.before.before.before.before.before.requires.0 1 c.before.before.before.before.before.loop-l.l c.before.before.before.before.loop-l-test.true 0 (omega arith) (omega arith))
 
-sub-take-2 : tie.Need-overflow-sub-take-2 invariant-loop decreases-loop
-sub-take-2 c = omega (arith, group-there c.before.before.before.before.before.before.requires.0 1 c.before.before.before.before.before.loop.l c.before.before.before.before.loop-test.true 0 (omega arith) (omega arith))
+sub-take-2 : tie.Need-slice_bounds-take-count-in-loop-l invariant-loop decreases-loop
+sub-take-2 c = omega (arith, group-there c.before.before.before.before.before.before.requires.0 1 c.before.before.before.before.before.loop-l.l c.before.before.before.before.loop-l-test.true 0 (omega arith) (omega arith))
 
-part-take-start-2 : tie.Need-slice-bounds-take-start-2 invariant-loop decreases-loop
-part-take-start-2 c = omega (arith, group-there c.before.before.before.before.before.before.requires.0 1 c.before.before.before.before.before.loop.l c.before.before.before.before.loop-test.true 0 (omega arith) (omega arith))
+part-take-start-2 : tie.Need-slice_bounds-take-start-in-loop-l invariant-loop decreases-loop
+part-take-start-2 c = omega (arith, group-there c.before.before.before.before.before.before.requires.0 1 c.before.before.before.before.before.loop-l.l c.before.before.before.before.loop-l-test.true 0 (omega arith) (omega arith))
 
-part-take-end-2 : tie.Need-slice-bounds-take-end-2 invariant-loop decreases-loop
-part-take-end-2 c = omega (arith, group-there c.before.before.before.before.before.before.requires.0 1 c.before.before.before.before.before.loop.l c.before.before.before.before.loop-test.true 0 (omega arith) (omega arith))
+part-take-end-2 : tie.Need-slice_bounds-take-end-in-loop-l-2 invariant-loop decreases-loop
+part-take-end-2 c = omega (arith, group-there c.before.before.before.before.before.before.requires.0 1 c.before.before.before.before.before.loop-l.l c.before.before.before.before.loop-l-test.true 0 (omega arith) (omega arith))
 
-slice-aggregate-take-2 : tie.Need-slice-aggregate-take-2 invariant-loop decreases-loop
+slice-aggregate-take-2 : tie.Need-slice_bounds-take-end-in-loop-l-3 invariant-loop decreases-loop
 slice-aggregate-take-2 c = sym (gathered-8 c.before.before.before).long
 
-take-requires-2 : tie.Need-take-requires-2 invariant-loop decreases-loop
-take-requires-2 c κs = (omega (arith, (gathered-8 c.before.before.before).long), λ i h. group-room c.before.before.before.before.before.before.before.before.requires.0 1 c.before.before.before.before.before.before.before.loop.l c.before.before.before.before.before.before.loop-test.true _ i (omega arith) (omega arith) (omega arith))
+take-requires-2 : tie.Need-take-requires-in-loop-l invariant-loop decreases-loop
+take-requires-2 c κs = (omega (arith, (gathered-8 c.before.before.before).long), λ i h. group-room c.before.before.before.before.before.before.before.before.requires.0 1 c.before.before.before.before.before.before.before.loop-l.l c.before.before.before.before.before.before.loop-l-test.true _ i (omega arith) (omega arith) (omega arith))
 
-mul-i16 : tie.Need-overflow-mul-i16 invariant-loop decreases-loop
-mul-i16 c = omega (arith, group-there c.before.before.before.before.before.before.before.before.before.before.requires.0 2 c.before.before.before.before.before.before.before.before.before.loop.l c.before.before.before.before.before.before.before.before.loop-test.true 0 (omega arith) (omega arith))
+mul-i16 : tie.Need-overflow_mul-i16 invariant-loop decreases-loop
+mul-i16 c = omega (arith, group-there c.before.before.before.before.before.before.before.before.before.before.requires.0 2 c.before.before.before.before.before.before.before.before.before.loop-l.l c.before.before.before.before.before.before.before.before.loop-l-test.true 0 (omega arith) (omega arith))
 
-add-i16 : tie.Need-overflow-add-i16 invariant-loop decreases-loop
-add-i16 c = omega (arith, group-there c.before.before.before.before.before.before.before.before.before.before.requires.0 2 c.before.before.before.before.before.before.before.before.before.loop.l c.before.before.before.before.before.before.before.before.loop-test.true 0 (omega arith) (omega arith))
+add-i16 : tie.Need-overflow_add-i16 invariant-loop decreases-loop
+add-i16 c = omega (arith, group-there c.before.before.before.before.before.before.before.before.before.before.requires.0 2 c.before.before.before.before.before.before.before.before.before.loop-l.l c.before.before.before.before.before.before.before.before.loop-l-test.true 0 (omega arith) (omega arith))
 
-mul-take-3 : tie.Need-overflow-mul-take-3 invariant-loop decreases-loop
-mul-take-3 c = omega (arith, group-there c.before.before.before.before.before.before.before.before.before.before.requires.0 2 c.before.before.before.before.before.before.before.before.before.loop.l c.before.before.before.before.before.before.before.before.loop-test.true 0 (omega arith) (omega arith))
+mul-take-3 : tie.Need-offset_bounds-m-i16 invariant-loop decreases-loop
+mul-take-3 c = omega (arith, group-there c.before.before.before.before.before.before.before.before.before.before.requires.0 2 c.before.before.before.before.before.before.before.before.before.loop-l.l c.before.before.before.before.before.before.before.before.loop-l-test.true 0 (omega arith) (omega arith))
 
-sub-take-3 : tie.Need-overflow-sub-take-3 invariant-loop decreases-loop
-sub-take-3 c = omega (arith, group-there c.before.before.before.before.before.before.before.before.before.before.requires.0 2 c.before.before.before.before.before.before.before.before.before.loop.l c.before.before.before.before.before.before.before.before.loop-test.true 0 (omega arith) (omega arith))
+sub-take-3 : tie.Need-slice_bounds-take-count-in-loop-l-2 invariant-loop decreases-loop
+sub-take-3 c = omega (arith, group-there c.before.before.before.before.before.before.before.before.before.before.requires.0 2 c.before.before.before.before.before.before.before.before.before.loop-l.l c.before.before.before.before.before.before.before.before.loop-l-test.true 0 (omega arith) (omega arith))
 
-part-take-start-3 : tie.Need-slice-bounds-take-start-3 invariant-loop decreases-loop
-part-take-start-3 c = omega (arith, group-there c.before.before.before.before.before.before.before.before.before.before.requires.0 2 c.before.before.before.before.before.before.before.before.before.loop.l c.before.before.before.before.before.before.before.before.loop-test.true 0 (omega arith) (omega arith))
+part-take-start-3 : tie.Need-slice_bounds-take-start-in-loop-l-2 invariant-loop decreases-loop
+part-take-start-3 c = omega (arith, group-there c.before.before.before.before.before.before.before.before.before.before.requires.0 2 c.before.before.before.before.before.before.before.before.before.loop-l.l c.before.before.before.before.before.before.before.before.loop-l-test.true 0 (omega arith) (omega arith))
 
-part-take-end-3 : tie.Need-slice-bounds-take-end-3 invariant-loop decreases-loop
-part-take-end-3 c = omega (arith, group-there c.before.before.before.before.before.before.before.before.before.before.requires.0 2 c.before.before.before.before.before.before.before.before.before.loop.l c.before.before.before.before.before.before.before.before.loop-test.true 0 (omega arith) (omega arith))
+part-take-end-3 : tie.Need-slice_bounds-take-end-in-loop-l-4 invariant-loop decreases-loop
+part-take-end-3 c = omega (arith, group-there c.before.before.before.before.before.before.before.before.before.before.requires.0 2 c.before.before.before.before.before.before.before.before.before.loop-l.l c.before.before.before.before.before.before.before.before.loop-l-test.true 0 (omega arith) (omega arith))
 
-slice-aggregate-take-3 : tie.Need-slice-aggregate-take-3 invariant-loop decreases-loop
+slice-aggregate-take-3 : tie.Need-slice_bounds-take-end-in-loop-l-5 invariant-loop decreases-loop
 slice-aggregate-take-3 c = sym (gathered-16 c.before.before.before).long
 
-take-requires-3 : tie.Need-take-requires-3 invariant-loop decreases-loop
-take-requires-3 c κs = (omega (arith, (gathered-16 c.before.before.before).long), λ i h. group-room c.before.before.before.before.before.before.before.before.before.before.before.before.requires.0 2 c.before.before.before.before.before.before.before.before.before.before.before.loop.l c.before.before.before.before.before.before.before.before.before.before.loop-test.true _ i (omega arith) (omega arith) (omega arith))
+take-requires-3 : tie.Need-take-requires-in-loop-l-2 invariant-loop decreases-loop
+take-requires-3 c κs = (omega (arith, (gathered-16 c.before.before.before).long), λ i h. group-room c.before.before.before.before.before.before.before.before.before.before.before.before.requires.0 2 c.before.before.before.before.before.before.before.before.before.before.before.loop-l.l c.before.before.before.before.before.before.before.before.before.before.loop-l-test.true _ i (omega arith) (omega arith) (omega arith))
 
-mul-i24 : tie.Need-overflow-mul-i24 invariant-loop decreases-loop
-mul-i24 c = omega (arith, group-there c.before.before.before.before.before.before.before.before.before.before.before.before.before.before.requires.0 3 c.before.before.before.before.before.before.before.before.before.before.before.before.before.loop.l c.before.before.before.before.before.before.before.before.before.before.before.before.loop-test.true 0 (omega arith) (omega arith))
+mul-i24 : tie.Need-overflow_mul-i24 invariant-loop decreases-loop
+mul-i24 c = omega (arith, group-there c.before.before.before.before.before.before.before.before.before.before.before.before.before.before.requires.0 3 c.before.before.before.before.before.before.before.before.before.before.before.before.before.loop-l.l c.before.before.before.before.before.before.before.before.before.before.before.before.loop-l-test.true 0 (omega arith) (omega arith))
 
-add-i24 : tie.Need-overflow-add-i24 invariant-loop decreases-loop
-add-i24 c = omega (arith, group-there c.before.before.before.before.before.before.before.before.before.before.before.before.before.before.requires.0 3 c.before.before.before.before.before.before.before.before.before.before.before.before.before.loop.l c.before.before.before.before.before.before.before.before.before.before.before.before.loop-test.true 0 (omega arith) (omega arith))
+add-i24 : tie.Need-overflow_add-i24 invariant-loop decreases-loop
+add-i24 c = omega (arith, group-there c.before.before.before.before.before.before.before.before.before.before.before.before.before.before.requires.0 3 c.before.before.before.before.before.before.before.before.before.before.before.before.before.loop-l.l c.before.before.before.before.before.before.before.before.before.before.before.before.loop-l-test.true 0 (omega arith) (omega arith))
 
-mul-take-4 : tie.Need-overflow-mul-take-4 invariant-loop decreases-loop
-mul-take-4 c = omega (arith, group-there c.before.before.before.before.before.before.before.before.before.before.before.before.before.before.requires.0 3 c.before.before.before.before.before.before.before.before.before.before.before.before.before.loop.l c.before.before.before.before.before.before.before.before.before.before.before.before.loop-test.true 0 (omega arith) (omega arith))
+mul-take-4 : tie.Need-offset_bounds-m-i24 invariant-loop decreases-loop
+mul-take-4 c = omega (arith, group-there c.before.before.before.before.before.before.before.before.before.before.before.before.before.before.requires.0 3 c.before.before.before.before.before.before.before.before.before.before.before.before.before.loop-l.l c.before.before.before.before.before.before.before.before.before.before.before.before.loop-l-test.true 0 (omega arith) (omega arith))
 
-sub-take-4 : tie.Need-overflow-sub-take-4 invariant-loop decreases-loop
-sub-take-4 c = omega (arith, group-there c.before.before.before.before.before.before.before.before.before.before.before.before.before.before.requires.0 3 c.before.before.before.before.before.before.before.before.before.before.before.before.before.loop.l c.before.before.before.before.before.before.before.before.before.before.before.before.loop-test.true 0 (omega arith) (omega arith))
+sub-take-4 : tie.Need-slice_bounds-take-count-in-loop-l-3 invariant-loop decreases-loop
+sub-take-4 c = omega (arith, group-there c.before.before.before.before.before.before.before.before.before.before.before.before.before.before.requires.0 3 c.before.before.before.before.before.before.before.before.before.before.before.before.before.loop-l.l c.before.before.before.before.before.before.before.before.before.before.before.before.loop-l-test.true 0 (omega arith) (omega arith))
 
-part-take-start-4 : tie.Need-slice-bounds-take-start-4 invariant-loop decreases-loop
-part-take-start-4 c = omega (arith, group-there c.before.before.before.before.before.before.before.before.before.before.before.before.before.before.requires.0 3 c.before.before.before.before.before.before.before.before.before.before.before.before.before.loop.l c.before.before.before.before.before.before.before.before.before.before.before.before.loop-test.true 0 (omega arith) (omega arith))
+part-take-start-4 : tie.Need-slice_bounds-take-start-in-loop-l-3 invariant-loop decreases-loop
+part-take-start-4 c = omega (arith, group-there c.before.before.before.before.before.before.before.before.before.before.before.before.before.before.requires.0 3 c.before.before.before.before.before.before.before.before.before.before.before.before.before.loop-l.l c.before.before.before.before.before.before.before.before.before.before.before.before.loop-l-test.true 0 (omega arith) (omega arith))
 
-part-take-end-4 : tie.Need-slice-bounds-take-end-4 invariant-loop decreases-loop
-part-take-end-4 c = omega (arith, group-there c.before.before.before.before.before.before.before.before.before.before.before.before.before.before.requires.0 3 c.before.before.before.before.before.before.before.before.before.before.before.before.before.loop.l c.before.before.before.before.before.before.before.before.before.before.before.before.loop-test.true 0 (omega arith) (omega arith))
+part-take-end-4 : tie.Need-slice_bounds-take-end-in-loop-l-6 invariant-loop decreases-loop
+part-take-end-4 c = omega (arith, group-there c.before.before.before.before.before.before.before.before.before.before.before.before.before.before.requires.0 3 c.before.before.before.before.before.before.before.before.before.before.before.before.before.loop-l.l c.before.before.before.before.before.before.before.before.before.before.before.before.loop-l-test.true 0 (omega arith) (omega arith))
 
-slice-aggregate-take-4 : tie.Need-slice-aggregate-take-4 invariant-loop decreases-loop
+slice-aggregate-take-4 : tie.Need-slice_bounds-take-end-in-loop-l-7 invariant-loop decreases-loop
 slice-aggregate-take-4 c = sym (gathered-24 c.before.before.before).long
 
-take-requires-4 : tie.Need-take-requires-4 invariant-loop decreases-loop
-take-requires-4 c κs = (omega (arith, (gathered-24 c.before.before.before).long), λ i h. group-room c.before.before.before.before.before.before.before.before.before.before.before.before.before.before.before.before.requires.0 3 c.before.before.before.before.before.before.before.before.before.before.before.before.before.before.before.loop.l c.before.before.before.before.before.before.before.before.before.before.before.before.before.before.loop-test.true _ i (omega arith) (omega arith) (omega arith))
+take-requires-4 : tie.Need-take-requires-in-loop-l-3 invariant-loop decreases-loop
+take-requires-4 c κs = (omega (arith, (gathered-24 c.before.before.before).long), λ i h. group-room c.before.before.before.before.before.before.before.before.before.before.before.before.before.before.before.before.requires.0 3 c.before.before.before.before.before.before.before.before.before.before.before.before.before.before.before.loop-l.l c.before.before.before.before.before.before.before.before.before.before.before.before.before.before.loop-l-test.true _ i (omega arith) (omega arith) (omega arith))
 
-slice-aggregate-deal : tie.Need-slice-aggregate-deal invariant-loop decreases-loop
+slice-aggregate-deal : tie.Need-slice_bounds-deal-end invariant-loop decreases-loop
 slice-aggregate-deal c = sym (gathered-32 c.before.before).long
 
-slice-aggregate-deal-2 : tie.Need-slice-aggregate-deal-2 invariant-loop decreases-loop
+slice-aggregate-deal-2 : tie.Need-slice_bounds-deal-end-in-loop-l invariant-loop decreases-loop
 slice-aggregate-deal-2 c = refl
 
 deal-requires : tie.Need-deal-requires invariant-loop decreases-loop
 deal-requires c κs = (omega arith, λ i l. omega (arith, (gathered-32 c.before.before.before).long))
 
-slice-aggregate-some : tie.Need-slice-aggregate-some invariant-loop decreases-loop
+slice-aggregate-some : tie.Need-slice_bounds-some-end invariant-loop decreases-loop
 slice-aggregate-some c = sym (dealt-2 c.before.before).long
 
-slice-aggregate-some-2 : tie.Need-slice-aggregate-some-2 invariant-loop decreases-loop
+slice-aggregate-some-2 : tie.Need-slice_bounds-some-end-in-loop-l invariant-loop decreases-loop
 slice-aggregate-some-2 c = refl
 
-slice-aggregate-some-3 : tie.Need-slice-aggregate-some-3 invariant-loop decreases-loop
+slice-aggregate-some-3 : tie.Need-slice_bounds-some-end-in-loop-l-2 invariant-loop decreases-loop
 slice-aggregate-some-3 c = refl
 
 some-requires : tie.Need-some-requires invariant-loop decreases-loop
 some-requires c κs = (weighed first-2-2-right (dealt-2 c.before.before.before.before) 2 (omega arith), (omega arith, omega arith))
 
-slice-aggregate-lift : tie.Need-slice-aggregate-lift invariant-loop decreases-loop
+slice-aggregate-lift : tie.Need-slice_bounds-lift-end invariant-loop decreases-loop
 slice-aggregate-lift c = sym (made-2-2 c.before.before).long
 
 lift-requires : tie.Need-lift-requires invariant-loop decreases-loop
 lift-requires c κs = (omega (arith, half-small (start (inputs-some c.before.before))), made-small (made-2-2 c.before.before))
 
-slice-aggregate-deal-3 : tie.Need-slice-aggregate-deal-3 invariant-loop decreases-loop
+slice-aggregate-deal-3 : tie.Need-slice_bounds-deal-end-in-loop-l-2 invariant-loop decreases-loop
 slice-aggregate-deal-3 c = sym (gathered-32 (inputs-lift c.before.before)).long
 
-slice-aggregate-deal-4 : tie.Need-slice-aggregate-deal-4 invariant-loop decreases-loop
+slice-aggregate-deal-4 : tie.Need-slice_bounds-deal-end-in-loop-l-3 invariant-loop decreases-loop
 slice-aggregate-deal-4 c = refl
 
-deal-requires-2 : tie.Need-deal-requires-2 invariant-loop decreases-loop
+deal-requires-2 : tie.Need-deal-requires-in-loop-l invariant-loop decreases-loop
 deal-requires-2 c κs = (omega arith, λ i l. omega (arith, (gathered-32 (inputs-lift c.before.before.before)).long))
 
-slice-aggregate-some-4 : tie.Need-slice-aggregate-some-4 invariant-loop decreases-loop
+slice-aggregate-some-4 : tie.Need-slice_bounds-some-end-in-loop-l-3 invariant-loop decreases-loop
 slice-aggregate-some-4 c = sym (dealt-4 c.before.before).long
 
-slice-aggregate-some-5 : tie.Need-slice-aggregate-some-5 invariant-loop decreases-loop
+slice-aggregate-some-5 : tie.Need-slice_bounds-some-end-in-loop-l-4 invariant-loop decreases-loop
 slice-aggregate-some-5 c = refl
 
-slice-aggregate-some-6 : tie.Need-slice-aggregate-some-6 invariant-loop decreases-loop
+slice-aggregate-some-6 : tie.Need-slice_bounds-some-end-in-loop-l-5 invariant-loop decreases-loop
 slice-aggregate-some-6 c = refl
 
-some-requires-2 : tie.Need-some-requires-2 invariant-loop decreases-loop
+some-requires-2 : tie.Need-some-requires-in-loop-l invariant-loop decreases-loop
 some-requires-2 c κs = (weighed odd-4-2-right (dealt-4 c.before.before.before.before) 2 (omega arith), (omega arith, omega arith))
 
-slice-aggregate-butterfly : tie.Need-slice-aggregate-butterfly invariant-loop decreases-loop
+slice-aggregate-butterfly : tie.Need-slice_bounds-butterfly-end invariant-loop decreases-loop
 slice-aggregate-butterfly c = sym (level-2 c.before.before.before.before.before.before.before.before.before.before.before).long
 
-slice-aggregate-butterfly-2 : tie.Need-slice-aggregate-butterfly-2 invariant-loop decreases-loop
+slice-aggregate-butterfly-2 : tie.Need-slice_bounds-butterfly-end-in-loop-l invariant-loop decreases-loop
 slice-aggregate-butterfly-2 c = sym (made-4-2 c.before.before.before).long
 
-slice-aggregate-butterfly-3 : tie.Need-slice-aggregate-butterfly-3 invariant-loop decreases-loop
+slice-aggregate-butterfly-3 : tie.Need-slice_bounds-butterfly-end-in-loop-l-2 invariant-loop decreases-loop
 slice-aggregate-butterfly-3 c = refl
 
 butterfly-requires : tie.Need-butterfly-requires invariant-loop decreases-loop
 butterfly-requires c κs = (sums-small (omega arith) (level-2 c.before.before.before.before.before.before.before.before.before.before.before.before.before), (made-small (made-4-2 c.before.before.before.before), (omega arith, (omega arith, omega arith))))
 
-slice-aggregate-deal-5 : tie.Need-slice-aggregate-deal-5 invariant-loop decreases-loop
+slice-aggregate-deal-5 : tie.Need-slice_bounds-deal-end-in-loop-l-4 invariant-loop decreases-loop
 slice-aggregate-deal-5 c = sym (gathered-32 (inputs-butterfly c.before.before)).long
 
-slice-aggregate-deal-6 : tie.Need-slice-aggregate-deal-6 invariant-loop decreases-loop
+slice-aggregate-deal-6 : tie.Need-slice_bounds-deal-end-in-loop-l-5 invariant-loop decreases-loop
 slice-aggregate-deal-6 c = refl
 
-deal-requires-3 : tie.Need-deal-requires-3 invariant-loop decreases-loop
+deal-requires-3 : tie.Need-deal-requires-in-loop-l-2 invariant-loop decreases-loop
 deal-requires-3 c κs = (omega arith, λ i l. omega (arith, (gathered-32 (inputs-butterfly c.before.before.before)).long))
 
-slice-aggregate-some-7 : tie.Need-slice-aggregate-some-7 invariant-loop decreases-loop
+slice-aggregate-some-7 : tie.Need-slice_bounds-some-end-in-loop-l-6 invariant-loop decreases-loop
 slice-aggregate-some-7 c = sym (dealt-8 c.before.before).long
 
-slice-aggregate-some-8 : tie.Need-slice-aggregate-some-8 invariant-loop decreases-loop
+slice-aggregate-some-8 : tie.Need-slice_bounds-some-end-in-loop-l-7 invariant-loop decreases-loop
 slice-aggregate-some-8 c = refl
 
-slice-aggregate-some-9 : tie.Need-slice-aggregate-some-9 invariant-loop decreases-loop
+slice-aggregate-some-9 : tie.Need-slice_bounds-some-end-in-loop-l-8 invariant-loop decreases-loop
 slice-aggregate-some-9 c = refl
 
-some-requires-3 : tie.Need-some-requires-3 invariant-loop decreases-loop
+some-requires-3 : tie.Need-some-requires-in-loop-l-2 invariant-loop decreases-loop
 some-requires-3 c κs = (weighed odd-8-4-right (dealt-8 c.before.before.before.before) 4 (omega arith), (omega arith, omega arith))
 
-slice-aggregate-butterfly-4 : tie.Need-slice-aggregate-butterfly-4 invariant-loop decreases-loop
+slice-aggregate-butterfly-4 : tie.Need-slice_bounds-butterfly-end-in-loop-l-3 invariant-loop decreases-loop
 slice-aggregate-butterfly-4 c = sym (level-4 c.before.before.before.before.before.before.before.before.before.before.before).long
 
-slice-aggregate-butterfly-5 : tie.Need-slice-aggregate-butterfly-5 invariant-loop decreases-loop
+slice-aggregate-butterfly-5 : tie.Need-slice_bounds-butterfly-end-in-loop-l-4 invariant-loop decreases-loop
 slice-aggregate-butterfly-5 c = sym (made-8-4 c.before.before.before).long
 
-slice-aggregate-butterfly-6 : tie.Need-slice-aggregate-butterfly-6 invariant-loop decreases-loop
+slice-aggregate-butterfly-6 : tie.Need-slice_bounds-butterfly-end-in-loop-l-5 invariant-loop decreases-loop
 slice-aggregate-butterfly-6 c = refl
 
-butterfly-requires-2 : tie.Need-butterfly-requires-2 invariant-loop decreases-loop
+butterfly-requires-2 : tie.Need-butterfly-requires-in-loop-l invariant-loop decreases-loop
 butterfly-requires-2 c κs = (sums-small (omega arith) (level-4 c.before.before.before.before.before.before.before.before.before.before.before.before.before), (made-small (made-8-4 c.before.before.before.before), (omega arith, (omega arith, omega arith))))
 
-slice-aggregate-deal-7 : tie.Need-slice-aggregate-deal-7 invariant-loop decreases-loop
+slice-aggregate-deal-7 : tie.Need-slice_bounds-deal-end-in-loop-l-6 invariant-loop decreases-loop
 slice-aggregate-deal-7 c = sym (gathered-32 (inputs-butterfly2 c.before.before)).long
 
-slice-aggregate-deal-8 : tie.Need-slice-aggregate-deal-8 invariant-loop decreases-loop
+slice-aggregate-deal-8 : tie.Need-slice_bounds-deal-end-in-loop-l-7 invariant-loop decreases-loop
 slice-aggregate-deal-8 c = refl
 
-deal-requires-4 : tie.Need-deal-requires-4 invariant-loop decreases-loop
+deal-requires-4 : tie.Need-deal-requires-in-loop-l-3 invariant-loop decreases-loop
 deal-requires-4 c κs = (omega arith, λ i l. omega (arith, (gathered-32 (inputs-butterfly2 c.before.before.before)).long))
 
-slice-aggregate-some-10 : tie.Need-slice-aggregate-some-10 invariant-loop decreases-loop
+slice-aggregate-some-10 : tie.Need-slice_bounds-some-end-in-loop-l-9 invariant-loop decreases-loop
 slice-aggregate-some-10 c = sym (dealt-16 c.before.before).long
 
-slice-aggregate-some-11 : tie.Need-slice-aggregate-some-11 invariant-loop decreases-loop
+slice-aggregate-some-11 : tie.Need-slice_bounds-some-end-in-loop-l-10 invariant-loop decreases-loop
 slice-aggregate-some-11 c = refl
 
-slice-aggregate-some-12 : tie.Need-slice-aggregate-some-12 invariant-loop decreases-loop
+slice-aggregate-some-12 : tie.Need-slice_bounds-some-end-in-loop-l-11 invariant-loop decreases-loop
 slice-aggregate-some-12 c = refl
 
-some-requires-4 : tie.Need-some-requires-4 invariant-loop decreases-loop
+some-requires-4 : tie.Need-some-requires-in-loop-l-3 invariant-loop decreases-loop
 some-requires-4 c κs = (weighed odd-16-8-right (dealt-16 c.before.before.before.before) 4 (omega arith), (omega arith, omega arith))
 
-slice-aggregate-some-13 : tie.Need-slice-aggregate-some-13 invariant-loop decreases-loop
+slice-aggregate-some-13 : tie.Need-slice_bounds-some-end-in-loop-l-12 invariant-loop decreases-loop
 slice-aggregate-some-13 c = sym (dealt-16 c.before.before.before.before.before.before.before).long
 
-slice-aggregate-some-14 : tie.Need-slice-aggregate-some-14 invariant-loop decreases-loop
+slice-aggregate-some-14 : tie.Need-slice_bounds-some-end-in-loop-l-13 invariant-loop decreases-loop
 slice-aggregate-some-14 c = refl
 
-slice-aggregate-some-15 : tie.Need-slice-aggregate-some-15 invariant-loop decreases-loop
+slice-aggregate-some-15 : tie.Need-slice_bounds-some-end-in-loop-l-14 invariant-loop decreases-loop
 slice-aggregate-some-15 c = sym (made-16-4 c.before.before.before.before).long
 
-some-requires-5 : tie.Need-some-requires-5 invariant-loop decreases-loop
+some-requires-5 : tie.Need-some-requires-in-loop-l-4 invariant-loop decreases-loop
 some-requires-5 c κs = (weighed odd-16-8-right (dealt-16 c.before.before.before.before.before.before.before.before.before) 8 (omega arith), (omega arith, omega (arith, (made-16-4 c.before.before.before.before).long)))
 
-slice-aggregate-butterfly-7 : tie.Need-slice-aggregate-butterfly-7 invariant-loop decreases-loop
+slice-aggregate-butterfly-7 : tie.Need-slice_bounds-butterfly-end-in-loop-l-6 invariant-loop decreases-loop
 slice-aggregate-butterfly-7 c = sym (level-8 c.before.before.before.before.before.before.before.before.before.before.before.before.before.before.before.before).long
 
-slice-aggregate-butterfly-8 : tie.Need-slice-aggregate-butterfly-8 invariant-loop decreases-loop
+slice-aggregate-butterfly-8 : tie.Need-slice_bounds-butterfly-end-in-loop-l-7 invariant-loop decreases-loop
 slice-aggregate-butterfly-8 c = sym (made-16-8 c.before.before.before).long
 
-slice-aggregate-butterfly-9 : tie.Need-slice-aggregate-butterfly-9 invariant-loop decreases-loop
+slice-aggregate-butterfly-9 : tie.Need-slice_bounds-butterfly-end-in-loop-l-8 invariant-loop decreases-loop
 slice-aggregate-butterfly-9 c = refl
 
-butterfly-requires-3 : tie.Need-butterfly-requires-3 invariant-loop decreases-loop
+butterfly-requires-3 : tie.Need-butterfly-requires-in-loop-l-2 invariant-loop decreases-loop
 butterfly-requires-3 c κs = (sums-small (omega arith) (level-8 c.before.before.before.before.before.before.before.before.before.before.before.before.before.before.before.before.before.before), (made-small (made-16-8 c.before.before.before.before), (omega arith, (omega arith, omega arith))))
 
-slice-aggregate-deal-9 : tie.Need-slice-aggregate-deal-9 invariant-loop decreases-loop
+slice-aggregate-deal-9 : tie.Need-slice_bounds-deal-end-in-loop-l-8 invariant-loop decreases-loop
 slice-aggregate-deal-9 c = sym (gathered-32 (inputs-butterfly3 c.before.before)).long
 
-slice-aggregate-deal-10 : tie.Need-slice-aggregate-deal-10 invariant-loop decreases-loop
+slice-aggregate-deal-10 : tie.Need-slice_bounds-deal-end-in-loop-l-9 invariant-loop decreases-loop
 slice-aggregate-deal-10 c = refl
 
-deal-requires-5 : tie.Need-deal-requires-5 invariant-loop decreases-loop
+deal-requires-5 : tie.Need-deal-requires-in-loop-l-4 invariant-loop decreases-loop
 deal-requires-5 c κs = (omega arith, λ i l. omega (arith, (gathered-32 (inputs-butterfly3 c.before.before.before)).long))
 
-slice-aggregate-some-16 : tie.Need-slice-aggregate-some-16 invariant-loop decreases-loop
+slice-aggregate-some-16 : tie.Need-slice_bounds-some-end-in-loop-l-15 invariant-loop decreases-loop
 slice-aggregate-some-16 c = sym (dealt-32 c.before.before).long
 
-slice-aggregate-some-17 : tie.Need-slice-aggregate-some-17 invariant-loop decreases-loop
+slice-aggregate-some-17 : tie.Need-slice_bounds-some-end-in-loop-l-16 invariant-loop decreases-loop
 slice-aggregate-some-17 c = refl
 
-slice-aggregate-some-18 : tie.Need-slice-aggregate-some-18 invariant-loop decreases-loop
+slice-aggregate-some-18 : tie.Need-slice_bounds-some-end-in-loop-l-17 invariant-loop decreases-loop
 slice-aggregate-some-18 c = refl
 
-some-requires-6 : tie.Need-some-requires-6 invariant-loop decreases-loop
+some-requires-6 : tie.Need-some-requires-in-loop-l-5 invariant-loop decreases-loop
 some-requires-6 c κs = (weighed odd-32-16-right (dealt-32 c.before.before.before.before) 2 (omega arith), (omega arith, omega arith))
 
-slice-aggregate-some-19 : tie.Need-slice-aggregate-some-19 invariant-loop decreases-loop
+slice-aggregate-some-19 : tie.Need-slice_bounds-some-end-in-loop-l-18 invariant-loop decreases-loop
 slice-aggregate-some-19 c = sym (dealt-32 c.before.before.before.before.before.before.before).long
 
-slice-aggregate-some-20 : tie.Need-slice-aggregate-some-20 invariant-loop decreases-loop
+slice-aggregate-some-20 : tie.Need-slice_bounds-some-end-in-loop-l-19 invariant-loop decreases-loop
 slice-aggregate-some-20 c = refl
 
-slice-aggregate-some-21 : tie.Need-slice-aggregate-some-21 invariant-loop decreases-loop
+slice-aggregate-some-21 : tie.Need-slice_bounds-some-end-in-loop-l-20 invariant-loop decreases-loop
 slice-aggregate-some-21 c = sym (made-32-2 c.before.before.before.before).long
 
-some-requires-7 : tie.Need-some-requires-7 invariant-loop decreases-loop
+some-requires-7 : tie.Need-some-requires-in-loop-l-6 invariant-loop decreases-loop
 some-requires-7 c κs = (weighed odd-32-16-right (dealt-32 c.before.before.before.before.before.before.before.before.before) 4 (omega arith), (omega arith, omega (arith, (made-32-2 c.before.before.before.before).long)))
 
-slice-aggregate-some-22 : tie.Need-slice-aggregate-some-22 invariant-loop decreases-loop
+slice-aggregate-some-22 : tie.Need-slice_bounds-some-end-in-loop-l-21 invariant-loop decreases-loop
 slice-aggregate-some-22 c = sym (dealt-32 c.before.before.before.before.before.before.before.before.before.before.before.before).long
 
-slice-aggregate-some-23 : tie.Need-slice-aggregate-some-23 invariant-loop decreases-loop
+slice-aggregate-some-23 : tie.Need-slice_bounds-some-end-in-loop-l-22 invariant-loop decreases-loop
 slice-aggregate-some-23 c = refl
 
-slice-aggregate-some-24 : tie.Need-slice-aggregate-some-24 invariant-loop decreases-loop
+slice-aggregate-some-24 : tie.Need-slice_bounds-some-end-in-loop-l-23 invariant-loop decreases-loop
 slice-aggregate-some-24 c = sym (made-32-4 c.before.before.before.before).long
 
-some-requires-8 : tie.Need-some-requires-8 invariant-loop decreases-loop
+some-requires-8 : tie.Need-some-requires-in-loop-l-7 invariant-loop decreases-loop
 some-requires-8 c κs = (weighed odd-32-16-right (dealt-32 c.before.before.before.before.before.before.before.before.before.before.before.before.before.before) 6 (omega arith), (omega arith, omega (arith, (made-32-4 c.before.before.before.before).long)))
 
-slice-aggregate-some-25 : tie.Need-slice-aggregate-some-25 invariant-loop decreases-loop
+slice-aggregate-some-25 : tie.Need-slice_bounds-some-end-in-loop-l-24 invariant-loop decreases-loop
 slice-aggregate-some-25 c = sym (dealt-32 c.before.before.before.before.before.before.before.before.before.before.before.before.before.before.before.before.before).long
 
-slice-aggregate-some-26 : tie.Need-slice-aggregate-some-26 invariant-loop decreases-loop
+slice-aggregate-some-26 : tie.Need-slice_bounds-some-end-in-loop-l-25 invariant-loop decreases-loop
 slice-aggregate-some-26 c = refl
 
-slice-aggregate-some-27 : tie.Need-slice-aggregate-some-27 invariant-loop decreases-loop
+slice-aggregate-some-27 : tie.Need-slice_bounds-some-end-in-loop-l-26 invariant-loop decreases-loop
 slice-aggregate-some-27 c = sym (made-32-6 c.before.before.before.before).long
 
-some-requires-9 : tie.Need-some-requires-9 invariant-loop decreases-loop
+some-requires-9 : tie.Need-some-requires-in-loop-l-8 invariant-loop decreases-loop
 some-requires-9 c κs = (weighed odd-32-16-right (dealt-32 c.before.before.before.before.before.before.before.before.before.before.before.before.before.before.before.before.before.before.before) 8 (omega arith), (omega arith, omega (arith, (made-32-6 c.before.before.before.before).long)))
 
-slice-aggregate-some-28 : tie.Need-slice-aggregate-some-28 invariant-loop decreases-loop
+slice-aggregate-some-28 : tie.Need-slice_bounds-some-end-in-loop-l-27 invariant-loop decreases-loop
 slice-aggregate-some-28 c = sym (dealt-32 c.before.before.before.before.before.before.before.before.before.before.before.before.before.before.before.before.before.before.before.before.before.before).long
 
-slice-aggregate-some-29 : tie.Need-slice-aggregate-some-29 invariant-loop decreases-loop
+slice-aggregate-some-29 : tie.Need-slice_bounds-some-end-in-loop-l-28 invariant-loop decreases-loop
 slice-aggregate-some-29 c = refl
 
-slice-aggregate-some-30 : tie.Need-slice-aggregate-some-30 invariant-loop decreases-loop
+slice-aggregate-some-30 : tie.Need-slice_bounds-some-end-in-loop-l-29 invariant-loop decreases-loop
 slice-aggregate-some-30 c = sym (made-32-8 c.before.before.before.before).long
 
-some-requires-10 : tie.Need-some-requires-10 invariant-loop decreases-loop
+some-requires-10 : tie.Need-some-requires-in-loop-l-9 invariant-loop decreases-loop
 some-requires-10 c κs = (weighed odd-32-16-right (dealt-32 c.before.before.before.before.before.before.before.before.before.before.before.before.before.before.before.before.before.before.before.before.before.before.before.before) 10 (omega arith), (omega arith, omega (arith, (made-32-8 c.before.before.before.before).long)))
 
-slice-aggregate-some-31 : tie.Need-slice-aggregate-some-31 invariant-loop decreases-loop
+slice-aggregate-some-31 : tie.Need-slice_bounds-some-end-in-loop-l-30 invariant-loop decreases-loop
 slice-aggregate-some-31 c = sym (dealt-32 c.before.before.before.before.before.before.before.before.before.before.before.before.before.before.before.before.before.before.before.before.before.before.before.before.before.before.before).long
 
-slice-aggregate-some-32 : tie.Need-slice-aggregate-some-32 invariant-loop decreases-loop
+slice-aggregate-some-32 : tie.Need-slice_bounds-some-end-in-loop-l-31 invariant-loop decreases-loop
 slice-aggregate-some-32 c = refl
 
-slice-aggregate-some-33 : tie.Need-slice-aggregate-some-33 invariant-loop decreases-loop
+slice-aggregate-some-33 : tie.Need-slice_bounds-some-end-in-loop-l-32 invariant-loop decreases-loop
 slice-aggregate-some-33 c = sym (made-32-10 c.before.before.before.before).long
 
-some-requires-11 : tie.Need-some-requires-11 invariant-loop decreases-loop
+some-requires-11 : tie.Need-some-requires-in-loop-l-10 invariant-loop decreases-loop
 some-requires-11 c κs = (weighed odd-32-16-right (dealt-32 c.before.before.before.before.before.before.before.before.before.before.before.before.before.before.before.before.before.before.before.before.before.before.before.before.before.before.before.before.before) 12 (omega arith), (omega arith, omega (arith, (made-32-10 c.before.before.before.before).long)))
 
-slice-aggregate-some-34 : tie.Need-slice-aggregate-some-34 invariant-loop decreases-loop
+slice-aggregate-some-34 : tie.Need-slice_bounds-some-end-in-loop-l-33 invariant-loop decreases-loop
 slice-aggregate-some-34 c = sym (dealt-32 c.before.before.before.before.before.before.before.before.before.before.before.before.before.before.before.before.before.before.before.before.before.before.before.before.before.before.before.before.before.before.before.before).long
 
-slice-aggregate-some-35 : tie.Need-slice-aggregate-some-35 invariant-loop decreases-loop
+slice-aggregate-some-35 : tie.Need-slice_bounds-some-end-in-loop-l-34 invariant-loop decreases-loop
 slice-aggregate-some-35 c = refl
 
-slice-aggregate-some-36 : tie.Need-slice-aggregate-some-36 invariant-loop decreases-loop
+slice-aggregate-some-36 : tie.Need-slice_bounds-some-end-in-loop-l-35 invariant-loop decreases-loop
 slice-aggregate-some-36 c = sym (made-32-12 c.before.before.before.before).long
 
-some-requires-12 : tie.Need-some-requires-12 invariant-loop decreases-loop
+some-requires-12 : tie.Need-some-requires-in-loop-l-11 invariant-loop decreases-loop
 some-requires-12 c κs = (weighed odd-32-16-right (dealt-32 c.before.before.before.before.before.before.before.before.before.before.before.before.before.before.before.before.before.before.before.before.before.before.before.before.before.before.before.before.before.before.before.before.before.before) 14 (omega arith), (omega arith, omega (arith, (made-32-12 c.before.before.before.before).long)))
 
-slice-aggregate-some-37 : tie.Need-slice-aggregate-some-37 invariant-loop decreases-loop
+slice-aggregate-some-37 : tie.Need-slice_bounds-some-end-in-loop-l-36 invariant-loop decreases-loop
 slice-aggregate-some-37 c = sym (dealt-32 c.before.before.before.before.before.before.before.before.before.before.before.before.before.before.before.before.before.before.before.before.before.before.before.before.before.before.before.before.before.before.before.before.before.before.before.before.before).long
 
-slice-aggregate-some-38 : tie.Need-slice-aggregate-some-38 invariant-loop decreases-loop
+slice-aggregate-some-38 : tie.Need-slice_bounds-some-end-in-loop-l-37 invariant-loop decreases-loop
 slice-aggregate-some-38 c = refl
 
-slice-aggregate-some-39 : tie.Need-slice-aggregate-some-39 invariant-loop decreases-loop
+slice-aggregate-some-39 : tie.Need-slice_bounds-some-end-in-loop-l-38 invariant-loop decreases-loop
 slice-aggregate-some-39 c = sym (made-32-14 c.before.before.before.before).long
 
-some-requires-13 : tie.Need-some-requires-13 invariant-loop decreases-loop
+some-requires-13 : tie.Need-some-requires-in-loop-l-12 invariant-loop decreases-loop
 some-requires-13 c κs = (weighed odd-32-16-right (dealt-32 c.before.before.before.before.before.before.before.before.before.before.before.before.before.before.before.before.before.before.before.before.before.before.before.before.before.before.before.before.before.before.before.before.before.before.before.before.before.before.before) 16 (omega arith), (omega arith, omega (arith, (made-32-14 c.before.before.before.before).long)))
 
-slice-aggregate-butterfly-10 : tie.Need-slice-aggregate-butterfly-10 invariant-loop decreases-loop
+slice-aggregate-butterfly-10 : tie.Need-slice_bounds-butterfly-end-in-loop-l-9 invariant-loop decreases-loop
 slice-aggregate-butterfly-10 c = sym (level-16 c.before.before.before.before.before.before.before.before.before.before.before.before.before.before.before.before.before.before.before.before.before.before.before.before.before.before.before.before.before.before.before.before.before.before.before.before.before.before.before.before.before.before.before.before.before.before).long
 
-slice-aggregate-butterfly-11 : tie.Need-slice-aggregate-butterfly-11 invariant-loop decreases-loop
+slice-aggregate-butterfly-11 : tie.Need-slice_bounds-butterfly-end-in-loop-l-10 invariant-loop decreases-loop
 slice-aggregate-butterfly-11 c = sym (made-32-16 c.before.before.before).long
 
-slice-aggregate-butterfly-12 : tie.Need-slice-aggregate-butterfly-12 invariant-loop decreases-loop
+slice-aggregate-butterfly-12 : tie.Need-slice_bounds-butterfly-end-in-loop-l-11 invariant-loop decreases-loop
 slice-aggregate-butterfly-12 c = refl
 
-butterfly-requires-4 : tie.Need-butterfly-requires-4 invariant-loop decreases-loop
+butterfly-requires-4 : tie.Need-butterfly-requires-in-loop-l-3 invariant-loop decreases-loop
 butterfly-requires-4 c κs = (sums-small (omega arith) (level-16 c.before.before.before.before.before.before.before.before.before.before.before.before.before.before.before.before.before.before.before.before.before.before.before.before.before.before.before.before.before.before.before.before.before.before.before.before.before.before.before.before.before.before.before.before.before.before.before.before), (made-small (made-32-16 c.before.before.before.before), (omega arith, (omega arith, omega arith))))
 
-slice-aggregate-round : tie.Need-slice-aggregate-round invariant-loop decreases-loop
+slice-aggregate-round : tie.Need-slice_bounds-round-end invariant-loop decreases-loop
 slice-aggregate-round c = sym (level-32 c.before.before).long
 
-mul-round : tie.Need-overflow-mul-round invariant-loop decreases-loop
-mul-round c = omega (arith, (turn (inputs-butterfly4 c.before.before)).loop-test.taken)
+mul-round : tie.Need-overflow_mul-l invariant-loop decreases-loop
+mul-round c = omega (arith, (turn (inputs-butterfly4 c.before.before)).loop-l-test.true)
 
-slice-aggregate-round-2 : tie.Need-slice-aggregate-round-2 invariant-loop decreases-loop
-slice-aggregate-round-2 c = sym (turn (inputs-butterfly4 c.before.before.before)).before.loop.inv.1.0.long
+slice-aggregate-round-2 : tie.Need-slice_bounds-round-end-in-loop-l invariant-loop decreases-loop
+slice-aggregate-round-2 c = sym (turn (inputs-butterfly4 c.before.before.before)).before.loop-l.invariant.1.0.long
 
 round-requires : tie.Need-round-requires invariant-loop decreases-loop
-round-requires c κs = ((start (inputs-butterfly4 c.before.before.before)).pre.0.short, (omega (arith, (level-32 c.before.before.before).long), omega (arith, (turn (inputs-butterfly4 c.before.before.before)).before.loop.inv.1.0.long, (turn (inputs-butterfly4 c.before.before.before)).loop-test.taken)))
+round-requires c κs = ((start (inputs-butterfly4 c.before.before.before)).requires.0.short, (omega (arith, (level-32 c.before.before.before).long), omega (arith, (turn (inputs-butterfly4 c.before.before.before)).before.loop-l.invariant.1.0.long, (turn (inputs-butterfly4 c.before.before.before)).loop-l-test.true)))
 
-slice-aggregate-round-3 : tie.Need-slice-aggregate-round-3 invariant-loop decreases-loop
+slice-aggregate-round-3 : tie.Need-slice_bounds-round-end-in-loop-l-2 invariant-loop decreases-loop
 slice-aggregate-round-3 c = sym (level-32 c.before.before.before.before.before.before).long
 
-mul-round-2 : tie.Need-overflow-mul-round-2 invariant-loop decreases-loop
-mul-round-2 c = omega (arith, (turn (inputs-round c.before.before)).loop-test.taken)
+mul-round-2 : tie.Need-overflow_mul-l-in-loop-l invariant-loop decreases-loop
+mul-round-2 c = omega (arith, (turn (inputs-round c.before.before)).loop-l-test.true)
 
-slice-aggregate-round-4 : tie.Need-slice-aggregate-round-4 invariant-loop decreases-loop
-slice-aggregate-round-4 c = sym (turn (inputs-round c.before.before.before)).before.loop.inv.1.1.0.long
+slice-aggregate-round-4 : tie.Need-slice_bounds-round-end-in-loop-l-3 invariant-loop decreases-loop
+slice-aggregate-round-4 c = sym (turn (inputs-round c.before.before.before)).before.loop-l.invariant.1.1.0.long
 
-round-requires-2 : tie.Need-round-requires-2 invariant-loop decreases-loop
-round-requires-2 c κs = ((start (inputs-round c.before.before.before)).pre.0.short, (omega (arith, (level-32 c.before.before.before.before.before.before.before).long), omega (arith, (turn (inputs-round c.before.before.before)).before.loop.inv.1.1.0.long, (turn (inputs-round c.before.before.before)).loop-test.taken)))
+round-requires-2 : tie.Need-round-requires-in-loop-l invariant-loop decreases-loop
+round-requires-2 c κs = ((start (inputs-round c.before.before.before)).requires.0.short, (omega (arith, (level-32 c.before.before.before.before.before.before.before).long), omega (arith, (turn (inputs-round c.before.before.before)).before.loop-l.invariant.1.1.0.long, (turn (inputs-round c.before.before.before)).loop-l-test.true)))
 
-slice-aggregate-round-5 : tie.Need-slice-aggregate-round-5 invariant-loop decreases-loop
+slice-aggregate-round-5 : tie.Need-slice_bounds-round-end-in-loop-l-4 invariant-loop decreases-loop
 slice-aggregate-round-5 c = sym (level-32 c.before.before.before.before.before.before.before.before.before.before).long
 
-mul-round-3 : tie.Need-overflow-mul-round-3 invariant-loop decreases-loop
-mul-round-3 c = omega (arith, (turn (inputs-round2 c.before.before)).loop-test.taken)
+mul-round-3 : tie.Need-overflow_mul-l-in-loop-l-2 invariant-loop decreases-loop
+mul-round-3 c = omega (arith, (turn (inputs-round2 c.before.before)).loop-l-test.true)
 
-slice-aggregate-round-6 : tie.Need-slice-aggregate-round-6 invariant-loop decreases-loop
-slice-aggregate-round-6 c = sym (turn (inputs-round2 c.before.before.before)).before.loop.inv.1.1.1.0.long
+slice-aggregate-round-6 : tie.Need-slice_bounds-round-end-in-loop-l-5 invariant-loop decreases-loop
+slice-aggregate-round-6 c = sym (turn (inputs-round2 c.before.before.before)).before.loop-l.invariant.1.1.1.0.long
 
-round-requires-3 : tie.Need-round-requires-3 invariant-loop decreases-loop
-round-requires-3 c κs = ((start (inputs-round2 c.before.before.before)).pre.0.short, (omega (arith, (level-32 c.before.before.before.before.before.before.before.before.before.before.before).long), omega (arith, (turn (inputs-round2 c.before.before.before)).before.loop.inv.1.1.1.0.long, (turn (inputs-round2 c.before.before.before)).loop-test.taken)))
+round-requires-3 : tie.Need-round-requires-in-loop-l-2 invariant-loop decreases-loop
+round-requires-3 c κs = ((start (inputs-round2 c.before.before.before)).requires.0.short, (omega (arith, (level-32 c.before.before.before.before.before.before.before.before.before.before.before).long), omega (arith, (turn (inputs-round2 c.before.before.before)).before.loop-l.invariant.1.1.1.0.long, (turn (inputs-round2 c.before.before.before)).loop-l-test.true)))
 
-slice-aggregate-round-7 : tie.Need-slice-aggregate-round-7 invariant-loop decreases-loop
+slice-aggregate-round-7 : tie.Need-slice_bounds-round-end-in-loop-l-6 invariant-loop decreases-loop
 slice-aggregate-round-7 c = sym (level-32 c.before.before.before.before.before.before.before.before.before.before.before.before.before.before).long
 
-mul-round-4 : tie.Need-overflow-mul-round-4 invariant-loop decreases-loop
-mul-round-4 c = omega (arith, (turn (inputs-round3 c.before.before)).loop-test.taken)
+mul-round-4 : tie.Need-overflow_mul-l-in-loop-l-3 invariant-loop decreases-loop
+mul-round-4 c = omega (arith, (turn (inputs-round3 c.before.before)).loop-l-test.true)
 
-slice-aggregate-round-8 : tie.Need-slice-aggregate-round-8 invariant-loop decreases-loop
-slice-aggregate-round-8 c = sym (turn (inputs-round3 c.before.before.before)).before.loop.inv.1.1.1.1.long
+slice-aggregate-round-8 : tie.Need-slice_bounds-round-end-in-loop-l-7 invariant-loop decreases-loop
+slice-aggregate-round-8 c = sym (turn (inputs-round3 c.before.before.before)).before.loop-l.invariant.1.1.1.1.long
 
-round-requires-4 : tie.Need-round-requires-4 invariant-loop decreases-loop
-round-requires-4 c κs = ((start (inputs-round3 c.before.before.before)).pre.0.short, (omega (arith, (level-32 c.before.before.before.before.before.before.before.before.before.before.before.before.before.before.before).long), omega (arith, (turn (inputs-round3 c.before.before.before)).before.loop.inv.1.1.1.1.long, (turn (inputs-round3 c.before.before.before)).loop-test.taken)))
+round-requires-4 : tie.Need-round-requires-in-loop-l-3 invariant-loop decreases-loop
+round-requires-4 c κs = ((start (inputs-round3 c.before.before.before)).requires.0.short, (omega (arith, (level-32 c.before.before.before.before.before.before.before.before.before.before.before.before.before.before.before).long), omega (arith, (turn (inputs-round3 c.before.before.before)).before.loop-l.invariant.1.1.1.1.long, (turn (inputs-round3 c.before.before.before)).loop-l-test.true)))
 
-add-l : tie.Need-overflow-add-l invariant-loop decreases-loop
-add-l c = omega (arith, (turn (inputs-round4 c.before)).loop-test.taken)
+add-l : tie.Need-overflow_add-l invariant-loop decreases-loop
+add-l c = omega (arith, (turn (inputs-round4 c.before)).loop-l-test.true)
 
-loop-less : tie.Need-loop-smaller invariant-loop decreases-loop
-loop-less c = omega (arith, (turn (inputs-round4 c.before)).loop-test.taken)
+loop-less : tie.Need-loop-l-smaller invariant-loop decreases-loop
+loop-less c = omega (arith, (turn (inputs-round4 c.before)).loop-l-test.true)
 
-loop-again : tie.Need-loop-preserved invariant-loop decreases-loop
-loop-again c = (omega (arith, (turn (inputs-round4 c.before)).loop-test.taken), ((row-0 c.before.before.before.before.before.before.before.before.before.before.before.before.before), ((row-8 c.before.before.before.before.before.before.before.before.before), ((row-16 c.before.before.before.before.before), (row-24 c.before)))))
+loop-again : tie.Need-loop-l-preserved invariant-loop decreases-loop
+loop-again c = (omega (arith, (turn (inputs-round4 c.before)).loop-l-test.true), ((row-0 c.before.before.before.before.before.before.before.before.before.before.before.before.before), ((row-8 c.before.before.before.before.before.before.before.before.before), ((row-16 c.before.before.before.before.before), (row-24 c.before)))))
 
-spread-8-8-requires : tie.Need-spread-8-8-requires invariant-loop decreases-loop
-spread-8-8-requires c κs = (c.before.before.before.loop.invariant.1.0.long, (omega arith, omega (arith, c.before.before.before.before.requires.1)))
+spread-8-8-requires : tie.Need-spread_8_8-requires invariant-loop decreases-loop
+spread-8-8-requires c κs = (c.before.before.before.loop-l.invariant.1.0.long, (omega arith, omega (arith, c.before.before.before.before.requires.1)))
 
-spread-8-8-requires-2 : tie.Need-spread-8-8-requires-2 invariant-loop decreases-loop
-spread-8-8-requires-2 c κs = (c.before.before.before.before.before.before.before.loop.invariant.1.1.0.long, (omega arith, omega (arith, (columns-8 c.before.before.before).long)))
+spread-8-8-requires-2 : tie.Need-spread_8_8-requires-2 invariant-loop decreases-loop
+spread-8-8-requires-2 c κs = (c.before.before.before.before.before.before.before.loop-l.invariant.1.1.0.long, (omega arith, omega (arith, (columns-8 c.before.before.before).long)))
 
-spread-8-8-requires-3 : tie.Need-spread-8-8-requires-3 invariant-loop decreases-loop
-spread-8-8-requires-3 c κs = (c.before.before.before.before.before.before.before.before.before.before.before.loop.invariant.1.1.1.0.long, (omega arith, omega (arith, (columns-16 c.before.before.before).long)))
+spread-8-8-requires-3 : tie.Need-spread_8_8-requires-3 invariant-loop decreases-loop
+spread-8-8-requires-3 c κs = (c.before.before.before.before.before.before.before.before.before.before.before.loop-l.invariant.1.1.1.0.long, (omega arith, omega (arith, (columns-16 c.before.before.before).long)))
 
-spread-8-8-requires-4 : tie.Need-spread-8-8-requires-4 invariant-loop decreases-loop
-spread-8-8-requires-4 c κs = (c.before.before.before.before.before.before.before.before.before.before.before.before.before.before.before.loop.invariant.1.1.1.1.long, (omega arith, omega (arith, (columns-24 c.before.before.before).long)))
+spread-8-8-requires-4 : tie.Need-spread_8_8-requires-4 invariant-loop decreases-loop
+spread-8-8-requires-4 c κs = (c.before.before.before.before.before.before.before.before.before.before.before.before.before.before.before.loop-l.invariant.1.1.1.1.long, (omega arith, omega (arith, (columns-24 c.before.before.before).long)))
 
-same_length : tie.Need-same-length invariant-loop decreases-loop
+same_length : tie.Need-shape_of-r invariant-loop decreases-loop
 same_length c = (columns-32 c.before).long ∙ sym c.before.before.before.before.before.before.before.before.before.before.before.before.before.before.before.before.before.before.requires.1
 
 returns : tie.Need-returns invariant-loop decreases-loop
 returns c = columns-all (omega arith) (columns-32 c.before) ∙ ap (λ (z : ℤ). block 32 8 (λ j l. shifted z c.before.before.before.before.before.before.before.before.before.before.before.before.before.before.before.before.before.before.args.shift (rows_sum 32 32 8 c.before.before.before.before.before.before.before.before.before.before.before.before.before.before.before.before.before.before.args.apart c.before.before.before.before.before.before.before.before.before.before.before.before.before.before.before.before.before.before.args.m.now j l))) (half_is c.before.before.before.before.before.before.before.before.before.before.before.before.before.before.before.before.before.before)
 
-pub along-32-32-8-spec : {M : Type 1} → statement M
-along-32-32-8-spec = tie.close (tie.spec invariant-loop decreases-loop loop-holds mul-take sub-take part-take-start part-take-end slice-aggregate-take take-requires mul-i8 add-i8 mul-take-2 sub-take-2 part-take-start-2 part-take-end-2 slice-aggregate-take-2 take-requires-2 mul-i16 add-i16 mul-take-3 sub-take-3 part-take-start-3 part-take-end-3 slice-aggregate-take-3 take-requires-3 mul-i24 add-i24 mul-take-4 sub-take-4 part-take-start-4 part-take-end-4 slice-aggregate-take-4 take-requires-4 slice-aggregate-deal slice-aggregate-deal-2 deal-requires slice-aggregate-some slice-aggregate-some-2 slice-aggregate-some-3 some-requires slice-aggregate-lift lift-requires slice-aggregate-deal-3 slice-aggregate-deal-4 deal-requires-2 slice-aggregate-some-4 slice-aggregate-some-5 slice-aggregate-some-6 some-requires-2 slice-aggregate-butterfly slice-aggregate-butterfly-2 slice-aggregate-butterfly-3 butterfly-requires slice-aggregate-deal-5 slice-aggregate-deal-6 deal-requires-3 slice-aggregate-some-7 slice-aggregate-some-8 slice-aggregate-some-9 some-requires-3 slice-aggregate-butterfly-4 slice-aggregate-butterfly-5 slice-aggregate-butterfly-6 butterfly-requires-2 slice-aggregate-deal-7 slice-aggregate-deal-8 deal-requires-4 slice-aggregate-some-10 slice-aggregate-some-11 slice-aggregate-some-12 some-requires-4 slice-aggregate-some-13 slice-aggregate-some-14 slice-aggregate-some-15 some-requires-5 slice-aggregate-butterfly-7 slice-aggregate-butterfly-8 slice-aggregate-butterfly-9 butterfly-requires-3 slice-aggregate-deal-9 slice-aggregate-deal-10 deal-requires-5 slice-aggregate-some-16 slice-aggregate-some-17 slice-aggregate-some-18 some-requires-6 slice-aggregate-some-19 slice-aggregate-some-20 slice-aggregate-some-21 some-requires-7 slice-aggregate-some-22 slice-aggregate-some-23 slice-aggregate-some-24 some-requires-8 slice-aggregate-some-25 slice-aggregate-some-26 slice-aggregate-some-27 some-requires-9 slice-aggregate-some-28 slice-aggregate-some-29 slice-aggregate-some-30 some-requires-10 slice-aggregate-some-31 slice-aggregate-some-32 slice-aggregate-some-33 some-requires-11 slice-aggregate-some-34 slice-aggregate-some-35 slice-aggregate-some-36 some-requires-12 slice-aggregate-some-37 slice-aggregate-some-38 slice-aggregate-some-39 some-requires-13 slice-aggregate-butterfly-10 slice-aggregate-butterfly-11 slice-aggregate-butterfly-12 butterfly-requires-4 slice-aggregate-round mul-round slice-aggregate-round-2 round-requires slice-aggregate-round-3 mul-round-2 slice-aggregate-round-4 round-requires-2 slice-aggregate-round-5 mul-round-3 slice-aggregate-round-6 round-requires-3 slice-aggregate-round-7 mul-round-4 slice-aggregate-round-8 round-requires-4 add-l loop-less loop-again spread-8-8-requires spread-8-8-requires-2 spread-8-8-requires-3 spread-8-8-requires-4 same_length returns)
+pub along_32_32_8_spec : {M : Type 1} → statement M
+along_32_32_8_spec = tie.close (tie.spec invariant-loop decreases-loop loop-holds mul-take sub-take part-take-start part-take-end slice-aggregate-take take-requires mul-i8 add-i8 mul-take-2 sub-take-2 part-take-start-2 part-take-end-2 slice-aggregate-take-2 take-requires-2 mul-i16 add-i16 mul-take-3 sub-take-3 part-take-start-3 part-take-end-3 slice-aggregate-take-3 take-requires-3 mul-i24 add-i24 mul-take-4 sub-take-4 part-take-start-4 part-take-end-4 slice-aggregate-take-4 take-requires-4 slice-aggregate-deal slice-aggregate-deal-2 deal-requires slice-aggregate-some slice-aggregate-some-2 slice-aggregate-some-3 some-requires slice-aggregate-lift lift-requires slice-aggregate-deal-3 slice-aggregate-deal-4 deal-requires-2 slice-aggregate-some-4 slice-aggregate-some-5 slice-aggregate-some-6 some-requires-2 slice-aggregate-butterfly slice-aggregate-butterfly-2 slice-aggregate-butterfly-3 butterfly-requires slice-aggregate-deal-5 slice-aggregate-deal-6 deal-requires-3 slice-aggregate-some-7 slice-aggregate-some-8 slice-aggregate-some-9 some-requires-3 slice-aggregate-butterfly-4 slice-aggregate-butterfly-5 slice-aggregate-butterfly-6 butterfly-requires-2 slice-aggregate-deal-7 slice-aggregate-deal-8 deal-requires-4 slice-aggregate-some-10 slice-aggregate-some-11 slice-aggregate-some-12 some-requires-4 slice-aggregate-some-13 slice-aggregate-some-14 slice-aggregate-some-15 some-requires-5 slice-aggregate-butterfly-7 slice-aggregate-butterfly-8 slice-aggregate-butterfly-9 butterfly-requires-3 slice-aggregate-deal-9 slice-aggregate-deal-10 deal-requires-5 slice-aggregate-some-16 slice-aggregate-some-17 slice-aggregate-some-18 some-requires-6 slice-aggregate-some-19 slice-aggregate-some-20 slice-aggregate-some-21 some-requires-7 slice-aggregate-some-22 slice-aggregate-some-23 slice-aggregate-some-24 some-requires-8 slice-aggregate-some-25 slice-aggregate-some-26 slice-aggregate-some-27 some-requires-9 slice-aggregate-some-28 slice-aggregate-some-29 slice-aggregate-some-30 some-requires-10 slice-aggregate-some-31 slice-aggregate-some-32 slice-aggregate-some-33 some-requires-11 slice-aggregate-some-34 slice-aggregate-some-35 slice-aggregate-some-36 some-requires-12 slice-aggregate-some-37 slice-aggregate-some-38 slice-aggregate-some-39 some-requires-13 slice-aggregate-butterfly-10 slice-aggregate-butterfly-11 slice-aggregate-butterfly-12 butterfly-requires-4 slice-aggregate-round mul-round slice-aggregate-round-2 round-requires slice-aggregate-round-3 mul-round-2 slice-aggregate-round-4 round-requires-2 slice-aggregate-round-5 mul-round-3 slice-aggregate-round-6 round-requires-3 slice-aggregate-round-7 mul-round-4 slice-aggregate-round-8 round-requires-4 add-l loop-less loop-again spread-8-8-requires spread-8-8-requires-2 spread-8-8-requires-3 spread-8-8-requires-4 same_length returns)

@@ -21,16 +21,16 @@ use Rattle.kernel_levels.proofs.Stored.{first-2-2, first-2-2-right, odd-4-2, odd
 use Rattle.kernels_along_4_8.proofs.along_8_8_8.Statement.{statement}
 use Rattle.kernels_along_4_8.proofs.along_8_8_8.Tie as tie
 
-abbrev invariant-loop : tie.invariant-loop
+abbrev invariant-loop : tie.invariant-loop-l
 invariant-loop m apart many half shift r r0₀ l₀ r0 l = (l ≤ 8) × WroteFrom 0 (8 * l) r0 r0₀ (tiled 8 (λ j l. shifted (to_z w32 half) shift (rows_sum 8 8 8 apart m j l)) 0)
 
-abbrev decreases-loop : tie.decreases-loop
+abbrev decreases-loop : tie.decreases-loop-l
 decreases-loop m apart many half shift r r0₀ l₀ r0 l = 8 - l
 
 abbrev inputs : tie.After-take invariant-loop decreases-loop → List ℤ
-inputs c = c.take.new.1.1.1.1.0
+inputs c = c.take.new.a
 
-abbrev turn : tie.After-take invariant-loop decreases-loop → tie.In-loop invariant-loop decreases-loop
+abbrev turn : tie.After-take invariant-loop decreases-loop → tie.In-loop-l invariant-loop decreases-loop
 turn c = c.before.before.before
 
 abbrev start : tie.After-take invariant-loop decreases-loop → tie.Start invariant-loop decreases-loop
@@ -45,29 +45,29 @@ inputs-some c = inputs-deal c.before.before.before.before.before
 abbrev inputs-lift : tie.After-lift invariant-loop decreases-loop → tie.After-take invariant-loop decreases-loop
 inputs-lift c = inputs-some c.before.before.before
 
-abbrev inputs-deal2 : tie.After-deal2 invariant-loop decreases-loop → tie.After-take invariant-loop decreases-loop
+abbrev inputs-deal2 : tie.After-deal-in-loop-l invariant-loop decreases-loop → tie.After-take invariant-loop decreases-loop
 inputs-deal2 c = inputs-lift c.before.before.before.before
 
-abbrev inputs-some2 : tie.After-some2 invariant-loop decreases-loop → tie.After-take invariant-loop decreases-loop
+abbrev inputs-some2 : tie.After-some-in-loop-l invariant-loop decreases-loop → tie.After-take invariant-loop decreases-loop
 inputs-some2 c = inputs-deal2 c.before.before.before.before.before
 
 abbrev inputs-butterfly : tie.After-butterfly invariant-loop decreases-loop → tie.After-take invariant-loop decreases-loop
 inputs-butterfly c = inputs-some2 c.before.before.before.before.before
 
-abbrev inputs-deal3 : tie.After-deal3 invariant-loop decreases-loop → tie.After-take invariant-loop decreases-loop
+abbrev inputs-deal3 : tie.After-deal-in-loop-l-2 invariant-loop decreases-loop → tie.After-take invariant-loop decreases-loop
 inputs-deal3 c = inputs-butterfly c.before.before.before.before
 
-abbrev inputs-some3 : tie.After-some3 invariant-loop decreases-loop → tie.After-take invariant-loop decreases-loop
+abbrev inputs-some3 : tie.After-some-in-loop-l-2 invariant-loop decreases-loop → tie.After-take invariant-loop decreases-loop
 inputs-some3 c = inputs-deal3 c.before.before.before.before.before
 
-abbrev inputs-butterfly2 : tie.After-butterfly2 invariant-loop decreases-loop → tie.After-take invariant-loop decreases-loop
+abbrev inputs-butterfly2 : tie.After-butterfly-in-loop-l invariant-loop decreases-loop → tie.After-take invariant-loop decreases-loop
 inputs-butterfly2 c = inputs-some3 c.before.before.before.before.before
 
 abbrev inputs-round : tie.After-round invariant-loop decreases-loop → tie.After-take invariant-loop decreases-loop
 inputs-round c = inputs-butterfly2 c.before.before.before.before
 
-gathered-8 : (c : tie.After-take invariant-loop decreases-loop) → Gathered 8 8 (across (start c).args.m.now 8 (start c).args.apart (turn c).before.loop.l) c.take.new.1.1.1.1.0
-gathered-8 c = group-next (start c).pre.0 0 (turn c).before.loop.l (turn c).loop-test.taken _ (omega arith) (omega arith) (omega arith) (gather_none 8 _) c.take.ensures
+gathered-8 : (c : tie.After-take invariant-loop decreases-loop) → Gathered 8 8 (across (start c).args.m.now 8 (start c).args.apart (turn c).before.loop-l.l) c.take.new.a
+gathered-8 c = group-next (start c).requires.0 0 (turn c).before.loop-l.l (turn c).loop-l-test.true _ (omega arith) (omega arith) (omega arith) (gather_none 8 _) c.take.ensures
 
 abbrev half : tie.Start invariant-loop decreases-loop → ℤ
 half c = to_z w32 (of_z w32 c.args.half)
@@ -78,185 +78,185 @@ half_is c = to_z-of_z w32 c.args.half c.ranges.half
 half-small : (c : tie.Start invariant-loop decreases-loop) → nat_abs (half c) ≤ 1000000
 half-small c = subst (λ (z : ℤ). nat_abs z ≤ 1000000) (sym (half_is c)) c.requires.0.small
 
-dealt-2 : (c : tie.After-deal invariant-loop decreases-loop) → Dealt 2 2 (evens (evens (at (inputs (inputs-deal c))))) c.deal.new.1.1.1.1.0
+dealt-2 : (c : tie.After-deal invariant-loop decreases-loop) → Dealt 2 2 (evens (evens (at (inputs (inputs-deal c))))) c.deal.new.a
 dealt-2 c = dealt (omega arith) c.deal.ensures (λ i l. let e : 0 + i * 4 ≡ 2 * (2 * (i)) = omega arith in ap (at (inputs (inputs-deal c))) e)
 
-made-2-2 : (c : tie.After-some invariant-loop decreases-loop) → Made 2 2 (line_sum c.before.before.before.before.before.deal.new.1.1.1.1.0 0 2 first-2-2 4 1) c.some.new.1.1.1.1.1.1.0
+made-2-2 : (c : tie.After-some invariant-loop decreases-loop) → Made 2 2 (line_sum c.before.before.before.before.before.deal.new.a 0 2 first-2-2 4 1) c.some.new.out
 made-2-2 c = made-next 2 (omega arith) (made_none 2 _) c.some.ensures
 
-level-2 : (c : tie.After-lift invariant-loop decreases-loop) → Sums 2 2 (half (start (inputs-lift c))) (evens (evens (at (inputs (inputs-lift c))))) 1 c.lift.new.1.1.0
+level-2 : (c : tie.After-lift invariant-loop decreases-loop) → Sums 2 2 (half (start (inputs-lift c))) (evens (evens (at (inputs (inputs-lift c))))) 1 c.lift.new.e
 level-2 c = lowest (half-small (start (inputs-lift c))) first-2-2-right (dealt-2 c.before.before.before.before.before.before.before.before) (made-2-2 c.before.before.before) c.lift.ensures
 
-dealt-4 : (c : tie.After-deal2 invariant-loop decreases-loop) → Dealt 2 2 (λ i. (evens (at (inputs (inputs-deal2 c)))) (2 * i + 1)) c.deal2.new.1.1.1.1.0
-dealt-4 c = dealt (omega arith) c.deal2.ensures (λ i l. let e : 2 + i * 4 ≡ 2 * (2 * i + 1) = omega arith in ap (at (inputs (inputs-deal2 c))) e)
+dealt-4 : (c : tie.After-deal-in-loop-l invariant-loop decreases-loop) → Dealt 2 2 (λ i. (evens (at (inputs (inputs-deal2 c)))) (2 * i + 1)) c.deal-in-loop-l.new.a
+dealt-4 c = dealt (omega arith) c.deal-in-loop-l.ensures (λ i l. let e : 2 + i * 4 ≡ 2 * (2 * i + 1) = omega arith in ap (at (inputs (inputs-deal2 c))) e)
 
-made-4-2 : (c : tie.After-some2 invariant-loop decreases-loop) → Made 2 2 (line_sum c.before.before.before.before.before.deal2.new.1.1.1.1.0 0 2 odd-4-2 4 1) c.some2.new.1.1.1.1.1.1.0
-made-4-2 c = made-next 2 (omega arith) (made_none 2 _) c.some2.ensures
+made-4-2 : (c : tie.After-some-in-loop-l invariant-loop decreases-loop) → Made 2 2 (line_sum c.before.before.before.before.before.deal-in-loop-l.new.a 0 2 odd-4-2 4 1) c.some-in-loop-l.new.out
+made-4-2 c = made-next 2 (omega arith) (made_none 2 _) c.some-in-loop-l.ensures
 
-level-4 : (c : tie.After-butterfly invariant-loop decreases-loop) → Sums 4 4 (half (start (inputs-butterfly c))) (evens (at (inputs (inputs-butterfly c)))) 2 c.butterfly.new.1.1.1.1.1.0
+level-4 : (c : tie.After-butterfly invariant-loop decreases-loop) → Sums 4 4 (half (start (inputs-butterfly c))) (evens (at (inputs (inputs-butterfly c)))) 2 c.butterfly.new.out
 level-4 c = up {x = evens (at (inputs (inputs-butterfly c)))} halves-4 (omega arith) odd-4-2-right (dealt-4 c.before.before.before.before.before.before.before.before.before.before) (level-2 c.before.before.before.before.before.before.before.before.before.before.before.before.before.before) (made-4-2 c.before.before.before.before.before) c.butterfly.ensures
 
-dealt-8 : (c : tie.After-deal3 invariant-loop decreases-loop) → Dealt 4 4 (λ i. (at (inputs (inputs-deal3 c))) (2 * i + 1)) c.deal3.new.1.1.1.1.0
-dealt-8 c = dealt (omega arith) c.deal3.ensures (λ i l. let e : 1 + i * 2 ≡ 2 * i + 1 = omega arith in ap (at (inputs (inputs-deal3 c))) e)
+dealt-8 : (c : tie.After-deal-in-loop-l-2 invariant-loop decreases-loop) → Dealt 4 4 (λ i. (at (inputs (inputs-deal3 c))) (2 * i + 1)) c.deal-in-loop-l-2.new.a
+dealt-8 c = dealt (omega arith) c.deal-in-loop-l-2.ensures (λ i l. let e : 1 + i * 2 ≡ 2 * i + 1 = omega arith in ap (at (inputs (inputs-deal3 c))) e)
 
-made-8-4 : (c : tie.After-some3 invariant-loop decreases-loop) → Made 4 4 (line_sum c.before.before.before.before.before.deal3.new.1.1.1.1.0 0 2 odd-8-4 8 2) c.some3.new.1.1.1.1.1.1.0
-made-8-4 c = made-next 4 (omega arith) (made_none 4 _) c.some3.ensures
+made-8-4 : (c : tie.After-some-in-loop-l-2 invariant-loop decreases-loop) → Made 4 4 (line_sum c.before.before.before.before.before.deal-in-loop-l-2.new.a 0 2 odd-8-4 8 2) c.some-in-loop-l-2.new.out
+made-8-4 c = made-next 4 (omega arith) (made_none 4 _) c.some-in-loop-l-2.ensures
 
-level-8 : (c : tie.After-butterfly2 invariant-loop decreases-loop) → Sums 8 8 (half (start (inputs-butterfly2 c))) (at (inputs (inputs-butterfly2 c))) 3 c.butterfly2.new.1.1.1.1.1.0
-level-8 c = up {x = at (inputs (inputs-butterfly2 c))} halves-8 (omega arith) odd-8-4-right (dealt-8 c.before.before.before.before.before.before.before.before.before.before) (level-4 c.before.before.before.before.before.before.before.before.before.before.before.before.before.before) (made-8-4 c.before.before.before.before.before) c.butterfly2.ensures
+level-8 : (c : tie.After-butterfly-in-loop-l invariant-loop decreases-loop) → Sums 8 8 (half (start (inputs-butterfly2 c))) (at (inputs (inputs-butterfly2 c))) 3 c.butterfly-in-loop-l.new.out
+level-8 c = up {x = at (inputs (inputs-butterfly2 c))} halves-8 (omega arith) odd-8-4-right (dealt-8 c.before.before.before.before.before.before.before.before.before.before) (level-4 c.before.before.before.before.before.before.before.before.before.before.before.before.before.before) (made-8-4 c.before.before.before.before.before) c.butterfly-in-loop-l.ensures
 
 abbrev value : tie.Start invariant-loop decreases-loop → ℕ → ℕ → ℤ
 value c = λ j l. shifted (half c) c.args.shift (rows_sum 8 8 8 c.args.apart c.args.m.now j l)
 
-row-0 : (c : tie.After-round invariant-loop decreases-loop) → WroteFrom 0 (8 * ((turn (inputs-round c)).before.loop.l + 1)) c.round.new.1.1.1.1.1.1.0 (replicate 64 (pos 0)) (tiled 8 (value (start (inputs-round c))) 0)
-row-0 c = round-next (start (inputs-round c)).args.shift 8 (start (inputs-round c)).args.apart (turn (inputs-round c)).before.loop.l (start (inputs-round c)).args.m.now (gathered-8 (inputs-round c)) (level-8 c.before.before.before.before) 0 (omega arith) (turn (inputs-round c)).before.loop.inv.1 c.round.ensures
+row-0 : (c : tie.After-round invariant-loop decreases-loop) → WroteFrom 0 (8 * ((turn (inputs-round c)).before.loop-l.l + 1)) c.round.new.r (replicate 64 (pos 0)) (tiled 8 (value (start (inputs-round c))) 0)
+row-0 c = round-next (start (inputs-round c)).args.shift 8 (start (inputs-round c)).args.apart (turn (inputs-round c)).before.loop-l.l (start (inputs-round c)).args.m.now (gathered-8 (inputs-round c)) (level-8 c.before.before.before.before) 0 (omega arith) (turn (inputs-round c)).before.loop-l.invariant.1 c.round.ensures
 
-columns-8 : (c : tie.After-spread-8-8 invariant-loop decreases-loop) → Columns 8 8 8 (value c.before.before.before.before.before) c.spread-8-8.new.1.1.1.0
-columns-8 c = columns-next (columns-none _ c.before.before.before.before.before.requires.1) (wrote-to 64 (omega (arith, c.before.before.before.before.loop.invariant.0, c.before.before.before.loop-test.false)) c.before.before.before.before.loop.invariant.1) c.spread-8-8.ensures
+columns-8 : (c : tie.After-spread_8_8 invariant-loop decreases-loop) → Columns 8 8 8 (value c.before.before.before.before.before) c.spread_8_8.new.r
+columns-8 c = columns-next (columns-none _ c.before.before.before.before.before.requires.1) (wrote-to 64 (omega (arith, c.before.before.before.before.loop-l.invariant.0, c.before.before.before.loop-l-test.false)) c.before.before.before.before.loop-l.invariant.1) c.spread_8_8.ensures
 
-loop-holds : tie.Need-loop-init invariant-loop decreases-loop
+loop-holds : tie.Need-loop-l-init invariant-loop decreases-loop
 loop-holds c = (omega arith, wrote-to _ (omega arith) (wrote_none 0 _ _))
 
-mul-take : tie.Need-overflow-mul-take invariant-loop decreases-loop
-mul-take c = omega (arith, group-there c.before.before.requires.0 0 c.before.loop.l c.loop-test.true 0 (omega arith) (omega arith))
+mul-take : tie.Need-offset_bounds-m-i0 invariant-loop decreases-loop
+mul-take c = omega (arith, group-there c.before.before.requires.0 0 c.before.loop-l.l c.loop-l-test.true 0 (omega arith) (omega arith))
 
-sub-take : tie.Need-overflow-sub-take invariant-loop decreases-loop
-sub-take c = omega (arith, group-there c.before.before.requires.0 0 c.before.loop.l c.loop-test.true 0 (omega arith) (omega arith))
+sub-take : tie.Need-slice_bounds-take-count invariant-loop decreases-loop
+sub-take c = omega (arith, group-there c.before.before.requires.0 0 c.before.loop-l.l c.loop-l-test.true 0 (omega arith) (omega arith))
 
-part-take-start : tie.Need-slice-bounds-take-start invariant-loop decreases-loop
-part-take-start c = omega (arith, group-there c.before.before.requires.0 0 c.before.loop.l c.loop-test.true 0 (omega arith) (omega arith))
+part-take-start : tie.Need-slice_bounds-take-start invariant-loop decreases-loop
+part-take-start c = omega (arith, group-there c.before.before.requires.0 0 c.before.loop-l.l c.loop-l-test.true 0 (omega arith) (omega arith))
 
-part-take-end : tie.Need-slice-bounds-take-end invariant-loop decreases-loop
-part-take-end c = omega (arith, group-there c.before.before.requires.0 0 c.before.loop.l c.loop-test.true 0 (omega arith) (omega arith))
+part-take-end : tie.Need-slice_bounds-take-end invariant-loop decreases-loop
+part-take-end c = omega (arith, group-there c.before.before.requires.0 0 c.before.loop-l.l c.loop-l-test.true 0 (omega arith) (omega arith))
 
-slice-aggregate-take : tie.Need-slice-aggregate-take invariant-loop decreases-loop
+slice-aggregate-take : tie.Need-slice_bounds-take-end-in-loop-l invariant-loop decreases-loop
 slice-aggregate-take c = refl
 
 take-requires : tie.Need-take-requires invariant-loop decreases-loop
-take-requires c κs = (omega arith, λ i h. group-room c.before.before.before.before.requires.0 0 c.before.before.before.loop.l c.before.before.loop-test.true _ i (omega arith) (omega arith) (omega arith))
+take-requires c κs = (omega arith, λ i h. group-room c.before.before.before.before.requires.0 0 c.before.before.before.loop-l.l c.before.before.loop-l-test.true _ i (omega arith) (omega arith) (omega arith))
 
-slice-aggregate-deal : tie.Need-slice-aggregate-deal invariant-loop decreases-loop
+slice-aggregate-deal : tie.Need-slice_bounds-deal-end invariant-loop decreases-loop
 slice-aggregate-deal c = sym (gathered-8 c.before.before).long
 
-slice-aggregate-deal-2 : tie.Need-slice-aggregate-deal-2 invariant-loop decreases-loop
+slice-aggregate-deal-2 : tie.Need-slice_bounds-deal-end-in-loop-l invariant-loop decreases-loop
 slice-aggregate-deal-2 c = refl
 
 deal-requires : tie.Need-deal-requires invariant-loop decreases-loop
 deal-requires c κs = (omega arith, λ i l. omega (arith, (gathered-8 c.before.before.before).long))
 
-slice-aggregate-some : tie.Need-slice-aggregate-some invariant-loop decreases-loop
+slice-aggregate-some : tie.Need-slice_bounds-some-end invariant-loop decreases-loop
 slice-aggregate-some c = sym (dealt-2 c.before.before).long
 
-slice-aggregate-some-2 : tie.Need-slice-aggregate-some-2 invariant-loop decreases-loop
+slice-aggregate-some-2 : tie.Need-slice_bounds-some-end-in-loop-l invariant-loop decreases-loop
 slice-aggregate-some-2 c = refl
 
-slice-aggregate-some-3 : tie.Need-slice-aggregate-some-3 invariant-loop decreases-loop
+slice-aggregate-some-3 : tie.Need-slice_bounds-some-end-in-loop-l-2 invariant-loop decreases-loop
 slice-aggregate-some-3 c = refl
 
 some-requires : tie.Need-some-requires invariant-loop decreases-loop
 some-requires c κs = (weighed first-2-2-right (dealt-2 c.before.before.before.before) 2 (omega arith), (omega arith, omega arith))
 
-slice-aggregate-lift : tie.Need-slice-aggregate-lift invariant-loop decreases-loop
+slice-aggregate-lift : tie.Need-slice_bounds-lift-end invariant-loop decreases-loop
 slice-aggregate-lift c = sym (made-2-2 c.before.before).long
 
 lift-requires : tie.Need-lift-requires invariant-loop decreases-loop
 lift-requires c κs = (omega (arith, half-small (start (inputs-some c.before.before))), made-small (made-2-2 c.before.before))
 
-slice-aggregate-deal-3 : tie.Need-slice-aggregate-deal-3 invariant-loop decreases-loop
+slice-aggregate-deal-3 : tie.Need-slice_bounds-deal-end-in-loop-l-2 invariant-loop decreases-loop
 slice-aggregate-deal-3 c = sym (gathered-8 (inputs-lift c.before.before)).long
 
-slice-aggregate-deal-4 : tie.Need-slice-aggregate-deal-4 invariant-loop decreases-loop
+slice-aggregate-deal-4 : tie.Need-slice_bounds-deal-end-in-loop-l-3 invariant-loop decreases-loop
 slice-aggregate-deal-4 c = refl
 
-deal-requires-2 : tie.Need-deal-requires-2 invariant-loop decreases-loop
+deal-requires-2 : tie.Need-deal-requires-in-loop-l invariant-loop decreases-loop
 deal-requires-2 c κs = (omega arith, λ i l. omega (arith, (gathered-8 (inputs-lift c.before.before.before)).long))
 
-slice-aggregate-some-4 : tie.Need-slice-aggregate-some-4 invariant-loop decreases-loop
+slice-aggregate-some-4 : tie.Need-slice_bounds-some-end-in-loop-l-3 invariant-loop decreases-loop
 slice-aggregate-some-4 c = sym (dealt-4 c.before.before).long
 
-slice-aggregate-some-5 : tie.Need-slice-aggregate-some-5 invariant-loop decreases-loop
+slice-aggregate-some-5 : tie.Need-slice_bounds-some-end-in-loop-l-4 invariant-loop decreases-loop
 slice-aggregate-some-5 c = refl
 
-slice-aggregate-some-6 : tie.Need-slice-aggregate-some-6 invariant-loop decreases-loop
+slice-aggregate-some-6 : tie.Need-slice_bounds-some-end-in-loop-l-5 invariant-loop decreases-loop
 slice-aggregate-some-6 c = refl
 
-some-requires-2 : tie.Need-some-requires-2 invariant-loop decreases-loop
+some-requires-2 : tie.Need-some-requires-in-loop-l invariant-loop decreases-loop
 some-requires-2 c κs = (weighed odd-4-2-right (dealt-4 c.before.before.before.before) 2 (omega arith), (omega arith, omega arith))
 
-slice-aggregate-butterfly : tie.Need-slice-aggregate-butterfly invariant-loop decreases-loop
+slice-aggregate-butterfly : tie.Need-slice_bounds-butterfly-end invariant-loop decreases-loop
 slice-aggregate-butterfly c = sym (level-2 c.before.before.before.before.before.before.before.before.before.before.before).long
 
-slice-aggregate-butterfly-2 : tie.Need-slice-aggregate-butterfly-2 invariant-loop decreases-loop
+slice-aggregate-butterfly-2 : tie.Need-slice_bounds-butterfly-end-in-loop-l invariant-loop decreases-loop
 slice-aggregate-butterfly-2 c = sym (made-4-2 c.before.before.before).long
 
-slice-aggregate-butterfly-3 : tie.Need-slice-aggregate-butterfly-3 invariant-loop decreases-loop
+slice-aggregate-butterfly-3 : tie.Need-slice_bounds-butterfly-end-in-loop-l-2 invariant-loop decreases-loop
 slice-aggregate-butterfly-3 c = refl
 
 butterfly-requires : tie.Need-butterfly-requires invariant-loop decreases-loop
 butterfly-requires c κs = (sums-small (omega arith) (level-2 c.before.before.before.before.before.before.before.before.before.before.before.before.before), (made-small (made-4-2 c.before.before.before.before), (omega arith, (omega arith, omega arith))))
 
-slice-aggregate-deal-5 : tie.Need-slice-aggregate-deal-5 invariant-loop decreases-loop
+slice-aggregate-deal-5 : tie.Need-slice_bounds-deal-end-in-loop-l-4 invariant-loop decreases-loop
 slice-aggregate-deal-5 c = sym (gathered-8 (inputs-butterfly c.before.before)).long
 
-slice-aggregate-deal-6 : tie.Need-slice-aggregate-deal-6 invariant-loop decreases-loop
+slice-aggregate-deal-6 : tie.Need-slice_bounds-deal-end-in-loop-l-5 invariant-loop decreases-loop
 slice-aggregate-deal-6 c = refl
 
-deal-requires-3 : tie.Need-deal-requires-3 invariant-loop decreases-loop
+deal-requires-3 : tie.Need-deal-requires-in-loop-l-2 invariant-loop decreases-loop
 deal-requires-3 c κs = (omega arith, λ i l. omega (arith, (gathered-8 (inputs-butterfly c.before.before.before)).long))
 
-slice-aggregate-some-7 : tie.Need-slice-aggregate-some-7 invariant-loop decreases-loop
+slice-aggregate-some-7 : tie.Need-slice_bounds-some-end-in-loop-l-6 invariant-loop decreases-loop
 slice-aggregate-some-7 c = sym (dealt-8 c.before.before).long
 
-slice-aggregate-some-8 : tie.Need-slice-aggregate-some-8 invariant-loop decreases-loop
+slice-aggregate-some-8 : tie.Need-slice_bounds-some-end-in-loop-l-7 invariant-loop decreases-loop
 slice-aggregate-some-8 c = refl
 
-slice-aggregate-some-9 : tie.Need-slice-aggregate-some-9 invariant-loop decreases-loop
+slice-aggregate-some-9 : tie.Need-slice_bounds-some-end-in-loop-l-8 invariant-loop decreases-loop
 slice-aggregate-some-9 c = refl
 
-some-requires-3 : tie.Need-some-requires-3 invariant-loop decreases-loop
+some-requires-3 : tie.Need-some-requires-in-loop-l-2 invariant-loop decreases-loop
 some-requires-3 c κs = (weighed odd-8-4-right (dealt-8 c.before.before.before.before) 4 (omega arith), (omega arith, omega arith))
 
-slice-aggregate-butterfly-4 : tie.Need-slice-aggregate-butterfly-4 invariant-loop decreases-loop
+slice-aggregate-butterfly-4 : tie.Need-slice_bounds-butterfly-end-in-loop-l-3 invariant-loop decreases-loop
 slice-aggregate-butterfly-4 c = sym (level-4 c.before.before.before.before.before.before.before.before.before.before.before).long
 
-slice-aggregate-butterfly-5 : tie.Need-slice-aggregate-butterfly-5 invariant-loop decreases-loop
+slice-aggregate-butterfly-5 : tie.Need-slice_bounds-butterfly-end-in-loop-l-4 invariant-loop decreases-loop
 slice-aggregate-butterfly-5 c = sym (made-8-4 c.before.before.before).long
 
-slice-aggregate-butterfly-6 : tie.Need-slice-aggregate-butterfly-6 invariant-loop decreases-loop
+slice-aggregate-butterfly-6 : tie.Need-slice_bounds-butterfly-end-in-loop-l-5 invariant-loop decreases-loop
 slice-aggregate-butterfly-6 c = refl
 
-butterfly-requires-2 : tie.Need-butterfly-requires-2 invariant-loop decreases-loop
+butterfly-requires-2 : tie.Need-butterfly-requires-in-loop-l invariant-loop decreases-loop
 butterfly-requires-2 c κs = (sums-small (omega arith) (level-4 c.before.before.before.before.before.before.before.before.before.before.before.before.before), (made-small (made-8-4 c.before.before.before.before), (omega arith, (omega arith, omega arith))))
 
-slice-aggregate-round : tie.Need-slice-aggregate-round invariant-loop decreases-loop
+slice-aggregate-round : tie.Need-slice_bounds-round-end invariant-loop decreases-loop
 slice-aggregate-round c = sym (level-8 c.before.before).long
 
-mul-round : tie.Need-overflow-mul-round invariant-loop decreases-loop
-mul-round c = omega (arith, (turn (inputs-butterfly2 c.before.before)).loop-test.taken)
+mul-round : tie.Need-overflow_mul-l invariant-loop decreases-loop
+mul-round c = omega (arith, (turn (inputs-butterfly2 c.before.before)).loop-l-test.true)
 
-slice-aggregate-round-2 : tie.Need-slice-aggregate-round-2 invariant-loop decreases-loop
-slice-aggregate-round-2 c = sym (turn (inputs-butterfly2 c.before.before.before)).before.loop.inv.1.long
+slice-aggregate-round-2 : tie.Need-slice_bounds-round-end-in-loop-l invariant-loop decreases-loop
+slice-aggregate-round-2 c = sym (turn (inputs-butterfly2 c.before.before.before)).before.loop-l.invariant.1.long
 
 round-requires : tie.Need-round-requires invariant-loop decreases-loop
-round-requires c κs = ((start (inputs-butterfly2 c.before.before.before)).pre.0.short, (omega (arith, (level-8 c.before.before.before).long), omega (arith, (turn (inputs-butterfly2 c.before.before.before)).before.loop.inv.1.long, (turn (inputs-butterfly2 c.before.before.before)).loop-test.taken)))
+round-requires c κs = ((start (inputs-butterfly2 c.before.before.before)).requires.0.short, (omega (arith, (level-8 c.before.before.before).long), omega (arith, (turn (inputs-butterfly2 c.before.before.before)).before.loop-l.invariant.1.long, (turn (inputs-butterfly2 c.before.before.before)).loop-l-test.true)))
 
-add-l : tie.Need-overflow-add-l invariant-loop decreases-loop
-add-l c = omega (arith, (turn (inputs-round c.before)).loop-test.taken)
+add-l : tie.Need-overflow_add-l invariant-loop decreases-loop
+add-l c = omega (arith, (turn (inputs-round c.before)).loop-l-test.true)
 
-loop-less : tie.Need-loop-smaller invariant-loop decreases-loop
-loop-less c = omega (arith, (turn (inputs-round c.before)).loop-test.taken)
+loop-less : tie.Need-loop-l-smaller invariant-loop decreases-loop
+loop-less c = omega (arith, (turn (inputs-round c.before)).loop-l-test.true)
 
-loop-again : tie.Need-loop-preserved invariant-loop decreases-loop
-loop-again c = (omega (arith, (turn (inputs-round c.before)).loop-test.taken), (row-0 c.before))
+loop-again : tie.Need-loop-l-preserved invariant-loop decreases-loop
+loop-again c = (omega (arith, (turn (inputs-round c.before)).loop-l-test.true), (row-0 c.before))
 
-spread-8-8-requires : tie.Need-spread-8-8-requires invariant-loop decreases-loop
-spread-8-8-requires c κs = (c.before.before.before.loop.invariant.1.long, (omega arith, omega (arith, c.before.before.before.before.requires.1)))
+spread-8-8-requires : tie.Need-spread_8_8-requires invariant-loop decreases-loop
+spread-8-8-requires c κs = (c.before.before.before.loop-l.invariant.1.long, (omega arith, omega (arith, c.before.before.before.before.requires.1)))
 
-same_length : tie.Need-same-length invariant-loop decreases-loop
+same_length : tie.Need-shape_of-r invariant-loop decreases-loop
 same_length c = (columns-8 c.before).long ∙ sym c.before.before.before.before.before.before.requires.1
 
 returns : tie.Need-returns invariant-loop decreases-loop
 returns c = columns-all (omega arith) (columns-8 c.before) ∙ ap (λ (z : ℤ). block 8 8 (λ j l. shifted z c.before.before.before.before.before.before.args.shift (rows_sum 8 8 8 c.before.before.before.before.before.before.args.apart c.before.before.before.before.before.before.args.m.now j l))) (half_is c.before.before.before.before.before.before)
 
-pub along-8-8-8-spec : {M : Type 1} → statement M
-along-8-8-8-spec = tie.close (tie.spec invariant-loop decreases-loop loop-holds mul-take sub-take part-take-start part-take-end slice-aggregate-take take-requires slice-aggregate-deal slice-aggregate-deal-2 deal-requires slice-aggregate-some slice-aggregate-some-2 slice-aggregate-some-3 some-requires slice-aggregate-lift lift-requires slice-aggregate-deal-3 slice-aggregate-deal-4 deal-requires-2 slice-aggregate-some-4 slice-aggregate-some-5 slice-aggregate-some-6 some-requires-2 slice-aggregate-butterfly slice-aggregate-butterfly-2 slice-aggregate-butterfly-3 butterfly-requires slice-aggregate-deal-5 slice-aggregate-deal-6 deal-requires-3 slice-aggregate-some-7 slice-aggregate-some-8 slice-aggregate-some-9 some-requires-3 slice-aggregate-butterfly-4 slice-aggregate-butterfly-5 slice-aggregate-butterfly-6 butterfly-requires-2 slice-aggregate-round mul-round slice-aggregate-round-2 round-requires add-l loop-less loop-again spread-8-8-requires same_length returns)
+pub along_8_8_8_spec : {M : Type 1} → statement M
+along_8_8_8_spec = tie.close (tie.spec invariant-loop decreases-loop loop-holds mul-take sub-take part-take-start part-take-end slice-aggregate-take take-requires slice-aggregate-deal slice-aggregate-deal-2 deal-requires slice-aggregate-some slice-aggregate-some-2 slice-aggregate-some-3 some-requires slice-aggregate-lift lift-requires slice-aggregate-deal-3 slice-aggregate-deal-4 deal-requires-2 slice-aggregate-some-4 slice-aggregate-some-5 slice-aggregate-some-6 some-requires-2 slice-aggregate-butterfly slice-aggregate-butterfly-2 slice-aggregate-butterfly-3 butterfly-requires slice-aggregate-deal-5 slice-aggregate-deal-6 deal-requires-3 slice-aggregate-some-7 slice-aggregate-some-8 slice-aggregate-some-9 some-requires-3 slice-aggregate-butterfly-4 slice-aggregate-butterfly-5 slice-aggregate-butterfly-6 butterfly-requires-2 slice-aggregate-round mul-round slice-aggregate-round-2 round-requires add-l loop-less loop-again spread-8-8-requires same_length returns)

@@ -17,22 +17,22 @@ use Rattle.kernel_levels.proofs.Stored.{first-2-2, first-2-2-right, odd-16-8, od
 use Rattle.kernels_down_32_32.proofs.down_32_32_8.Statement.{statement}
 use Rattle.kernels_down_32_32.proofs.down_32_32_8.Tie as tie
 
-abbrev invariant-loop : tie.invariant-loop
+abbrev invariant-loop : tie.invariant-loop-x
 invariant-loop c w x0 rows many m₀ b x₀ m x = Turning 8 8 32 x 0 (λ x y. middle short_range (strip_sum 32 w x0 rows c x y)) m m₀
 
-abbrev decreases-loop : tie.decreases-loop
+abbrev decreases-loop : tie.decreases-loop-x
 decreases-loop c w x0 rows many m₀ b x₀ m x = 8 - x
 
 abbrev inputs : tie.After-deal invariant-loop decreases-loop → List ℤ
-inputs c = c.deal.new.1.1.1.1.0
+inputs c = c.deal.new.a
 
-abbrev turn : tie.After-deal invariant-loop decreases-loop → tie.In-loop invariant-loop decreases-loop
+abbrev turn : tie.After-deal invariant-loop decreases-loop → tie.In-loop-x invariant-loop decreases-loop
 turn c = c.before.before.before
 
 abbrev start : tie.After-deal invariant-loop decreases-loop → tie.Start invariant-loop decreases-loop
 start c = c.before.before.before.before.before.before.before.before
 
-abbrev inputs-deal2 : tie.After-deal2 invariant-loop decreases-loop → tie.After-deal invariant-loop decreases-loop
+abbrev inputs-deal2 : tie.After-deal-in-loop-x invariant-loop decreases-loop → tie.After-deal invariant-loop decreases-loop
 inputs-deal2 c = c.before.before.before.before
 
 abbrev inputs-some : tie.After-some invariant-loop decreases-loop → tie.After-deal invariant-loop decreases-loop
@@ -41,497 +41,497 @@ inputs-some c = inputs-deal2 c.before.before.before.before.before
 abbrev inputs-lift : tie.After-lift invariant-loop decreases-loop → tie.After-deal invariant-loop decreases-loop
 inputs-lift c = inputs-some c.before.before.before
 
-abbrev inputs-deal3 : tie.After-deal3 invariant-loop decreases-loop → tie.After-deal invariant-loop decreases-loop
+abbrev inputs-deal3 : tie.After-deal-in-loop-x-2 invariant-loop decreases-loop → tie.After-deal invariant-loop decreases-loop
 inputs-deal3 c = inputs-lift c.before.before.before.before
 
-abbrev inputs-some2 : tie.After-some2 invariant-loop decreases-loop → tie.After-deal invariant-loop decreases-loop
+abbrev inputs-some2 : tie.After-some-in-loop-x invariant-loop decreases-loop → tie.After-deal invariant-loop decreases-loop
 inputs-some2 c = inputs-deal3 c.before.before.before.before.before
 
 abbrev inputs-butterfly : tie.After-butterfly invariant-loop decreases-loop → tie.After-deal invariant-loop decreases-loop
 inputs-butterfly c = inputs-some2 c.before.before.before.before.before
 
-abbrev inputs-deal4 : tie.After-deal4 invariant-loop decreases-loop → tie.After-deal invariant-loop decreases-loop
+abbrev inputs-deal4 : tie.After-deal-in-loop-x-3 invariant-loop decreases-loop → tie.After-deal invariant-loop decreases-loop
 inputs-deal4 c = inputs-butterfly c.before.before.before.before
 
-abbrev inputs-some3 : tie.After-some3 invariant-loop decreases-loop → tie.After-deal invariant-loop decreases-loop
+abbrev inputs-some3 : tie.After-some-in-loop-x-2 invariant-loop decreases-loop → tie.After-deal invariant-loop decreases-loop
 inputs-some3 c = inputs-deal4 c.before.before.before.before.before
 
-abbrev inputs-butterfly2 : tie.After-butterfly2 invariant-loop decreases-loop → tie.After-deal invariant-loop decreases-loop
+abbrev inputs-butterfly2 : tie.After-butterfly-in-loop-x invariant-loop decreases-loop → tie.After-deal invariant-loop decreases-loop
 inputs-butterfly2 c = inputs-some3 c.before.before.before.before.before
 
-abbrev inputs-deal5 : tie.After-deal5 invariant-loop decreases-loop → tie.After-deal invariant-loop decreases-loop
+abbrev inputs-deal5 : tie.After-deal-in-loop-x-4 invariant-loop decreases-loop → tie.After-deal invariant-loop decreases-loop
 inputs-deal5 c = inputs-butterfly2 c.before.before.before.before
 
-abbrev inputs-some4 : tie.After-some4 invariant-loop decreases-loop → tie.After-deal invariant-loop decreases-loop
+abbrev inputs-some4 : tie.After-some-in-loop-x-3 invariant-loop decreases-loop → tie.After-deal invariant-loop decreases-loop
 inputs-some4 c = inputs-deal5 c.before.before.before.before.before
 
-abbrev inputs-some5 : tie.After-some5 invariant-loop decreases-loop → tie.After-deal invariant-loop decreases-loop
+abbrev inputs-some5 : tie.After-some-in-loop-x-4 invariant-loop decreases-loop → tie.After-deal invariant-loop decreases-loop
 inputs-some5 c = inputs-some4 c.before.before.before.before.before
 
-abbrev inputs-butterfly3 : tie.After-butterfly3 invariant-loop decreases-loop → tie.After-deal invariant-loop decreases-loop
+abbrev inputs-butterfly3 : tie.After-butterfly-in-loop-x-2 invariant-loop decreases-loop → tie.After-deal invariant-loop decreases-loop
 inputs-butterfly3 c = inputs-some5 c.before.before.before.before.before
 
-abbrev inputs-deal6 : tie.After-deal6 invariant-loop decreases-loop → tie.After-deal invariant-loop decreases-loop
+abbrev inputs-deal6 : tie.After-deal-in-loop-x-5 invariant-loop decreases-loop → tie.After-deal invariant-loop decreases-loop
 inputs-deal6 c = inputs-butterfly3 c.before.before.before.before
 
-abbrev inputs-some6 : tie.After-some6 invariant-loop decreases-loop → tie.After-deal invariant-loop decreases-loop
+abbrev inputs-some6 : tie.After-some-in-loop-x-5 invariant-loop decreases-loop → tie.After-deal invariant-loop decreases-loop
 inputs-some6 c = inputs-deal6 c.before.before.before.before.before
 
-abbrev inputs-some7 : tie.After-some7 invariant-loop decreases-loop → tie.After-deal invariant-loop decreases-loop
+abbrev inputs-some7 : tie.After-some-in-loop-x-6 invariant-loop decreases-loop → tie.After-deal invariant-loop decreases-loop
 inputs-some7 c = inputs-some6 c.before.before.before.before.before
 
-abbrev inputs-some8 : tie.After-some8 invariant-loop decreases-loop → tie.After-deal invariant-loop decreases-loop
+abbrev inputs-some8 : tie.After-some-in-loop-x-7 invariant-loop decreases-loop → tie.After-deal invariant-loop decreases-loop
 inputs-some8 c = inputs-some7 c.before.before.before.before.before
 
-abbrev inputs-some9 : tie.After-some9 invariant-loop decreases-loop → tie.After-deal invariant-loop decreases-loop
+abbrev inputs-some9 : tie.After-some-in-loop-x-8 invariant-loop decreases-loop → tie.After-deal invariant-loop decreases-loop
 inputs-some9 c = inputs-some8 c.before.before.before.before.before
 
-abbrev inputs-some10 : tie.After-some10 invariant-loop decreases-loop → tie.After-deal invariant-loop decreases-loop
+abbrev inputs-some10 : tie.After-some-in-loop-x-9 invariant-loop decreases-loop → tie.After-deal invariant-loop decreases-loop
 inputs-some10 c = inputs-some9 c.before.before.before.before.before
 
-abbrev inputs-some11 : tie.After-some11 invariant-loop decreases-loop → tie.After-deal invariant-loop decreases-loop
+abbrev inputs-some11 : tie.After-some-in-loop-x-10 invariant-loop decreases-loop → tie.After-deal invariant-loop decreases-loop
 inputs-some11 c = inputs-some10 c.before.before.before.before.before
 
-abbrev inputs-some12 : tie.After-some12 invariant-loop decreases-loop → tie.After-deal invariant-loop decreases-loop
+abbrev inputs-some12 : tie.After-some-in-loop-x-11 invariant-loop decreases-loop → tie.After-deal invariant-loop decreases-loop
 inputs-some12 c = inputs-some11 c.before.before.before.before.before
 
-abbrev inputs-some13 : tie.After-some13 invariant-loop decreases-loop → tie.After-deal invariant-loop decreases-loop
+abbrev inputs-some13 : tie.After-some-in-loop-x-12 invariant-loop decreases-loop → tie.After-deal invariant-loop decreases-loop
 inputs-some13 c = inputs-some12 c.before.before.before.before.before
 
-abbrev inputs-butterfly4 : tie.After-butterfly4 invariant-loop decreases-loop → tie.After-deal invariant-loop decreases-loop
+abbrev inputs-butterfly4 : tie.After-butterfly-in-loop-x-3 invariant-loop decreases-loop → tie.After-deal invariant-loop decreases-loop
 inputs-butterfly4 c = inputs-some13 c.before.before.before.before.before
 
 abbrev inputs-put : tie.After-put invariant-loop decreases-loop → tie.After-deal invariant-loop decreases-loop
 inputs-put c = inputs-butterfly4 c.before.before.before.before
 
-abbrev inputs-put2 : tie.After-put2 invariant-loop decreases-loop → tie.After-deal invariant-loop decreases-loop
+abbrev inputs-put2 : tie.After-put-in-loop-x invariant-loop decreases-loop → tie.After-deal invariant-loop decreases-loop
 inputs-put2 c = inputs-put c.before.before.before.before
 
-abbrev inputs-put3 : tie.After-put3 invariant-loop decreases-loop → tie.After-deal invariant-loop decreases-loop
+abbrev inputs-put3 : tie.After-put-in-loop-x-2 invariant-loop decreases-loop → tie.After-deal invariant-loop decreases-loop
 inputs-put3 c = inputs-put2 c.before.before.before.before
 
-abbrev inputs-put4 : tie.After-put4 invariant-loop decreases-loop → tie.After-deal invariant-loop decreases-loop
+abbrev inputs-put4 : tie.After-put-in-loop-x-3 invariant-loop decreases-loop → tie.After-deal invariant-loop decreases-loop
 inputs-put4 c = inputs-put3 c.before.before.before.before
 
-dealt-a : (c : tie.After-deal invariant-loop decreases-loop) → Dealt 32 32 (λ i. at c.before.before.before.before.before.before.strip-8.new.1.1.1.1.0 ((turn c).before.loop.x + i * 8)) (inputs c)
+dealt-a : (c : tie.After-deal invariant-loop decreases-loop) → Dealt 32 32 (λ i. at c.before.before.before.before.before.before.strip_8.new.b ((turn c).before.loop-x.x + i * 8)) (inputs c)
 dealt-a c = dealt (omega arith) c.deal.ensures (λ i l. refl)
 
-dealt-2 : (c : tie.After-deal2 invariant-loop decreases-loop) → Dealt 2 2 (evens (evens (evens (evens (at (inputs (inputs-deal2 c))))))) c.deal2.new.1.1.1.1.0
-dealt-2 c = dealt (omega arith) c.deal2.ensures (λ i l. let e : 0 + i * 16 ≡ 2 * (2 * (2 * (2 * (i)))) = omega arith in ap (at (inputs (inputs-deal2 c))) e)
+dealt-2 : (c : tie.After-deal-in-loop-x invariant-loop decreases-loop) → Dealt 2 2 (evens (evens (evens (evens (at (inputs (inputs-deal2 c))))))) c.deal-in-loop-x.new.a
+dealt-2 c = dealt (omega arith) c.deal-in-loop-x.ensures (λ i l. let e : 0 + i * 16 ≡ 2 * (2 * (2 * (2 * (i)))) = omega arith in ap (at (inputs (inputs-deal2 c))) e)
 
-made-2-2 : (c : tie.After-some invariant-loop decreases-loop) → Made 2 2 (line_sum c.before.before.before.before.before.deal2.new.1.1.1.1.0 0 2 first-2-2 4 1) c.some.new.1.1.1.1.1.1.0
+made-2-2 : (c : tie.After-some invariant-loop decreases-loop) → Made 2 2 (line_sum c.before.before.before.before.before.deal-in-loop-x.new.a 0 2 first-2-2 4 1) c.some.new.out
 made-2-2 c = made-next 2 (omega arith) (made_none 2 _) c.some.ensures
 
-level-2 : (c : tie.After-lift invariant-loop decreases-loop) → Sums 2 2 (pos 64) (evens (evens (evens (evens (at (inputs (inputs-lift c))))))) 1 c.lift.new.1.1.0
+level-2 : (c : tie.After-lift invariant-loop decreases-loop) → Sums 2 2 (pos 64) (evens (evens (evens (evens (at (inputs (inputs-lift c))))))) 1 c.lift.new.e
 level-2 c = lowest (omega arith) first-2-2-right (dealt-2 c.before.before.before.before.before.before.before.before) (made-2-2 c.before.before.before) c.lift.ensures
 
-dealt-4 : (c : tie.After-deal3 invariant-loop decreases-loop) → Dealt 2 2 (λ i. (evens (evens (evens (at (inputs (inputs-deal3 c)))))) (2 * i + 1)) c.deal3.new.1.1.1.1.0
-dealt-4 c = dealt (omega arith) c.deal3.ensures (λ i l. let e : 8 + i * 16 ≡ 2 * (2 * (2 * (2 * i + 1))) = omega arith in ap (at (inputs (inputs-deal3 c))) e)
+dealt-4 : (c : tie.After-deal-in-loop-x-2 invariant-loop decreases-loop) → Dealt 2 2 (λ i. (evens (evens (evens (at (inputs (inputs-deal3 c)))))) (2 * i + 1)) c.deal-in-loop-x-2.new.a
+dealt-4 c = dealt (omega arith) c.deal-in-loop-x-2.ensures (λ i l. let e : 8 + i * 16 ≡ 2 * (2 * (2 * (2 * i + 1))) = omega arith in ap (at (inputs (inputs-deal3 c))) e)
 
-made-4-2 : (c : tie.After-some2 invariant-loop decreases-loop) → Made 2 2 (line_sum c.before.before.before.before.before.deal3.new.1.1.1.1.0 0 2 odd-4-2 4 1) c.some2.new.1.1.1.1.1.1.0
-made-4-2 c = made-next 2 (omega arith) (made_none 2 _) c.some2.ensures
+made-4-2 : (c : tie.After-some-in-loop-x invariant-loop decreases-loop) → Made 2 2 (line_sum c.before.before.before.before.before.deal-in-loop-x-2.new.a 0 2 odd-4-2 4 1) c.some-in-loop-x.new.out
+made-4-2 c = made-next 2 (omega arith) (made_none 2 _) c.some-in-loop-x.ensures
 
-level-4 : (c : tie.After-butterfly invariant-loop decreases-loop) → Sums 4 4 (pos 64) (evens (evens (evens (at (inputs (inputs-butterfly c)))))) 2 c.butterfly.new.1.1.1.1.1.0
+level-4 : (c : tie.After-butterfly invariant-loop decreases-loop) → Sums 4 4 (pos 64) (evens (evens (evens (at (inputs (inputs-butterfly c)))))) 2 c.butterfly.new.out
 level-4 c = up {x = evens (evens (evens (at (inputs (inputs-butterfly c)))))} halves-4 (omega arith) odd-4-2-right (dealt-4 c.before.before.before.before.before.before.before.before.before.before) (level-2 c.before.before.before.before.before.before.before.before.before.before.before.before.before.before) (made-4-2 c.before.before.before.before.before) c.butterfly.ensures
 
-dealt-8 : (c : tie.After-deal4 invariant-loop decreases-loop) → Dealt 4 4 (λ i. (evens (evens (at (inputs (inputs-deal4 c))))) (2 * i + 1)) c.deal4.new.1.1.1.1.0
-dealt-8 c = dealt (omega arith) c.deal4.ensures (λ i l. let e : 4 + i * 8 ≡ 2 * (2 * (2 * i + 1)) = omega arith in ap (at (inputs (inputs-deal4 c))) e)
+dealt-8 : (c : tie.After-deal-in-loop-x-3 invariant-loop decreases-loop) → Dealt 4 4 (λ i. (evens (evens (at (inputs (inputs-deal4 c))))) (2 * i + 1)) c.deal-in-loop-x-3.new.a
+dealt-8 c = dealt (omega arith) c.deal-in-loop-x-3.ensures (λ i l. let e : 4 + i * 8 ≡ 2 * (2 * (2 * i + 1)) = omega arith in ap (at (inputs (inputs-deal4 c))) e)
 
-made-8-4 : (c : tie.After-some3 invariant-loop decreases-loop) → Made 4 4 (line_sum c.before.before.before.before.before.deal4.new.1.1.1.1.0 0 2 odd-8-4 8 2) c.some3.new.1.1.1.1.1.1.0
-made-8-4 c = made-next 4 (omega arith) (made_none 4 _) c.some3.ensures
+made-8-4 : (c : tie.After-some-in-loop-x-2 invariant-loop decreases-loop) → Made 4 4 (line_sum c.before.before.before.before.before.deal-in-loop-x-3.new.a 0 2 odd-8-4 8 2) c.some-in-loop-x-2.new.out
+made-8-4 c = made-next 4 (omega arith) (made_none 4 _) c.some-in-loop-x-2.ensures
 
-level-8 : (c : tie.After-butterfly2 invariant-loop decreases-loop) → Sums 8 8 (pos 64) (evens (evens (at (inputs (inputs-butterfly2 c))))) 3 c.butterfly2.new.1.1.1.1.1.0
-level-8 c = up {x = evens (evens (at (inputs (inputs-butterfly2 c))))} halves-8 (omega arith) odd-8-4-right (dealt-8 c.before.before.before.before.before.before.before.before.before.before) (level-4 c.before.before.before.before.before.before.before.before.before.before.before.before.before.before) (made-8-4 c.before.before.before.before.before) c.butterfly2.ensures
+level-8 : (c : tie.After-butterfly-in-loop-x invariant-loop decreases-loop) → Sums 8 8 (pos 64) (evens (evens (at (inputs (inputs-butterfly2 c))))) 3 c.butterfly-in-loop-x.new.out
+level-8 c = up {x = evens (evens (at (inputs (inputs-butterfly2 c))))} halves-8 (omega arith) odd-8-4-right (dealt-8 c.before.before.before.before.before.before.before.before.before.before) (level-4 c.before.before.before.before.before.before.before.before.before.before.before.before.before.before) (made-8-4 c.before.before.before.before.before) c.butterfly-in-loop-x.ensures
 
-dealt-16 : (c : tie.After-deal5 invariant-loop decreases-loop) → Dealt 8 8 (λ i. (evens (at (inputs (inputs-deal5 c)))) (2 * i + 1)) c.deal5.new.1.1.1.1.0
-dealt-16 c = dealt (omega arith) c.deal5.ensures (λ i l. let e : 2 + i * 4 ≡ 2 * (2 * i + 1) = omega arith in ap (at (inputs (inputs-deal5 c))) e)
+dealt-16 : (c : tie.After-deal-in-loop-x-4 invariant-loop decreases-loop) → Dealt 8 8 (λ i. (evens (at (inputs (inputs-deal5 c)))) (2 * i + 1)) c.deal-in-loop-x-4.new.a
+dealt-16 c = dealt (omega arith) c.deal-in-loop-x-4.ensures (λ i l. let e : 2 + i * 4 ≡ 2 * (2 * i + 1) = omega arith in ap (at (inputs (inputs-deal5 c))) e)
 
-made-16-4 : (c : tie.After-some4 invariant-loop decreases-loop) → Made 4 8 (line_sum c.before.before.before.before.before.deal5.new.1.1.1.1.0 0 2 odd-16-8 16 4) c.some4.new.1.1.1.1.1.1.0
-made-16-4 c = made-next 4 (omega arith) (made_none 8 _) c.some4.ensures
+made-16-4 : (c : tie.After-some-in-loop-x-3 invariant-loop decreases-loop) → Made 4 8 (line_sum c.before.before.before.before.before.deal-in-loop-x-4.new.a 0 2 odd-16-8 16 4) c.some-in-loop-x-3.new.out
+made-16-4 c = made-next 4 (omega arith) (made_none 8 _) c.some-in-loop-x-3.ensures
 
-made-16-8 : (c : tie.After-some5 invariant-loop decreases-loop) → Made 8 8 (line_sum c.before.before.before.before.before.before.before.before.before.before.deal5.new.1.1.1.1.0 0 2 odd-16-8 16 4) c.some5.new.1.1.1.1.1.1.0
-made-16-8 c = made-next 8 (omega arith) (made-16-4 c.before.before.before.before.before) c.some5.ensures
+made-16-8 : (c : tie.After-some-in-loop-x-4 invariant-loop decreases-loop) → Made 8 8 (line_sum c.before.before.before.before.before.before.before.before.before.before.deal-in-loop-x-4.new.a 0 2 odd-16-8 16 4) c.some-in-loop-x-4.new.out
+made-16-8 c = made-next 8 (omega arith) (made-16-4 c.before.before.before.before.before) c.some-in-loop-x-4.ensures
 
-level-16 : (c : tie.After-butterfly3 invariant-loop decreases-loop) → Sums 16 16 (pos 64) (evens (at (inputs (inputs-butterfly3 c)))) 4 c.butterfly3.new.1.1.1.1.1.0
-level-16 c = up {x = evens (at (inputs (inputs-butterfly3 c)))} halves-16 (omega arith) odd-16-8-right (dealt-16 c.before.before.before.before.before.before.before.before.before.before.before.before.before.before.before) (level-8 c.before.before.before.before.before.before.before.before.before.before.before.before.before.before.before.before.before.before.before) (made-16-8 c.before.before.before.before.before) c.butterfly3.ensures
+level-16 : (c : tie.After-butterfly-in-loop-x-2 invariant-loop decreases-loop) → Sums 16 16 (pos 64) (evens (at (inputs (inputs-butterfly3 c)))) 4 c.butterfly-in-loop-x-2.new.out
+level-16 c = up {x = evens (at (inputs (inputs-butterfly3 c)))} halves-16 (omega arith) odd-16-8-right (dealt-16 c.before.before.before.before.before.before.before.before.before.before.before.before.before.before.before) (level-8 c.before.before.before.before.before.before.before.before.before.before.before.before.before.before.before.before.before.before.before) (made-16-8 c.before.before.before.before.before) c.butterfly-in-loop-x-2.ensures
 
-dealt-32 : (c : tie.After-deal6 invariant-loop decreases-loop) → Dealt 16 16 (λ i. (at (inputs (inputs-deal6 c))) (2 * i + 1)) c.deal6.new.1.1.1.1.0
-dealt-32 c = dealt (omega arith) c.deal6.ensures (λ i l. let e : 1 + i * 2 ≡ 2 * i + 1 = omega arith in ap (at (inputs (inputs-deal6 c))) e)
+dealt-32 : (c : tie.After-deal-in-loop-x-5 invariant-loop decreases-loop) → Dealt 16 16 (λ i. (at (inputs (inputs-deal6 c))) (2 * i + 1)) c.deal-in-loop-x-5.new.a
+dealt-32 c = dealt (omega arith) c.deal-in-loop-x-5.ensures (λ i l. let e : 1 + i * 2 ≡ 2 * i + 1 = omega arith in ap (at (inputs (inputs-deal6 c))) e)
 
-made-32-2 : (c : tie.After-some6 invariant-loop decreases-loop) → Made 2 16 (line_sum c.before.before.before.before.before.deal6.new.1.1.1.1.0 0 2 odd-32-16 32 8) c.some6.new.1.1.1.1.1.1.0
-made-32-2 c = made-next 2 (omega arith) (made_none 16 _) c.some6.ensures
+made-32-2 : (c : tie.After-some-in-loop-x-5 invariant-loop decreases-loop) → Made 2 16 (line_sum c.before.before.before.before.before.deal-in-loop-x-5.new.a 0 2 odd-32-16 32 8) c.some-in-loop-x-5.new.out
+made-32-2 c = made-next 2 (omega arith) (made_none 16 _) c.some-in-loop-x-5.ensures
 
-made-32-4 : (c : tie.After-some7 invariant-loop decreases-loop) → Made 4 16 (line_sum c.before.before.before.before.before.before.before.before.before.before.deal6.new.1.1.1.1.0 0 2 odd-32-16 32 8) c.some7.new.1.1.1.1.1.1.0
-made-32-4 c = made-next 4 (omega arith) (made-32-2 c.before.before.before.before.before) c.some7.ensures
+made-32-4 : (c : tie.After-some-in-loop-x-6 invariant-loop decreases-loop) → Made 4 16 (line_sum c.before.before.before.before.before.before.before.before.before.before.deal-in-loop-x-5.new.a 0 2 odd-32-16 32 8) c.some-in-loop-x-6.new.out
+made-32-4 c = made-next 4 (omega arith) (made-32-2 c.before.before.before.before.before) c.some-in-loop-x-6.ensures
 
-made-32-6 : (c : tie.After-some8 invariant-loop decreases-loop) → Made 6 16 (line_sum c.before.before.before.before.before.before.before.before.before.before.before.before.before.before.before.deal6.new.1.1.1.1.0 0 2 odd-32-16 32 8) c.some8.new.1.1.1.1.1.1.0
-made-32-6 c = made-next 6 (omega arith) (made-32-4 c.before.before.before.before.before) c.some8.ensures
+made-32-6 : (c : tie.After-some-in-loop-x-7 invariant-loop decreases-loop) → Made 6 16 (line_sum c.before.before.before.before.before.before.before.before.before.before.before.before.before.before.before.deal-in-loop-x-5.new.a 0 2 odd-32-16 32 8) c.some-in-loop-x-7.new.out
+made-32-6 c = made-next 6 (omega arith) (made-32-4 c.before.before.before.before.before) c.some-in-loop-x-7.ensures
 
-made-32-8 : (c : tie.After-some9 invariant-loop decreases-loop) → Made 8 16 (line_sum c.before.before.before.before.before.before.before.before.before.before.before.before.before.before.before.before.before.before.before.before.deal6.new.1.1.1.1.0 0 2 odd-32-16 32 8) c.some9.new.1.1.1.1.1.1.0
-made-32-8 c = made-next 8 (omega arith) (made-32-6 c.before.before.before.before.before) c.some9.ensures
+made-32-8 : (c : tie.After-some-in-loop-x-8 invariant-loop decreases-loop) → Made 8 16 (line_sum c.before.before.before.before.before.before.before.before.before.before.before.before.before.before.before.before.before.before.before.before.deal-in-loop-x-5.new.a 0 2 odd-32-16 32 8) c.some-in-loop-x-8.new.out
+made-32-8 c = made-next 8 (omega arith) (made-32-6 c.before.before.before.before.before) c.some-in-loop-x-8.ensures
 
-made-32-10 : (c : tie.After-some10 invariant-loop decreases-loop) → Made 10 16 (line_sum c.before.before.before.before.before.before.before.before.before.before.before.before.before.before.before.before.before.before.before.before.before.before.before.before.before.deal6.new.1.1.1.1.0 0 2 odd-32-16 32 8) c.some10.new.1.1.1.1.1.1.0
-made-32-10 c = made-next 10 (omega arith) (made-32-8 c.before.before.before.before.before) c.some10.ensures
+made-32-10 : (c : tie.After-some-in-loop-x-9 invariant-loop decreases-loop) → Made 10 16 (line_sum c.before.before.before.before.before.before.before.before.before.before.before.before.before.before.before.before.before.before.before.before.before.before.before.before.before.deal-in-loop-x-5.new.a 0 2 odd-32-16 32 8) c.some-in-loop-x-9.new.out
+made-32-10 c = made-next 10 (omega arith) (made-32-8 c.before.before.before.before.before) c.some-in-loop-x-9.ensures
 
-made-32-12 : (c : tie.After-some11 invariant-loop decreases-loop) → Made 12 16 (line_sum c.before.before.before.before.before.before.before.before.before.before.before.before.before.before.before.before.before.before.before.before.before.before.before.before.before.before.before.before.before.before.deal6.new.1.1.1.1.0 0 2 odd-32-16 32 8) c.some11.new.1.1.1.1.1.1.0
-made-32-12 c = made-next 12 (omega arith) (made-32-10 c.before.before.before.before.before) c.some11.ensures
+made-32-12 : (c : tie.After-some-in-loop-x-10 invariant-loop decreases-loop) → Made 12 16 (line_sum c.before.before.before.before.before.before.before.before.before.before.before.before.before.before.before.before.before.before.before.before.before.before.before.before.before.before.before.before.before.before.deal-in-loop-x-5.new.a 0 2 odd-32-16 32 8) c.some-in-loop-x-10.new.out
+made-32-12 c = made-next 12 (omega arith) (made-32-10 c.before.before.before.before.before) c.some-in-loop-x-10.ensures
 
-made-32-14 : (c : tie.After-some12 invariant-loop decreases-loop) → Made 14 16 (line_sum c.before.before.before.before.before.before.before.before.before.before.before.before.before.before.before.before.before.before.before.before.before.before.before.before.before.before.before.before.before.before.before.before.before.before.before.deal6.new.1.1.1.1.0 0 2 odd-32-16 32 8) c.some12.new.1.1.1.1.1.1.0
-made-32-14 c = made-next 14 (omega arith) (made-32-12 c.before.before.before.before.before) c.some12.ensures
+made-32-14 : (c : tie.After-some-in-loop-x-11 invariant-loop decreases-loop) → Made 14 16 (line_sum c.before.before.before.before.before.before.before.before.before.before.before.before.before.before.before.before.before.before.before.before.before.before.before.before.before.before.before.before.before.before.before.before.before.before.before.deal-in-loop-x-5.new.a 0 2 odd-32-16 32 8) c.some-in-loop-x-11.new.out
+made-32-14 c = made-next 14 (omega arith) (made-32-12 c.before.before.before.before.before) c.some-in-loop-x-11.ensures
 
-made-32-16 : (c : tie.After-some13 invariant-loop decreases-loop) → Made 16 16 (line_sum c.before.before.before.before.before.before.before.before.before.before.before.before.before.before.before.before.before.before.before.before.before.before.before.before.before.before.before.before.before.before.before.before.before.before.before.before.before.before.before.before.deal6.new.1.1.1.1.0 0 2 odd-32-16 32 8) c.some13.new.1.1.1.1.1.1.0
-made-32-16 c = made-next 16 (omega arith) (made-32-14 c.before.before.before.before.before) c.some13.ensures
+made-32-16 : (c : tie.After-some-in-loop-x-12 invariant-loop decreases-loop) → Made 16 16 (line_sum c.before.before.before.before.before.before.before.before.before.before.before.before.before.before.before.before.before.before.before.before.before.before.before.before.before.before.before.before.before.before.before.before.before.before.before.before.before.before.before.before.deal-in-loop-x-5.new.a 0 2 odd-32-16 32 8) c.some-in-loop-x-12.new.out
+made-32-16 c = made-next 16 (omega arith) (made-32-14 c.before.before.before.before.before) c.some-in-loop-x-12.ensures
 
-level-32 : (c : tie.After-butterfly4 invariant-loop decreases-loop) → Sums 32 32 (pos 64) (at (inputs (inputs-butterfly4 c))) 5 c.butterfly4.new.1.1.1.1.1.0
-level-32 c = up {x = at (inputs (inputs-butterfly4 c))} halves-32 (omega arith) odd-32-16-right (dealt-32 c.before.before.before.before.before.before.before.before.before.before.before.before.before.before.before.before.before.before.before.before.before.before.before.before.before.before.before.before.before.before.before.before.before.before.before.before.before.before.before.before.before.before.before.before.before) (level-16 c.before.before.before.before.before.before.before.before.before.before.before.before.before.before.before.before.before.before.before.before.before.before.before.before.before.before.before.before.before.before.before.before.before.before.before.before.before.before.before.before.before.before.before.before.before.before.before.before.before) (made-32-16 c.before.before.before.before.before) c.butterfly4.ensures
+level-32 : (c : tie.After-butterfly-in-loop-x-3 invariant-loop decreases-loop) → Sums 32 32 (pos 64) (at (inputs (inputs-butterfly4 c))) 5 c.butterfly-in-loop-x-3.new.out
+level-32 c = up {x = at (inputs (inputs-butterfly4 c))} halves-32 (omega arith) odd-32-16-right (dealt-32 c.before.before.before.before.before.before.before.before.before.before.before.before.before.before.before.before.before.before.before.before.before.before.before.before.before.before.before.before.before.before.before.before.before.before.before.before.before.before.before.before.before.before.before.before.before) (level-16 c.before.before.before.before.before.before.before.before.before.before.before.before.before.before.before.before.before.before.before.before.before.before.before.before.before.before.before.before.before.before.before.before.before.before.before.before.before.before.before.before.before.before.before.before.before.before.before.before.before) (made-32-16 c.before.before.before.before.before) c.butterfly-in-loop-x-3.ensures
 
 abbrev value : tie.Start invariant-loop decreases-loop → ℕ → ℕ → ℤ
 value c = λ x y. middle short_range (strip_sum 32 c.args.w c.args.x0 c.args.rows c.args.c.now x y)
 
-tile-8 : (c : tie.After-put invariant-loop decreases-loop) → Turning 8 8 32 (turn (inputs-put c)).before.loop.x 8 (value (start (inputs-put c))) c.put.new.1.1.1.1.0 (start (inputs-put c)).args.m.now
-tile-8 c = put_next 256 (start (inputs-put c)).args.w (start (inputs-put c)).args.x0 (start (inputs-put c)).args.c.now places-8-8 (start (inputs-put c)).pre.0.few (turn (inputs-put c)).loop-test.taken (inputs-put c).before.before.before.before.before.before.strip-8.ensures (dealt-a (inputs-put c)) (level-32 c.before.before.before.before) 0 refl (omega arith) (omega arith) (turn (inputs-put c)).before.loop.inv c.put.ensures
+tile-8 : (c : tie.After-put invariant-loop decreases-loop) → Turning 8 8 32 (turn (inputs-put c)).before.loop-x.x 8 (value (start (inputs-put c))) c.put.new.m (start (inputs-put c)).args.m.now
+tile-8 c = put_next 256 (start (inputs-put c)).args.w (start (inputs-put c)).args.x0 (start (inputs-put c)).args.c.now places-8-8 (start (inputs-put c)).requires.0.few (turn (inputs-put c)).loop-x-test.true (inputs-put c).before.before.before.before.before.before.strip_8.ensures (dealt-a (inputs-put c)) (level-32 c.before.before.before.before) 0 refl (omega arith) (omega arith) (turn (inputs-put c)).before.loop-x.invariant c.put.ensures
 
-tile-16 : (c : tie.After-put2 invariant-loop decreases-loop) → Turning 8 8 32 (turn (inputs-put2 c)).before.loop.x 16 (value (start (inputs-put2 c))) c.put2.new.1.1.1.1.0 (start (inputs-put2 c)).args.m.now
-tile-16 c = put_next 256 (start (inputs-put2 c)).args.w (start (inputs-put2 c)).args.x0 (start (inputs-put2 c)).args.c.now places-8-8 (start (inputs-put2 c)).pre.0.few (turn (inputs-put2 c)).loop-test.taken (inputs-put2 c).before.before.before.before.before.before.strip-8.ensures (dealt-a (inputs-put2 c)) (level-32 c.before.before.before.before.before.before.before.before) 8 refl (omega arith) (omega arith) (tile-8 c.before.before.before.before) c.put2.ensures
+tile-16 : (c : tie.After-put-in-loop-x invariant-loop decreases-loop) → Turning 8 8 32 (turn (inputs-put2 c)).before.loop-x.x 16 (value (start (inputs-put2 c))) c.put-in-loop-x.new.m (start (inputs-put2 c)).args.m.now
+tile-16 c = put_next 256 (start (inputs-put2 c)).args.w (start (inputs-put2 c)).args.x0 (start (inputs-put2 c)).args.c.now places-8-8 (start (inputs-put2 c)).requires.0.few (turn (inputs-put2 c)).loop-x-test.true (inputs-put2 c).before.before.before.before.before.before.strip_8.ensures (dealt-a (inputs-put2 c)) (level-32 c.before.before.before.before.before.before.before.before) 8 refl (omega arith) (omega arith) (tile-8 c.before.before.before.before) c.put-in-loop-x.ensures
 
-tile-24 : (c : tie.After-put3 invariant-loop decreases-loop) → Turning 8 8 32 (turn (inputs-put3 c)).before.loop.x 24 (value (start (inputs-put3 c))) c.put3.new.1.1.1.1.0 (start (inputs-put3 c)).args.m.now
-tile-24 c = put_next 256 (start (inputs-put3 c)).args.w (start (inputs-put3 c)).args.x0 (start (inputs-put3 c)).args.c.now places-8-8 (start (inputs-put3 c)).pre.0.few (turn (inputs-put3 c)).loop-test.taken (inputs-put3 c).before.before.before.before.before.before.strip-8.ensures (dealt-a (inputs-put3 c)) (level-32 c.before.before.before.before.before.before.before.before.before.before.before.before) 16 refl (omega arith) (omega arith) (tile-16 c.before.before.before.before) c.put3.ensures
+tile-24 : (c : tie.After-put-in-loop-x-2 invariant-loop decreases-loop) → Turning 8 8 32 (turn (inputs-put3 c)).before.loop-x.x 24 (value (start (inputs-put3 c))) c.put-in-loop-x-2.new.m (start (inputs-put3 c)).args.m.now
+tile-24 c = put_next 256 (start (inputs-put3 c)).args.w (start (inputs-put3 c)).args.x0 (start (inputs-put3 c)).args.c.now places-8-8 (start (inputs-put3 c)).requires.0.few (turn (inputs-put3 c)).loop-x-test.true (inputs-put3 c).before.before.before.before.before.before.strip_8.ensures (dealt-a (inputs-put3 c)) (level-32 c.before.before.before.before.before.before.before.before.before.before.before.before) 16 refl (omega arith) (omega arith) (tile-16 c.before.before.before.before) c.put-in-loop-x-2.ensures
 
-tile-32 : (c : tie.After-put4 invariant-loop decreases-loop) → Turning 8 8 32 (turn (inputs-put4 c)).before.loop.x 32 (value (start (inputs-put4 c))) c.put4.new.1.1.1.1.0 (start (inputs-put4 c)).args.m.now
-tile-32 c = put_next 256 (start (inputs-put4 c)).args.w (start (inputs-put4 c)).args.x0 (start (inputs-put4 c)).args.c.now places-8-8 (start (inputs-put4 c)).pre.0.few (turn (inputs-put4 c)).loop-test.taken (inputs-put4 c).before.before.before.before.before.before.strip-8.ensures (dealt-a (inputs-put4 c)) (level-32 c.before.before.before.before.before.before.before.before.before.before.before.before.before.before.before.before) 24 refl (omega arith) (omega arith) (tile-24 c.before.before.before.before) c.put4.ensures
+tile-32 : (c : tie.After-put-in-loop-x-3 invariant-loop decreases-loop) → Turning 8 8 32 (turn (inputs-put4 c)).before.loop-x.x 32 (value (start (inputs-put4 c))) c.put-in-loop-x-3.new.m (start (inputs-put4 c)).args.m.now
+tile-32 c = put_next 256 (start (inputs-put4 c)).args.w (start (inputs-put4 c)).args.x0 (start (inputs-put4 c)).args.c.now places-8-8 (start (inputs-put4 c)).requires.0.few (turn (inputs-put4 c)).loop-x-test.true (inputs-put4 c).before.before.before.before.before.before.strip_8.ensures (dealt-a (inputs-put4 c)) (level-32 c.before.before.before.before.before.before.before.before.before.before.before.before.before.before.before.before) 24 refl (omega arith) (omega arith) (tile-24 c.before.before.before.before) c.put-in-loop-x-3.ensures
 
-slice-aggregate-strip-8 : tie.Need-slice-aggregate-strip-8 invariant-loop decreases-loop
+slice-aggregate-strip-8 : tie.Need-slice_bounds-strip_8-end invariant-loop decreases-loop
 slice-aggregate-strip-8 c = refl
 
-strip-8-requires : tie.Need-strip-8-requires invariant-loop decreases-loop
+strip-8-requires : tie.Need-strip_8-requires invariant-loop decreases-loop
 strip-8-requires c κs = (omega (arith, c.before.requires.0.few), c.before.requires.0.there)
 
-loop-holds : tie.Need-loop-init invariant-loop decreases-loop
+loop-holds : tie.Need-loop-x-init invariant-loop decreases-loop
 loop-holds c = turn-none _ _ _ _ _
 
-slice-aggregate-deal : tie.Need-slice-aggregate-deal invariant-loop decreases-loop
-slice-aggregate-deal c = sym c.before.before.before.before.strip-8.ensures.long
+slice-aggregate-deal : tie.Need-slice_bounds-deal-end invariant-loop decreases-loop
+slice-aggregate-deal c = sym c.before.before.before.before.strip_8.ensures.long
 
-slice-aggregate-deal-2 : tie.Need-slice-aggregate-deal-2 invariant-loop decreases-loop
+slice-aggregate-deal-2 : tie.Need-slice_bounds-deal-end-in-loop-x invariant-loop decreases-loop
 slice-aggregate-deal-2 c = refl
 
 deal-requires : tie.Need-deal-requires invariant-loop decreases-loop
-deal-requires c κs = (omega arith, λ i l. omega (arith, c.before.before.before.before.before.strip-8.ensures.long, c.before.before.loop-test.true))
+deal-requires c κs = (omega arith, λ i l. omega (arith, c.before.before.before.before.before.strip_8.ensures.long, c.before.before.loop-x-test.true))
 
-slice-aggregate-deal-3 : tie.Need-slice-aggregate-deal-3 invariant-loop decreases-loop
+slice-aggregate-deal-3 : tie.Need-slice_bounds-deal-end-in-loop-x-2 invariant-loop decreases-loop
 slice-aggregate-deal-3 c = sym (dealt-a c.before.before).long
 
-slice-aggregate-deal-4 : tie.Need-slice-aggregate-deal-4 invariant-loop decreases-loop
+slice-aggregate-deal-4 : tie.Need-slice_bounds-deal-end-in-loop-x-3 invariant-loop decreases-loop
 slice-aggregate-deal-4 c = refl
 
-deal-requires-2 : tie.Need-deal-requires-2 invariant-loop decreases-loop
+deal-requires-2 : tie.Need-deal-requires-in-loop-x invariant-loop decreases-loop
 deal-requires-2 c κs = (omega arith, λ i l. omega (arith, (dealt-a c.before.before.before).long))
 
-slice-aggregate-some : tie.Need-slice-aggregate-some invariant-loop decreases-loop
+slice-aggregate-some : tie.Need-slice_bounds-some-end invariant-loop decreases-loop
 slice-aggregate-some c = sym (dealt-2 c.before.before).long
 
-slice-aggregate-some-2 : tie.Need-slice-aggregate-some-2 invariant-loop decreases-loop
+slice-aggregate-some-2 : tie.Need-slice_bounds-some-end-in-loop-x invariant-loop decreases-loop
 slice-aggregate-some-2 c = refl
 
-slice-aggregate-some-3 : tie.Need-slice-aggregate-some-3 invariant-loop decreases-loop
+slice-aggregate-some-3 : tie.Need-slice_bounds-some-end-in-loop-x-2 invariant-loop decreases-loop
 slice-aggregate-some-3 c = refl
 
 some-requires : tie.Need-some-requires invariant-loop decreases-loop
 some-requires c κs = (weighed first-2-2-right (dealt-2 c.before.before.before.before) 2 (omega arith), (omega arith, omega arith))
 
-slice-aggregate-lift : tie.Need-slice-aggregate-lift invariant-loop decreases-loop
+slice-aggregate-lift : tie.Need-slice_bounds-lift-end invariant-loop decreases-loop
 slice-aggregate-lift c = sym (made-2-2 c.before.before).long
 
 lift-requires : tie.Need-lift-requires invariant-loop decreases-loop
 lift-requires c κs = (omega arith, made-small (made-2-2 c.before.before))
 
-slice-aggregate-deal-5 : tie.Need-slice-aggregate-deal-5 invariant-loop decreases-loop
+slice-aggregate-deal-5 : tie.Need-slice_bounds-deal-end-in-loop-x-4 invariant-loop decreases-loop
 slice-aggregate-deal-5 c = sym (dealt-a (inputs-lift c.before.before)).long
 
-slice-aggregate-deal-6 : tie.Need-slice-aggregate-deal-6 invariant-loop decreases-loop
+slice-aggregate-deal-6 : tie.Need-slice_bounds-deal-end-in-loop-x-5 invariant-loop decreases-loop
 slice-aggregate-deal-6 c = refl
 
-deal-requires-3 : tie.Need-deal-requires-3 invariant-loop decreases-loop
+deal-requires-3 : tie.Need-deal-requires-in-loop-x-2 invariant-loop decreases-loop
 deal-requires-3 c κs = (omega arith, λ i l. omega (arith, (dealt-a (inputs-lift c.before.before.before)).long))
 
-slice-aggregate-some-4 : tie.Need-slice-aggregate-some-4 invariant-loop decreases-loop
+slice-aggregate-some-4 : tie.Need-slice_bounds-some-end-in-loop-x-3 invariant-loop decreases-loop
 slice-aggregate-some-4 c = sym (dealt-4 c.before.before).long
 
-slice-aggregate-some-5 : tie.Need-slice-aggregate-some-5 invariant-loop decreases-loop
+slice-aggregate-some-5 : tie.Need-slice_bounds-some-end-in-loop-x-4 invariant-loop decreases-loop
 slice-aggregate-some-5 c = refl
 
-slice-aggregate-some-6 : tie.Need-slice-aggregate-some-6 invariant-loop decreases-loop
+slice-aggregate-some-6 : tie.Need-slice_bounds-some-end-in-loop-x-5 invariant-loop decreases-loop
 slice-aggregate-some-6 c = refl
 
-some-requires-2 : tie.Need-some-requires-2 invariant-loop decreases-loop
+some-requires-2 : tie.Need-some-requires-in-loop-x invariant-loop decreases-loop
 some-requires-2 c κs = (weighed odd-4-2-right (dealt-4 c.before.before.before.before) 2 (omega arith), (omega arith, omega arith))
 
-slice-aggregate-butterfly : tie.Need-slice-aggregate-butterfly invariant-loop decreases-loop
+slice-aggregate-butterfly : tie.Need-slice_bounds-butterfly-end invariant-loop decreases-loop
 slice-aggregate-butterfly c = sym (level-2 c.before.before.before.before.before.before.before.before.before.before.before).long
 
-slice-aggregate-butterfly-2 : tie.Need-slice-aggregate-butterfly-2 invariant-loop decreases-loop
+slice-aggregate-butterfly-2 : tie.Need-slice_bounds-butterfly-end-in-loop-x invariant-loop decreases-loop
 slice-aggregate-butterfly-2 c = sym (made-4-2 c.before.before.before).long
 
-slice-aggregate-butterfly-3 : tie.Need-slice-aggregate-butterfly-3 invariant-loop decreases-loop
+slice-aggregate-butterfly-3 : tie.Need-slice_bounds-butterfly-end-in-loop-x-2 invariant-loop decreases-loop
 slice-aggregate-butterfly-3 c = refl
 
 butterfly-requires : tie.Need-butterfly-requires invariant-loop decreases-loop
 butterfly-requires c κs = (sums-small (omega arith) (level-2 c.before.before.before.before.before.before.before.before.before.before.before.before.before), (made-small (made-4-2 c.before.before.before.before), (omega arith, (omega arith, omega arith))))
 
-slice-aggregate-deal-7 : tie.Need-slice-aggregate-deal-7 invariant-loop decreases-loop
+slice-aggregate-deal-7 : tie.Need-slice_bounds-deal-end-in-loop-x-6 invariant-loop decreases-loop
 slice-aggregate-deal-7 c = sym (dealt-a (inputs-butterfly c.before.before)).long
 
-slice-aggregate-deal-8 : tie.Need-slice-aggregate-deal-8 invariant-loop decreases-loop
+slice-aggregate-deal-8 : tie.Need-slice_bounds-deal-end-in-loop-x-7 invariant-loop decreases-loop
 slice-aggregate-deal-8 c = refl
 
-deal-requires-4 : tie.Need-deal-requires-4 invariant-loop decreases-loop
+deal-requires-4 : tie.Need-deal-requires-in-loop-x-3 invariant-loop decreases-loop
 deal-requires-4 c κs = (omega arith, λ i l. omega (arith, (dealt-a (inputs-butterfly c.before.before.before)).long))
 
-slice-aggregate-some-7 : tie.Need-slice-aggregate-some-7 invariant-loop decreases-loop
+slice-aggregate-some-7 : tie.Need-slice_bounds-some-end-in-loop-x-6 invariant-loop decreases-loop
 slice-aggregate-some-7 c = sym (dealt-8 c.before.before).long
 
-slice-aggregate-some-8 : tie.Need-slice-aggregate-some-8 invariant-loop decreases-loop
+slice-aggregate-some-8 : tie.Need-slice_bounds-some-end-in-loop-x-7 invariant-loop decreases-loop
 slice-aggregate-some-8 c = refl
 
-slice-aggregate-some-9 : tie.Need-slice-aggregate-some-9 invariant-loop decreases-loop
+slice-aggregate-some-9 : tie.Need-slice_bounds-some-end-in-loop-x-8 invariant-loop decreases-loop
 slice-aggregate-some-9 c = refl
 
-some-requires-3 : tie.Need-some-requires-3 invariant-loop decreases-loop
+some-requires-3 : tie.Need-some-requires-in-loop-x-2 invariant-loop decreases-loop
 some-requires-3 c κs = (weighed odd-8-4-right (dealt-8 c.before.before.before.before) 4 (omega arith), (omega arith, omega arith))
 
-slice-aggregate-butterfly-4 : tie.Need-slice-aggregate-butterfly-4 invariant-loop decreases-loop
+slice-aggregate-butterfly-4 : tie.Need-slice_bounds-butterfly-end-in-loop-x-3 invariant-loop decreases-loop
 slice-aggregate-butterfly-4 c = sym (level-4 c.before.before.before.before.before.before.before.before.before.before.before).long
 
-slice-aggregate-butterfly-5 : tie.Need-slice-aggregate-butterfly-5 invariant-loop decreases-loop
+slice-aggregate-butterfly-5 : tie.Need-slice_bounds-butterfly-end-in-loop-x-4 invariant-loop decreases-loop
 slice-aggregate-butterfly-5 c = sym (made-8-4 c.before.before.before).long
 
-slice-aggregate-butterfly-6 : tie.Need-slice-aggregate-butterfly-6 invariant-loop decreases-loop
+slice-aggregate-butterfly-6 : tie.Need-slice_bounds-butterfly-end-in-loop-x-5 invariant-loop decreases-loop
 slice-aggregate-butterfly-6 c = refl
 
-butterfly-requires-2 : tie.Need-butterfly-requires-2 invariant-loop decreases-loop
+butterfly-requires-2 : tie.Need-butterfly-requires-in-loop-x invariant-loop decreases-loop
 butterfly-requires-2 c κs = (sums-small (omega arith) (level-4 c.before.before.before.before.before.before.before.before.before.before.before.before.before), (made-small (made-8-4 c.before.before.before.before), (omega arith, (omega arith, omega arith))))
 
-slice-aggregate-deal-9 : tie.Need-slice-aggregate-deal-9 invariant-loop decreases-loop
+slice-aggregate-deal-9 : tie.Need-slice_bounds-deal-end-in-loop-x-8 invariant-loop decreases-loop
 slice-aggregate-deal-9 c = sym (dealt-a (inputs-butterfly2 c.before.before)).long
 
-slice-aggregate-deal-10 : tie.Need-slice-aggregate-deal-10 invariant-loop decreases-loop
+slice-aggregate-deal-10 : tie.Need-slice_bounds-deal-end-in-loop-x-9 invariant-loop decreases-loop
 slice-aggregate-deal-10 c = refl
 
-deal-requires-5 : tie.Need-deal-requires-5 invariant-loop decreases-loop
+deal-requires-5 : tie.Need-deal-requires-in-loop-x-4 invariant-loop decreases-loop
 deal-requires-5 c κs = (omega arith, λ i l. omega (arith, (dealt-a (inputs-butterfly2 c.before.before.before)).long))
 
-slice-aggregate-some-10 : tie.Need-slice-aggregate-some-10 invariant-loop decreases-loop
+slice-aggregate-some-10 : tie.Need-slice_bounds-some-end-in-loop-x-9 invariant-loop decreases-loop
 slice-aggregate-some-10 c = sym (dealt-16 c.before.before).long
 
-slice-aggregate-some-11 : tie.Need-slice-aggregate-some-11 invariant-loop decreases-loop
+slice-aggregate-some-11 : tie.Need-slice_bounds-some-end-in-loop-x-10 invariant-loop decreases-loop
 slice-aggregate-some-11 c = refl
 
-slice-aggregate-some-12 : tie.Need-slice-aggregate-some-12 invariant-loop decreases-loop
+slice-aggregate-some-12 : tie.Need-slice_bounds-some-end-in-loop-x-11 invariant-loop decreases-loop
 slice-aggregate-some-12 c = refl
 
-some-requires-4 : tie.Need-some-requires-4 invariant-loop decreases-loop
+some-requires-4 : tie.Need-some-requires-in-loop-x-3 invariant-loop decreases-loop
 some-requires-4 c κs = (weighed odd-16-8-right (dealt-16 c.before.before.before.before) 4 (omega arith), (omega arith, omega arith))
 
-slice-aggregate-some-13 : tie.Need-slice-aggregate-some-13 invariant-loop decreases-loop
+slice-aggregate-some-13 : tie.Need-slice_bounds-some-end-in-loop-x-12 invariant-loop decreases-loop
 slice-aggregate-some-13 c = sym (dealt-16 c.before.before.before.before.before.before.before).long
 
-slice-aggregate-some-14 : tie.Need-slice-aggregate-some-14 invariant-loop decreases-loop
+slice-aggregate-some-14 : tie.Need-slice_bounds-some-end-in-loop-x-13 invariant-loop decreases-loop
 slice-aggregate-some-14 c = refl
 
-slice-aggregate-some-15 : tie.Need-slice-aggregate-some-15 invariant-loop decreases-loop
+slice-aggregate-some-15 : tie.Need-slice_bounds-some-end-in-loop-x-14 invariant-loop decreases-loop
 slice-aggregate-some-15 c = sym (made-16-4 c.before.before.before.before).long
 
-some-requires-5 : tie.Need-some-requires-5 invariant-loop decreases-loop
+some-requires-5 : tie.Need-some-requires-in-loop-x-4 invariant-loop decreases-loop
 some-requires-5 c κs = (weighed odd-16-8-right (dealt-16 c.before.before.before.before.before.before.before.before.before) 8 (omega arith), (omega arith, omega (arith, (made-16-4 c.before.before.before.before).long)))
 
-slice-aggregate-butterfly-7 : tie.Need-slice-aggregate-butterfly-7 invariant-loop decreases-loop
+slice-aggregate-butterfly-7 : tie.Need-slice_bounds-butterfly-end-in-loop-x-6 invariant-loop decreases-loop
 slice-aggregate-butterfly-7 c = sym (level-8 c.before.before.before.before.before.before.before.before.before.before.before.before.before.before.before.before).long
 
-slice-aggregate-butterfly-8 : tie.Need-slice-aggregate-butterfly-8 invariant-loop decreases-loop
+slice-aggregate-butterfly-8 : tie.Need-slice_bounds-butterfly-end-in-loop-x-7 invariant-loop decreases-loop
 slice-aggregate-butterfly-8 c = sym (made-16-8 c.before.before.before).long
 
-slice-aggregate-butterfly-9 : tie.Need-slice-aggregate-butterfly-9 invariant-loop decreases-loop
+slice-aggregate-butterfly-9 : tie.Need-slice_bounds-butterfly-end-in-loop-x-8 invariant-loop decreases-loop
 slice-aggregate-butterfly-9 c = refl
 
-butterfly-requires-3 : tie.Need-butterfly-requires-3 invariant-loop decreases-loop
+butterfly-requires-3 : tie.Need-butterfly-requires-in-loop-x-2 invariant-loop decreases-loop
 butterfly-requires-3 c κs = (sums-small (omega arith) (level-8 c.before.before.before.before.before.before.before.before.before.before.before.before.before.before.before.before.before.before), (made-small (made-16-8 c.before.before.before.before), (omega arith, (omega arith, omega arith))))
 
-slice-aggregate-deal-11 : tie.Need-slice-aggregate-deal-11 invariant-loop decreases-loop
+slice-aggregate-deal-11 : tie.Need-slice_bounds-deal-end-in-loop-x-10 invariant-loop decreases-loop
 slice-aggregate-deal-11 c = sym (dealt-a (inputs-butterfly3 c.before.before)).long
 
-slice-aggregate-deal-12 : tie.Need-slice-aggregate-deal-12 invariant-loop decreases-loop
+slice-aggregate-deal-12 : tie.Need-slice_bounds-deal-end-in-loop-x-11 invariant-loop decreases-loop
 slice-aggregate-deal-12 c = refl
 
-deal-requires-6 : tie.Need-deal-requires-6 invariant-loop decreases-loop
+deal-requires-6 : tie.Need-deal-requires-in-loop-x-5 invariant-loop decreases-loop
 deal-requires-6 c κs = (omega arith, λ i l. omega (arith, (dealt-a (inputs-butterfly3 c.before.before.before)).long))
 
-slice-aggregate-some-16 : tie.Need-slice-aggregate-some-16 invariant-loop decreases-loop
+slice-aggregate-some-16 : tie.Need-slice_bounds-some-end-in-loop-x-15 invariant-loop decreases-loop
 slice-aggregate-some-16 c = sym (dealt-32 c.before.before).long
 
-slice-aggregate-some-17 : tie.Need-slice-aggregate-some-17 invariant-loop decreases-loop
+slice-aggregate-some-17 : tie.Need-slice_bounds-some-end-in-loop-x-16 invariant-loop decreases-loop
 slice-aggregate-some-17 c = refl
 
-slice-aggregate-some-18 : tie.Need-slice-aggregate-some-18 invariant-loop decreases-loop
+slice-aggregate-some-18 : tie.Need-slice_bounds-some-end-in-loop-x-17 invariant-loop decreases-loop
 slice-aggregate-some-18 c = refl
 
-some-requires-6 : tie.Need-some-requires-6 invariant-loop decreases-loop
+some-requires-6 : tie.Need-some-requires-in-loop-x-5 invariant-loop decreases-loop
 some-requires-6 c κs = (weighed odd-32-16-right (dealt-32 c.before.before.before.before) 2 (omega arith), (omega arith, omega arith))
 
-slice-aggregate-some-19 : tie.Need-slice-aggregate-some-19 invariant-loop decreases-loop
+slice-aggregate-some-19 : tie.Need-slice_bounds-some-end-in-loop-x-18 invariant-loop decreases-loop
 slice-aggregate-some-19 c = sym (dealt-32 c.before.before.before.before.before.before.before).long
 
-slice-aggregate-some-20 : tie.Need-slice-aggregate-some-20 invariant-loop decreases-loop
+slice-aggregate-some-20 : tie.Need-slice_bounds-some-end-in-loop-x-19 invariant-loop decreases-loop
 slice-aggregate-some-20 c = refl
 
-slice-aggregate-some-21 : tie.Need-slice-aggregate-some-21 invariant-loop decreases-loop
+slice-aggregate-some-21 : tie.Need-slice_bounds-some-end-in-loop-x-20 invariant-loop decreases-loop
 slice-aggregate-some-21 c = sym (made-32-2 c.before.before.before.before).long
 
-some-requires-7 : tie.Need-some-requires-7 invariant-loop decreases-loop
+some-requires-7 : tie.Need-some-requires-in-loop-x-6 invariant-loop decreases-loop
 some-requires-7 c κs = (weighed odd-32-16-right (dealt-32 c.before.before.before.before.before.before.before.before.before) 4 (omega arith), (omega arith, omega (arith, (made-32-2 c.before.before.before.before).long)))
 
-slice-aggregate-some-22 : tie.Need-slice-aggregate-some-22 invariant-loop decreases-loop
+slice-aggregate-some-22 : tie.Need-slice_bounds-some-end-in-loop-x-21 invariant-loop decreases-loop
 slice-aggregate-some-22 c = sym (dealt-32 c.before.before.before.before.before.before.before.before.before.before.before.before).long
 
-slice-aggregate-some-23 : tie.Need-slice-aggregate-some-23 invariant-loop decreases-loop
+slice-aggregate-some-23 : tie.Need-slice_bounds-some-end-in-loop-x-22 invariant-loop decreases-loop
 slice-aggregate-some-23 c = refl
 
-slice-aggregate-some-24 : tie.Need-slice-aggregate-some-24 invariant-loop decreases-loop
+slice-aggregate-some-24 : tie.Need-slice_bounds-some-end-in-loop-x-23 invariant-loop decreases-loop
 slice-aggregate-some-24 c = sym (made-32-4 c.before.before.before.before).long
 
-some-requires-8 : tie.Need-some-requires-8 invariant-loop decreases-loop
+some-requires-8 : tie.Need-some-requires-in-loop-x-7 invariant-loop decreases-loop
 some-requires-8 c κs = (weighed odd-32-16-right (dealt-32 c.before.before.before.before.before.before.before.before.before.before.before.before.before.before) 6 (omega arith), (omega arith, omega (arith, (made-32-4 c.before.before.before.before).long)))
 
-slice-aggregate-some-25 : tie.Need-slice-aggregate-some-25 invariant-loop decreases-loop
+slice-aggregate-some-25 : tie.Need-slice_bounds-some-end-in-loop-x-24 invariant-loop decreases-loop
 slice-aggregate-some-25 c = sym (dealt-32 c.before.before.before.before.before.before.before.before.before.before.before.before.before.before.before.before.before).long
 
-slice-aggregate-some-26 : tie.Need-slice-aggregate-some-26 invariant-loop decreases-loop
+slice-aggregate-some-26 : tie.Need-slice_bounds-some-end-in-loop-x-25 invariant-loop decreases-loop
 slice-aggregate-some-26 c = refl
 
-slice-aggregate-some-27 : tie.Need-slice-aggregate-some-27 invariant-loop decreases-loop
+slice-aggregate-some-27 : tie.Need-slice_bounds-some-end-in-loop-x-26 invariant-loop decreases-loop
 slice-aggregate-some-27 c = sym (made-32-6 c.before.before.before.before).long
 
-some-requires-9 : tie.Need-some-requires-9 invariant-loop decreases-loop
+some-requires-9 : tie.Need-some-requires-in-loop-x-8 invariant-loop decreases-loop
 some-requires-9 c κs = (weighed odd-32-16-right (dealt-32 c.before.before.before.before.before.before.before.before.before.before.before.before.before.before.before.before.before.before.before) 8 (omega arith), (omega arith, omega (arith, (made-32-6 c.before.before.before.before).long)))
 
-slice-aggregate-some-28 : tie.Need-slice-aggregate-some-28 invariant-loop decreases-loop
+slice-aggregate-some-28 : tie.Need-slice_bounds-some-end-in-loop-x-27 invariant-loop decreases-loop
 slice-aggregate-some-28 c = sym (dealt-32 c.before.before.before.before.before.before.before.before.before.before.before.before.before.before.before.before.before.before.before.before.before.before).long
 
-slice-aggregate-some-29 : tie.Need-slice-aggregate-some-29 invariant-loop decreases-loop
+slice-aggregate-some-29 : tie.Need-slice_bounds-some-end-in-loop-x-28 invariant-loop decreases-loop
 slice-aggregate-some-29 c = refl
 
-slice-aggregate-some-30 : tie.Need-slice-aggregate-some-30 invariant-loop decreases-loop
+slice-aggregate-some-30 : tie.Need-slice_bounds-some-end-in-loop-x-29 invariant-loop decreases-loop
 slice-aggregate-some-30 c = sym (made-32-8 c.before.before.before.before).long
 
-some-requires-10 : tie.Need-some-requires-10 invariant-loop decreases-loop
+some-requires-10 : tie.Need-some-requires-in-loop-x-9 invariant-loop decreases-loop
 some-requires-10 c κs = (weighed odd-32-16-right (dealt-32 c.before.before.before.before.before.before.before.before.before.before.before.before.before.before.before.before.before.before.before.before.before.before.before.before) 10 (omega arith), (omega arith, omega (arith, (made-32-8 c.before.before.before.before).long)))
 
-slice-aggregate-some-31 : tie.Need-slice-aggregate-some-31 invariant-loop decreases-loop
+slice-aggregate-some-31 : tie.Need-slice_bounds-some-end-in-loop-x-30 invariant-loop decreases-loop
 slice-aggregate-some-31 c = sym (dealt-32 c.before.before.before.before.before.before.before.before.before.before.before.before.before.before.before.before.before.before.before.before.before.before.before.before.before.before.before).long
 
-slice-aggregate-some-32 : tie.Need-slice-aggregate-some-32 invariant-loop decreases-loop
+slice-aggregate-some-32 : tie.Need-slice_bounds-some-end-in-loop-x-31 invariant-loop decreases-loop
 slice-aggregate-some-32 c = refl
 
-slice-aggregate-some-33 : tie.Need-slice-aggregate-some-33 invariant-loop decreases-loop
+slice-aggregate-some-33 : tie.Need-slice_bounds-some-end-in-loop-x-32 invariant-loop decreases-loop
 slice-aggregate-some-33 c = sym (made-32-10 c.before.before.before.before).long
 
-some-requires-11 : tie.Need-some-requires-11 invariant-loop decreases-loop
+some-requires-11 : tie.Need-some-requires-in-loop-x-10 invariant-loop decreases-loop
 some-requires-11 c κs = (weighed odd-32-16-right (dealt-32 c.before.before.before.before.before.before.before.before.before.before.before.before.before.before.before.before.before.before.before.before.before.before.before.before.before.before.before.before.before) 12 (omega arith), (omega arith, omega (arith, (made-32-10 c.before.before.before.before).long)))
 
-slice-aggregate-some-34 : tie.Need-slice-aggregate-some-34 invariant-loop decreases-loop
+slice-aggregate-some-34 : tie.Need-slice_bounds-some-end-in-loop-x-33 invariant-loop decreases-loop
 slice-aggregate-some-34 c = sym (dealt-32 c.before.before.before.before.before.before.before.before.before.before.before.before.before.before.before.before.before.before.before.before.before.before.before.before.before.before.before.before.before.before.before.before).long
 
-slice-aggregate-some-35 : tie.Need-slice-aggregate-some-35 invariant-loop decreases-loop
+slice-aggregate-some-35 : tie.Need-slice_bounds-some-end-in-loop-x-34 invariant-loop decreases-loop
 slice-aggregate-some-35 c = refl
 
-slice-aggregate-some-36 : tie.Need-slice-aggregate-some-36 invariant-loop decreases-loop
+slice-aggregate-some-36 : tie.Need-slice_bounds-some-end-in-loop-x-35 invariant-loop decreases-loop
 slice-aggregate-some-36 c = sym (made-32-12 c.before.before.before.before).long
 
-some-requires-12 : tie.Need-some-requires-12 invariant-loop decreases-loop
+some-requires-12 : tie.Need-some-requires-in-loop-x-11 invariant-loop decreases-loop
 some-requires-12 c κs = (weighed odd-32-16-right (dealt-32 c.before.before.before.before.before.before.before.before.before.before.before.before.before.before.before.before.before.before.before.before.before.before.before.before.before.before.before.before.before.before.before.before.before.before) 14 (omega arith), (omega arith, omega (arith, (made-32-12 c.before.before.before.before).long)))
 
-slice-aggregate-some-37 : tie.Need-slice-aggregate-some-37 invariant-loop decreases-loop
+slice-aggregate-some-37 : tie.Need-slice_bounds-some-end-in-loop-x-36 invariant-loop decreases-loop
 slice-aggregate-some-37 c = sym (dealt-32 c.before.before.before.before.before.before.before.before.before.before.before.before.before.before.before.before.before.before.before.before.before.before.before.before.before.before.before.before.before.before.before.before.before.before.before.before.before).long
 
-slice-aggregate-some-38 : tie.Need-slice-aggregate-some-38 invariant-loop decreases-loop
+slice-aggregate-some-38 : tie.Need-slice_bounds-some-end-in-loop-x-37 invariant-loop decreases-loop
 slice-aggregate-some-38 c = refl
 
-slice-aggregate-some-39 : tie.Need-slice-aggregate-some-39 invariant-loop decreases-loop
+slice-aggregate-some-39 : tie.Need-slice_bounds-some-end-in-loop-x-38 invariant-loop decreases-loop
 slice-aggregate-some-39 c = sym (made-32-14 c.before.before.before.before).long
 
-some-requires-13 : tie.Need-some-requires-13 invariant-loop decreases-loop
+some-requires-13 : tie.Need-some-requires-in-loop-x-12 invariant-loop decreases-loop
 some-requires-13 c κs = (weighed odd-32-16-right (dealt-32 c.before.before.before.before.before.before.before.before.before.before.before.before.before.before.before.before.before.before.before.before.before.before.before.before.before.before.before.before.before.before.before.before.before.before.before.before.before.before.before) 16 (omega arith), (omega arith, omega (arith, (made-32-14 c.before.before.before.before).long)))
 
-slice-aggregate-butterfly-10 : tie.Need-slice-aggregate-butterfly-10 invariant-loop decreases-loop
+slice-aggregate-butterfly-10 : tie.Need-slice_bounds-butterfly-end-in-loop-x-9 invariant-loop decreases-loop
 slice-aggregate-butterfly-10 c = sym (level-16 c.before.before.before.before.before.before.before.before.before.before.before.before.before.before.before.before.before.before.before.before.before.before.before.before.before.before.before.before.before.before.before.before.before.before.before.before.before.before.before.before.before.before.before.before.before.before).long
 
-slice-aggregate-butterfly-11 : tie.Need-slice-aggregate-butterfly-11 invariant-loop decreases-loop
+slice-aggregate-butterfly-11 : tie.Need-slice_bounds-butterfly-end-in-loop-x-10 invariant-loop decreases-loop
 slice-aggregate-butterfly-11 c = sym (made-32-16 c.before.before.before).long
 
-slice-aggregate-butterfly-12 : tie.Need-slice-aggregate-butterfly-12 invariant-loop decreases-loop
+slice-aggregate-butterfly-12 : tie.Need-slice_bounds-butterfly-end-in-loop-x-11 invariant-loop decreases-loop
 slice-aggregate-butterfly-12 c = refl
 
-butterfly-requires-4 : tie.Need-butterfly-requires-4 invariant-loop decreases-loop
+butterfly-requires-4 : tie.Need-butterfly-requires-in-loop-x-3 invariant-loop decreases-loop
 butterfly-requires-4 c κs = (sums-small (omega arith) (level-16 c.before.before.before.before.before.before.before.before.before.before.before.before.before.before.before.before.before.before.before.before.before.before.before.before.before.before.before.before.before.before.before.before.before.before.before.before.before.before.before.before.before.before.before.before.before.before.before.before), (made-small (made-32-16 c.before.before.before.before), (omega arith, (omega arith, omega arith))))
 
-slice-aggregate-put : tie.Need-slice-aggregate-put invariant-loop decreases-loop
+slice-aggregate-put : tie.Need-slice_bounds-put-end invariant-loop decreases-loop
 slice-aggregate-put c = sym (level-32 c.before.before).long
 
-mul-put : tie.Need-overflow-mul-put invariant-loop decreases-loop
-mul-put c = omega (arith, (turn (inputs-butterfly4 c.before.before)).loop-test.taken)
+mul-put : tie.Need-overflow_mul-x invariant-loop decreases-loop
+mul-put c = omega (arith, (turn (inputs-butterfly4 c.before.before)).loop-x-test.true)
 
 put-requires : tie.Need-put-requires invariant-loop decreases-loop
-put-requires c κs = (omega (arith, (level-32 c.before.before.before).long), omega (arith, (turn (inputs-butterfly4 c.before.before.before)).before.loop.inv.long, (start (inputs-butterfly4 c.before.before.before)).pre.1, (turn (inputs-butterfly4 c.before.before.before)).loop-test.taken))
+put-requires c κs = (omega (arith, (level-32 c.before.before.before).long), omega (arith, (turn (inputs-butterfly4 c.before.before.before)).before.loop-x.invariant.long, (start (inputs-butterfly4 c.before.before.before)).requires.1, (turn (inputs-butterfly4 c.before.before.before)).loop-x-test.true))
 
-slice-aggregate-put-2 : tie.Need-slice-aggregate-put-2 invariant-loop decreases-loop
+slice-aggregate-put-2 : tie.Need-slice_bounds-put-end-in-loop-x invariant-loop decreases-loop
 slice-aggregate-put-2 c = sym (level-32 c.before.before.before.before.before.before).long
 
-mul-put-2 : tie.Need-overflow-mul-put-2 invariant-loop decreases-loop
-mul-put-2 c = omega (arith, (turn (inputs-put c.before.before)).loop-test.taken)
+mul-put-2 : tie.Need-overflow_mul-x-in-loop-x invariant-loop decreases-loop
+mul-put-2 c = omega (arith, (turn (inputs-put c.before.before)).loop-x-test.true)
 
-add-put : tie.Need-overflow-add-put invariant-loop decreases-loop
-add-put c = omega (arith, (turn (inputs-put c.before.before)).loop-test.taken)
+add-put : tie.Need-overflow_add-x invariant-loop decreases-loop
+add-put c = omega (arith, (turn (inputs-put c.before.before)).loop-x-test.true)
 
-put-requires-2 : tie.Need-put-requires-2 invariant-loop decreases-loop
-put-requires-2 c κs = (omega (arith, (level-32 c.before.before.before.before.before.before.before).long), omega (arith, (tile-8 c.before.before.before).long, (start (inputs-put c.before.before.before)).pre.1, (turn (inputs-put c.before.before.before)).loop-test.taken))
+put-requires-2 : tie.Need-put-requires-in-loop-x invariant-loop decreases-loop
+put-requires-2 c κs = (omega (arith, (level-32 c.before.before.before.before.before.before.before).long), omega (arith, (tile-8 c.before.before.before).long, (start (inputs-put c.before.before.before)).requires.1, (turn (inputs-put c.before.before.before)).loop-x-test.true))
 
-slice-aggregate-put-3 : tie.Need-slice-aggregate-put-3 invariant-loop decreases-loop
+slice-aggregate-put-3 : tie.Need-slice_bounds-put-end-in-loop-x-2 invariant-loop decreases-loop
 slice-aggregate-put-3 c = sym (level-32 c.before.before.before.before.before.before.before.before.before.before).long
 
-mul-put-3 : tie.Need-overflow-mul-put-3 invariant-loop decreases-loop
-mul-put-3 c = omega (arith, (turn (inputs-put2 c.before.before)).loop-test.taken)
+mul-put-3 : tie.Need-overflow_mul-x-in-loop-x-2 invariant-loop decreases-loop
+mul-put-3 c = omega (arith, (turn (inputs-put2 c.before.before)).loop-x-test.true)
 
-add-put-2 : tie.Need-overflow-add-put-2 invariant-loop decreases-loop
-add-put-2 c = omega (arith, (turn (inputs-put2 c.before.before)).loop-test.taken)
+add-put-2 : tie.Need-overflow_add-x-in-loop-x invariant-loop decreases-loop
+add-put-2 c = omega (arith, (turn (inputs-put2 c.before.before)).loop-x-test.true)
 
-put-requires-3 : tie.Need-put-requires-3 invariant-loop decreases-loop
-put-requires-3 c κs = (omega (arith, (level-32 c.before.before.before.before.before.before.before.before.before.before.before).long), omega (arith, (tile-16 c.before.before.before).long, (start (inputs-put2 c.before.before.before)).pre.1, (turn (inputs-put2 c.before.before.before)).loop-test.taken))
+put-requires-3 : tie.Need-put-requires-in-loop-x-2 invariant-loop decreases-loop
+put-requires-3 c κs = (omega (arith, (level-32 c.before.before.before.before.before.before.before.before.before.before.before).long), omega (arith, (tile-16 c.before.before.before).long, (start (inputs-put2 c.before.before.before)).requires.1, (turn (inputs-put2 c.before.before.before)).loop-x-test.true))
 
-slice-aggregate-put-4 : tie.Need-slice-aggregate-put-4 invariant-loop decreases-loop
+slice-aggregate-put-4 : tie.Need-slice_bounds-put-end-in-loop-x-3 invariant-loop decreases-loop
 slice-aggregate-put-4 c = sym (level-32 c.before.before.before.before.before.before.before.before.before.before.before.before.before.before).long
 
-mul-put-4 : tie.Need-overflow-mul-put-4 invariant-loop decreases-loop
-mul-put-4 c = omega (arith, (turn (inputs-put3 c.before.before)).loop-test.taken)
+mul-put-4 : tie.Need-overflow_mul-x-in-loop-x-3 invariant-loop decreases-loop
+mul-put-4 c = omega (arith, (turn (inputs-put3 c.before.before)).loop-x-test.true)
 
-add-put-3 : tie.Need-overflow-add-put-3 invariant-loop decreases-loop
-add-put-3 c = omega (arith, (turn (inputs-put3 c.before.before)).loop-test.taken)
+add-put-3 : tie.Need-overflow_add-x-in-loop-x-2 invariant-loop decreases-loop
+add-put-3 c = omega (arith, (turn (inputs-put3 c.before.before)).loop-x-test.true)
 
-put-requires-4 : tie.Need-put-requires-4 invariant-loop decreases-loop
-put-requires-4 c κs = (omega (arith, (level-32 c.before.before.before.before.before.before.before.before.before.before.before.before.before.before.before).long), omega (arith, (tile-24 c.before.before.before).long, (start (inputs-put3 c.before.before.before)).pre.1, (turn (inputs-put3 c.before.before.before)).loop-test.taken))
+put-requires-4 : tie.Need-put-requires-in-loop-x-3 invariant-loop decreases-loop
+put-requires-4 c κs = (omega (arith, (level-32 c.before.before.before.before.before.before.before.before.before.before.before.before.before.before.before).long), omega (arith, (tile-24 c.before.before.before).long, (start (inputs-put3 c.before.before.before)).requires.1, (turn (inputs-put3 c.before.before.before)).loop-x-test.true))
 
-add-x : tie.Need-overflow-add-x invariant-loop decreases-loop
-add-x c = omega (arith, (turn (inputs-put4 c.before)).loop-test.taken)
+add-x : tie.Need-overflow_add-x-in-loop-x-3 invariant-loop decreases-loop
+add-x c = omega (arith, (turn (inputs-put4 c.before)).loop-x-test.true)
 
-loop-less : tie.Need-loop-smaller invariant-loop decreases-loop
-loop-less c = omega (arith, (turn (inputs-put4 c.before)).loop-test.taken)
+loop-less : tie.Need-loop-x-smaller invariant-loop decreases-loop
+loop-less c = omega (arith, (turn (inputs-put4 c.before)).loop-x-test.true)
 
-loop-again : tie.Need-loop-preserved invariant-loop decreases-loop
+loop-again : tie.Need-loop-x-preserved invariant-loop decreases-loop
 loop-again c = turn-column (omega arith) (tile-32 c.before)
 
-same_length : tie.Need-same-length invariant-loop decreases-loop
-same_length c = c.before.loop.invariant.long
+same_length : tie.Need-shape_of-m invariant-loop decreases-loop
+same_length c = c.before.loop-x.invariant.long
 
 returns : tie.Need-returns invariant-loop decreases-loop
-returns c = turn-all c.loop-test.false c.before.loop.invariant
+returns c = turn-all c.loop-x-test.false c.before.loop-x.invariant
 
-pub down-32-32-8-spec : {M : Type 1} → statement M
-down-32-32-8-spec = tie.close (tie.spec invariant-loop decreases-loop slice-aggregate-strip-8 strip-8-requires loop-holds slice-aggregate-deal slice-aggregate-deal-2 deal-requires slice-aggregate-deal-3 slice-aggregate-deal-4 deal-requires-2 slice-aggregate-some slice-aggregate-some-2 slice-aggregate-some-3 some-requires slice-aggregate-lift lift-requires slice-aggregate-deal-5 slice-aggregate-deal-6 deal-requires-3 slice-aggregate-some-4 slice-aggregate-some-5 slice-aggregate-some-6 some-requires-2 slice-aggregate-butterfly slice-aggregate-butterfly-2 slice-aggregate-butterfly-3 butterfly-requires slice-aggregate-deal-7 slice-aggregate-deal-8 deal-requires-4 slice-aggregate-some-7 slice-aggregate-some-8 slice-aggregate-some-9 some-requires-3 slice-aggregate-butterfly-4 slice-aggregate-butterfly-5 slice-aggregate-butterfly-6 butterfly-requires-2 slice-aggregate-deal-9 slice-aggregate-deal-10 deal-requires-5 slice-aggregate-some-10 slice-aggregate-some-11 slice-aggregate-some-12 some-requires-4 slice-aggregate-some-13 slice-aggregate-some-14 slice-aggregate-some-15 some-requires-5 slice-aggregate-butterfly-7 slice-aggregate-butterfly-8 slice-aggregate-butterfly-9 butterfly-requires-3 slice-aggregate-deal-11 slice-aggregate-deal-12 deal-requires-6 slice-aggregate-some-16 slice-aggregate-some-17 slice-aggregate-some-18 some-requires-6 slice-aggregate-some-19 slice-aggregate-some-20 slice-aggregate-some-21 some-requires-7 slice-aggregate-some-22 slice-aggregate-some-23 slice-aggregate-some-24 some-requires-8 slice-aggregate-some-25 slice-aggregate-some-26 slice-aggregate-some-27 some-requires-9 slice-aggregate-some-28 slice-aggregate-some-29 slice-aggregate-some-30 some-requires-10 slice-aggregate-some-31 slice-aggregate-some-32 slice-aggregate-some-33 some-requires-11 slice-aggregate-some-34 slice-aggregate-some-35 slice-aggregate-some-36 some-requires-12 slice-aggregate-some-37 slice-aggregate-some-38 slice-aggregate-some-39 some-requires-13 slice-aggregate-butterfly-10 slice-aggregate-butterfly-11 slice-aggregate-butterfly-12 butterfly-requires-4 slice-aggregate-put mul-put put-requires slice-aggregate-put-2 mul-put-2 add-put put-requires-2 slice-aggregate-put-3 mul-put-3 add-put-2 put-requires-3 slice-aggregate-put-4 mul-put-4 add-put-3 put-requires-4 add-x loop-less loop-again same_length returns)
+pub down_32_32_8_spec : {M : Type 1} → statement M
+down_32_32_8_spec = tie.close (tie.spec invariant-loop decreases-loop slice-aggregate-strip-8 strip-8-requires loop-holds slice-aggregate-deal slice-aggregate-deal-2 deal-requires slice-aggregate-deal-3 slice-aggregate-deal-4 deal-requires-2 slice-aggregate-some slice-aggregate-some-2 slice-aggregate-some-3 some-requires slice-aggregate-lift lift-requires slice-aggregate-deal-5 slice-aggregate-deal-6 deal-requires-3 slice-aggregate-some-4 slice-aggregate-some-5 slice-aggregate-some-6 some-requires-2 slice-aggregate-butterfly slice-aggregate-butterfly-2 slice-aggregate-butterfly-3 butterfly-requires slice-aggregate-deal-7 slice-aggregate-deal-8 deal-requires-4 slice-aggregate-some-7 slice-aggregate-some-8 slice-aggregate-some-9 some-requires-3 slice-aggregate-butterfly-4 slice-aggregate-butterfly-5 slice-aggregate-butterfly-6 butterfly-requires-2 slice-aggregate-deal-9 slice-aggregate-deal-10 deal-requires-5 slice-aggregate-some-10 slice-aggregate-some-11 slice-aggregate-some-12 some-requires-4 slice-aggregate-some-13 slice-aggregate-some-14 slice-aggregate-some-15 some-requires-5 slice-aggregate-butterfly-7 slice-aggregate-butterfly-8 slice-aggregate-butterfly-9 butterfly-requires-3 slice-aggregate-deal-11 slice-aggregate-deal-12 deal-requires-6 slice-aggregate-some-16 slice-aggregate-some-17 slice-aggregate-some-18 some-requires-6 slice-aggregate-some-19 slice-aggregate-some-20 slice-aggregate-some-21 some-requires-7 slice-aggregate-some-22 slice-aggregate-some-23 slice-aggregate-some-24 some-requires-8 slice-aggregate-some-25 slice-aggregate-some-26 slice-aggregate-some-27 some-requires-9 slice-aggregate-some-28 slice-aggregate-some-29 slice-aggregate-some-30 some-requires-10 slice-aggregate-some-31 slice-aggregate-some-32 slice-aggregate-some-33 some-requires-11 slice-aggregate-some-34 slice-aggregate-some-35 slice-aggregate-some-36 some-requires-12 slice-aggregate-some-37 slice-aggregate-some-38 slice-aggregate-some-39 some-requires-13 slice-aggregate-butterfly-10 slice-aggregate-butterfly-11 slice-aggregate-butterfly-12 butterfly-requires-4 slice-aggregate-put mul-put put-requires slice-aggregate-put-2 mul-put-2 add-put put-requires-2 slice-aggregate-put-3 mul-put-3 add-put-2 put-requires-3 slice-aggregate-put-4 mul-put-4 add-put-3 put-requires-4 add-x loop-less loop-again same_length returns)

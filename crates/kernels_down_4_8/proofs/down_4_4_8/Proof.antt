@@ -17,10 +17,10 @@ use Rattle.kernel_levels.proofs.Stored.{first-2-2, first-2-2-right, odd-4-2, odd
 use Rattle.kernels_down_4_8.proofs.down_4_4_8.Statement.{statement}
 use Rattle.kernels_down_4_8.proofs.down_4_4_8.Tie as tie
 
-abbrev invariant-loop : tie.invariant-loop
+abbrev invariant-loop : tie.invariant-loop-x
 invariant-loop c w x0 rows many m₀ b x₀ m x = Turning 4 8 4 x 0 (λ x y. middle short_range (strip_sum 4 w x0 rows c x y)) m m₀
 
-abbrev decreases-loop : tie.decreases-loop
+abbrev decreases-loop : tie.decreases-loop-x
 decreases-loop c w x0 rows many m₀ b x₀ m x = 8 - x
 
 below : (c : tie.Start invariant-loop decreases-loop) {x : ℕ} → x < c.args.many → x < 8
@@ -30,15 +30,15 @@ full : (c : tie.Start invariant-loop decreases-loop) {x : ℕ} → c.args.many �
 full c {x} h = subst (λ (k : ℕ). k ≤ x) c.requires.1.1 h
 
 abbrev inputs : tie.After-deal invariant-loop decreases-loop → List ℤ
-inputs c = c.deal.new.1.1.1.1.0
+inputs c = c.deal.new.a
 
-abbrev turn : tie.After-deal invariant-loop decreases-loop → tie.In-loop invariant-loop decreases-loop
+abbrev turn : tie.After-deal invariant-loop decreases-loop → tie.In-loop-x invariant-loop decreases-loop
 turn c = c.before.before.before
 
 abbrev start : tie.After-deal invariant-loop decreases-loop → tie.Start invariant-loop decreases-loop
 start c = c.before.before.before.before.before.before.before.before
 
-abbrev inputs-deal2 : tie.After-deal2 invariant-loop decreases-loop → tie.After-deal invariant-loop decreases-loop
+abbrev inputs-deal2 : tie.After-deal-in-loop-x invariant-loop decreases-loop → tie.After-deal invariant-loop decreases-loop
 inputs-deal2 c = c.before.before.before.before
 
 abbrev inputs-some : tie.After-some invariant-loop decreases-loop → tie.After-deal invariant-loop decreases-loop
@@ -47,10 +47,10 @@ inputs-some c = inputs-deal2 c.before.before.before.before.before
 abbrev inputs-lift : tie.After-lift invariant-loop decreases-loop → tie.After-deal invariant-loop decreases-loop
 inputs-lift c = inputs-some c.before.before.before
 
-abbrev inputs-deal3 : tie.After-deal3 invariant-loop decreases-loop → tie.After-deal invariant-loop decreases-loop
+abbrev inputs-deal3 : tie.After-deal-in-loop-x-2 invariant-loop decreases-loop → tie.After-deal invariant-loop decreases-loop
 inputs-deal3 c = inputs-lift c.before.before.before.before
 
-abbrev inputs-some2 : tie.After-some2 invariant-loop decreases-loop → tie.After-deal invariant-loop decreases-loop
+abbrev inputs-some2 : tie.After-some-in-loop-x invariant-loop decreases-loop → tie.After-deal invariant-loop decreases-loop
 inputs-some2 c = inputs-deal3 c.before.before.before.before.before
 
 abbrev inputs-butterfly : tie.After-butterfly invariant-loop decreases-loop → tie.After-deal invariant-loop decreases-loop
@@ -59,134 +59,134 @@ inputs-butterfly c = inputs-some2 c.before.before.before.before.before
 abbrev inputs-put : tie.After-put invariant-loop decreases-loop → tie.After-deal invariant-loop decreases-loop
 inputs-put c = inputs-butterfly c.before.before.before.before
 
-dealt-a : (c : tie.After-deal invariant-loop decreases-loop) → Dealt 4 4 (λ i. at c.before.before.before.before.before.before.strip-8.new.1.1.1.1.0 ((turn c).before.loop.x + i * 8)) (inputs c)
+dealt-a : (c : tie.After-deal invariant-loop decreases-loop) → Dealt 4 4 (λ i. at c.before.before.before.before.before.before.strip_8.new.b ((turn c).before.loop-x.x + i * 8)) (inputs c)
 dealt-a c = dealt (omega arith) c.deal.ensures (λ i l. refl)
 
-dealt-2 : (c : tie.After-deal2 invariant-loop decreases-loop) → Dealt 2 2 (evens (at (inputs (inputs-deal2 c)))) c.deal2.new.1.1.1.1.0
-dealt-2 c = dealt (omega arith) c.deal2.ensures (λ i l. let e : 0 + i * 2 ≡ 2 * (i) = omega arith in ap (at (inputs (inputs-deal2 c))) e)
+dealt-2 : (c : tie.After-deal-in-loop-x invariant-loop decreases-loop) → Dealt 2 2 (evens (at (inputs (inputs-deal2 c)))) c.deal-in-loop-x.new.a
+dealt-2 c = dealt (omega arith) c.deal-in-loop-x.ensures (λ i l. let e : 0 + i * 2 ≡ 2 * (i) = omega arith in ap (at (inputs (inputs-deal2 c))) e)
 
-made-2-2 : (c : tie.After-some invariant-loop decreases-loop) → Made 2 2 (line_sum c.before.before.before.before.before.deal2.new.1.1.1.1.0 0 2 first-2-2 4 1) c.some.new.1.1.1.1.1.1.0
+made-2-2 : (c : tie.After-some invariant-loop decreases-loop) → Made 2 2 (line_sum c.before.before.before.before.before.deal-in-loop-x.new.a 0 2 first-2-2 4 1) c.some.new.out
 made-2-2 c = made-next 2 (omega arith) (made_none 2 _) c.some.ensures
 
-level-2 : (c : tie.After-lift invariant-loop decreases-loop) → Sums 2 2 (pos 64) (evens (at (inputs (inputs-lift c)))) 1 c.lift.new.1.1.0
+level-2 : (c : tie.After-lift invariant-loop decreases-loop) → Sums 2 2 (pos 64) (evens (at (inputs (inputs-lift c)))) 1 c.lift.new.e
 level-2 c = lowest (omega arith) first-2-2-right (dealt-2 c.before.before.before.before.before.before.before.before) (made-2-2 c.before.before.before) c.lift.ensures
 
-dealt-4 : (c : tie.After-deal3 invariant-loop decreases-loop) → Dealt 2 2 (λ i. (at (inputs (inputs-deal3 c))) (2 * i + 1)) c.deal3.new.1.1.1.1.0
-dealt-4 c = dealt (omega arith) c.deal3.ensures (λ i l. let e : 1 + i * 2 ≡ 2 * i + 1 = omega arith in ap (at (inputs (inputs-deal3 c))) e)
+dealt-4 : (c : tie.After-deal-in-loop-x-2 invariant-loop decreases-loop) → Dealt 2 2 (λ i. (at (inputs (inputs-deal3 c))) (2 * i + 1)) c.deal-in-loop-x-2.new.a
+dealt-4 c = dealt (omega arith) c.deal-in-loop-x-2.ensures (λ i l. let e : 1 + i * 2 ≡ 2 * i + 1 = omega arith in ap (at (inputs (inputs-deal3 c))) e)
 
-made-4-2 : (c : tie.After-some2 invariant-loop decreases-loop) → Made 2 2 (line_sum c.before.before.before.before.before.deal3.new.1.1.1.1.0 0 2 odd-4-2 4 1) c.some2.new.1.1.1.1.1.1.0
-made-4-2 c = made-next 2 (omega arith) (made_none 2 _) c.some2.ensures
+made-4-2 : (c : tie.After-some-in-loop-x invariant-loop decreases-loop) → Made 2 2 (line_sum c.before.before.before.before.before.deal-in-loop-x-2.new.a 0 2 odd-4-2 4 1) c.some-in-loop-x.new.out
+made-4-2 c = made-next 2 (omega arith) (made_none 2 _) c.some-in-loop-x.ensures
 
-level-4 : (c : tie.After-butterfly invariant-loop decreases-loop) → Sums 4 4 (pos 64) (at (inputs (inputs-butterfly c))) 2 c.butterfly.new.1.1.1.1.1.0
+level-4 : (c : tie.After-butterfly invariant-loop decreases-loop) → Sums 4 4 (pos 64) (at (inputs (inputs-butterfly c))) 2 c.butterfly.new.out
 level-4 c = up {x = at (inputs (inputs-butterfly c))} halves-4 (omega arith) odd-4-2-right (dealt-4 c.before.before.before.before.before.before.before.before.before.before) (level-2 c.before.before.before.before.before.before.before.before.before.before.before.before.before.before) (made-4-2 c.before.before.before.before.before) c.butterfly.ensures
 
 abbrev value : tie.Start invariant-loop decreases-loop → ℕ → ℕ → ℤ
 value c = λ x y. middle short_range (strip_sum 4 c.args.w c.args.x0 c.args.rows c.args.c.now x y)
 
-tile-4 : (c : tie.After-put invariant-loop decreases-loop) → Turning 4 8 4 (turn (inputs-put c)).before.loop.x 4 (value (start (inputs-put c))) c.put.new.1.1.1.1.0 (start (inputs-put c)).args.m.now
-tile-4 c = put_next 32 (start (inputs-put c)).args.w (start (inputs-put c)).args.x0 (start (inputs-put c)).args.c.now places-4-8 (start (inputs-put c)).pre.0.few (below (start (inputs-put c)) (turn (inputs-put c)).loop-test.taken) (inputs-put c).before.before.before.before.before.before.strip-8.ensures (dealt-a (inputs-put c)) (level-4 c.before.before.before.before) 0 refl (omega arith) (omega arith) (turn (inputs-put c)).before.loop.inv c.put.ensures
+tile-4 : (c : tie.After-put invariant-loop decreases-loop) → Turning 4 8 4 (turn (inputs-put c)).before.loop-x.x 4 (value (start (inputs-put c))) c.put.new.m (start (inputs-put c)).args.m.now
+tile-4 c = put_next 32 (start (inputs-put c)).args.w (start (inputs-put c)).args.x0 (start (inputs-put c)).args.c.now places-4-8 (start (inputs-put c)).requires.0.few (below (start (inputs-put c)) (turn (inputs-put c)).loop-x-test.true) (inputs-put c).before.before.before.before.before.before.strip_8.ensures (dealt-a (inputs-put c)) (level-4 c.before.before.before.before) 0 refl (omega arith) (omega arith) (turn (inputs-put c)).before.loop-x.invariant c.put.ensures
 
-slice-aggregate-strip-8 : tie.Need-slice-aggregate-strip-8 invariant-loop decreases-loop
+slice-aggregate-strip-8 : tie.Need-slice_bounds-strip_8-end invariant-loop decreases-loop
 slice-aggregate-strip-8 c = refl
 
-strip-8-requires : tie.Need-strip-8-requires invariant-loop decreases-loop
+strip-8-requires : tie.Need-strip_8-requires invariant-loop decreases-loop
 strip-8-requires c κs = (omega (arith, c.before.requires.0.few), c.before.requires.0.there)
 
-loop-holds : tie.Need-loop-init invariant-loop decreases-loop
+loop-holds : tie.Need-loop-x-init invariant-loop decreases-loop
 loop-holds c = turn-none _ _ _ _ _
 
-slice-aggregate-deal : tie.Need-slice-aggregate-deal invariant-loop decreases-loop
-slice-aggregate-deal c = sym c.before.before.before.before.strip-8.ensures.long
+slice-aggregate-deal : tie.Need-slice_bounds-deal-end invariant-loop decreases-loop
+slice-aggregate-deal c = sym c.before.before.before.before.strip_8.ensures.long
 
-slice-aggregate-deal-2 : tie.Need-slice-aggregate-deal-2 invariant-loop decreases-loop
+slice-aggregate-deal-2 : tie.Need-slice_bounds-deal-end-in-loop-x invariant-loop decreases-loop
 slice-aggregate-deal-2 c = refl
 
 deal-requires : tie.Need-deal-requires invariant-loop decreases-loop
-deal-requires c κs = (omega arith, λ i l. omega (arith, c.before.before.before.before.before.strip-8.ensures.long, (below c.before.before.before.before.before.before.before c.before.before.loop-test.true)))
+deal-requires c κs = (omega arith, λ i l. omega (arith, c.before.before.before.before.before.strip_8.ensures.long, (below c.before.before.before.before.before.before.before c.before.before.loop-x-test.true)))
 
-slice-aggregate-deal-3 : tie.Need-slice-aggregate-deal-3 invariant-loop decreases-loop
+slice-aggregate-deal-3 : tie.Need-slice_bounds-deal-end-in-loop-x-2 invariant-loop decreases-loop
 slice-aggregate-deal-3 c = sym (dealt-a c.before.before).long
 
-slice-aggregate-deal-4 : tie.Need-slice-aggregate-deal-4 invariant-loop decreases-loop
+slice-aggregate-deal-4 : tie.Need-slice_bounds-deal-end-in-loop-x-3 invariant-loop decreases-loop
 slice-aggregate-deal-4 c = refl
 
-deal-requires-2 : tie.Need-deal-requires-2 invariant-loop decreases-loop
+deal-requires-2 : tie.Need-deal-requires-in-loop-x invariant-loop decreases-loop
 deal-requires-2 c κs = (omega arith, λ i l. omega (arith, (dealt-a c.before.before.before).long))
 
-slice-aggregate-some : tie.Need-slice-aggregate-some invariant-loop decreases-loop
+slice-aggregate-some : tie.Need-slice_bounds-some-end invariant-loop decreases-loop
 slice-aggregate-some c = sym (dealt-2 c.before.before).long
 
-slice-aggregate-some-2 : tie.Need-slice-aggregate-some-2 invariant-loop decreases-loop
+slice-aggregate-some-2 : tie.Need-slice_bounds-some-end-in-loop-x invariant-loop decreases-loop
 slice-aggregate-some-2 c = refl
 
-slice-aggregate-some-3 : tie.Need-slice-aggregate-some-3 invariant-loop decreases-loop
+slice-aggregate-some-3 : tie.Need-slice_bounds-some-end-in-loop-x-2 invariant-loop decreases-loop
 slice-aggregate-some-3 c = refl
 
 some-requires : tie.Need-some-requires invariant-loop decreases-loop
 some-requires c κs = (weighed first-2-2-right (dealt-2 c.before.before.before.before) 2 (omega arith), (omega arith, omega arith))
 
-slice-aggregate-lift : tie.Need-slice-aggregate-lift invariant-loop decreases-loop
+slice-aggregate-lift : tie.Need-slice_bounds-lift-end invariant-loop decreases-loop
 slice-aggregate-lift c = sym (made-2-2 c.before.before).long
 
 lift-requires : tie.Need-lift-requires invariant-loop decreases-loop
 lift-requires c κs = (omega arith, made-small (made-2-2 c.before.before))
 
-slice-aggregate-deal-5 : tie.Need-slice-aggregate-deal-5 invariant-loop decreases-loop
+slice-aggregate-deal-5 : tie.Need-slice_bounds-deal-end-in-loop-x-4 invariant-loop decreases-loop
 slice-aggregate-deal-5 c = sym (dealt-a (inputs-lift c.before.before)).long
 
-slice-aggregate-deal-6 : tie.Need-slice-aggregate-deal-6 invariant-loop decreases-loop
+slice-aggregate-deal-6 : tie.Need-slice_bounds-deal-end-in-loop-x-5 invariant-loop decreases-loop
 slice-aggregate-deal-6 c = refl
 
-deal-requires-3 : tie.Need-deal-requires-3 invariant-loop decreases-loop
+deal-requires-3 : tie.Need-deal-requires-in-loop-x-2 invariant-loop decreases-loop
 deal-requires-3 c κs = (omega arith, λ i l. omega (arith, (dealt-a (inputs-lift c.before.before.before)).long))
 
-slice-aggregate-some-4 : tie.Need-slice-aggregate-some-4 invariant-loop decreases-loop
+slice-aggregate-some-4 : tie.Need-slice_bounds-some-end-in-loop-x-3 invariant-loop decreases-loop
 slice-aggregate-some-4 c = sym (dealt-4 c.before.before).long
 
-slice-aggregate-some-5 : tie.Need-slice-aggregate-some-5 invariant-loop decreases-loop
+slice-aggregate-some-5 : tie.Need-slice_bounds-some-end-in-loop-x-4 invariant-loop decreases-loop
 slice-aggregate-some-5 c = refl
 
-slice-aggregate-some-6 : tie.Need-slice-aggregate-some-6 invariant-loop decreases-loop
+slice-aggregate-some-6 : tie.Need-slice_bounds-some-end-in-loop-x-5 invariant-loop decreases-loop
 slice-aggregate-some-6 c = refl
 
-some-requires-2 : tie.Need-some-requires-2 invariant-loop decreases-loop
+some-requires-2 : tie.Need-some-requires-in-loop-x invariant-loop decreases-loop
 some-requires-2 c κs = (weighed odd-4-2-right (dealt-4 c.before.before.before.before) 2 (omega arith), (omega arith, omega arith))
 
-slice-aggregate-butterfly : tie.Need-slice-aggregate-butterfly invariant-loop decreases-loop
+slice-aggregate-butterfly : tie.Need-slice_bounds-butterfly-end invariant-loop decreases-loop
 slice-aggregate-butterfly c = sym (level-2 c.before.before.before.before.before.before.before.before.before.before.before).long
 
-slice-aggregate-butterfly-2 : tie.Need-slice-aggregate-butterfly-2 invariant-loop decreases-loop
+slice-aggregate-butterfly-2 : tie.Need-slice_bounds-butterfly-end-in-loop-x invariant-loop decreases-loop
 slice-aggregate-butterfly-2 c = sym (made-4-2 c.before.before.before).long
 
-slice-aggregate-butterfly-3 : tie.Need-slice-aggregate-butterfly-3 invariant-loop decreases-loop
+slice-aggregate-butterfly-3 : tie.Need-slice_bounds-butterfly-end-in-loop-x-2 invariant-loop decreases-loop
 slice-aggregate-butterfly-3 c = refl
 
 butterfly-requires : tie.Need-butterfly-requires invariant-loop decreases-loop
 butterfly-requires c κs = (sums-small (omega arith) (level-2 c.before.before.before.before.before.before.before.before.before.before.before.before.before), (made-small (made-4-2 c.before.before.before.before), (omega arith, (omega arith, omega arith))))
 
-slice-aggregate-put : tie.Need-slice-aggregate-put invariant-loop decreases-loop
+slice-aggregate-put : tie.Need-slice_bounds-put-end invariant-loop decreases-loop
 slice-aggregate-put c = sym (level-4 c.before.before).long
 
-mul-put : tie.Need-overflow-mul-put invariant-loop decreases-loop
-mul-put c = omega (arith, (below (start (inputs-butterfly c.before.before)) (turn (inputs-butterfly c.before.before)).loop-test.taken))
+mul-put : tie.Need-overflow_mul-x invariant-loop decreases-loop
+mul-put c = omega (arith, (below (start (inputs-butterfly c.before.before)) (turn (inputs-butterfly c.before.before)).loop-x-test.true))
 
 put-requires : tie.Need-put-requires invariant-loop decreases-loop
-put-requires c κs = (omega (arith, (level-4 c.before.before.before).long), omega (arith, (turn (inputs-butterfly c.before.before.before)).before.loop.inv.long, (start (inputs-butterfly c.before.before.before)).pre.1.0, (below (start (inputs-butterfly c.before.before.before)) (turn (inputs-butterfly c.before.before.before)).loop-test.taken)))
+put-requires c κs = (omega (arith, (level-4 c.before.before.before).long), omega (arith, (turn (inputs-butterfly c.before.before.before)).before.loop-x.invariant.long, (start (inputs-butterfly c.before.before.before)).requires.1.0, (below (start (inputs-butterfly c.before.before.before)) (turn (inputs-butterfly c.before.before.before)).loop-x-test.true)))
 
-add-x : tie.Need-overflow-add-x invariant-loop decreases-loop
-add-x c = omega (arith, (below (start (inputs-put c.before)) (turn (inputs-put c.before)).loop-test.taken))
+add-x : tie.Need-overflow_add-x invariant-loop decreases-loop
+add-x c = omega (arith, (below (start (inputs-put c.before)) (turn (inputs-put c.before)).loop-x-test.true))
 
-loop-less : tie.Need-loop-smaller invariant-loop decreases-loop
-loop-less c = omega (arith, (below (start (inputs-put c.before)) (turn (inputs-put c.before)).loop-test.taken))
+loop-less : tie.Need-loop-x-smaller invariant-loop decreases-loop
+loop-less c = omega (arith, (below (start (inputs-put c.before)) (turn (inputs-put c.before)).loop-x-test.true))
 
-loop-again : tie.Need-loop-preserved invariant-loop decreases-loop
+loop-again : tie.Need-loop-x-preserved invariant-loop decreases-loop
 loop-again c = turn-column (omega arith) (tile-4 c.before)
 
-same_length : tie.Need-same-length invariant-loop decreases-loop
-same_length c = c.before.loop.invariant.long
+same_length : tie.Need-shape_of-m invariant-loop decreases-loop
+same_length c = c.before.loop-x.invariant.long
 
 returns : tie.Need-returns invariant-loop decreases-loop
-returns c = turn-all (full c.before.before.before.before.before c.loop-test.false) c.before.loop.invariant
+returns c = turn-all (full c.before.before.before.before.before c.loop-x-test.false) c.before.loop-x.invariant
 
-pub down-4-4-8-spec : {M : Type 1} → statement M
-down-4-4-8-spec = tie.close (tie.spec invariant-loop decreases-loop slice-aggregate-strip-8 strip-8-requires loop-holds slice-aggregate-deal slice-aggregate-deal-2 deal-requires slice-aggregate-deal-3 slice-aggregate-deal-4 deal-requires-2 slice-aggregate-some slice-aggregate-some-2 slice-aggregate-some-3 some-requires slice-aggregate-lift lift-requires slice-aggregate-deal-5 slice-aggregate-deal-6 deal-requires-3 slice-aggregate-some-4 slice-aggregate-some-5 slice-aggregate-some-6 some-requires-2 slice-aggregate-butterfly slice-aggregate-butterfly-2 slice-aggregate-butterfly-3 butterfly-requires slice-aggregate-put mul-put put-requires add-x loop-less loop-again same_length returns)
+pub down_4_4_8_spec : {M : Type 1} → statement M
+down_4_4_8_spec = tie.close (tie.spec invariant-loop decreases-loop slice-aggregate-strip-8 strip-8-requires loop-holds slice-aggregate-deal slice-aggregate-deal-2 deal-requires slice-aggregate-deal-3 slice-aggregate-deal-4 deal-requires-2 slice-aggregate-some slice-aggregate-some-2 slice-aggregate-some-3 some-requires slice-aggregate-lift lift-requires slice-aggregate-deal-5 slice-aggregate-deal-6 deal-requires-3 slice-aggregate-some-4 slice-aggregate-some-5 slice-aggregate-some-6 some-requires-2 slice-aggregate-butterfly slice-aggregate-butterfly-2 slice-aggregate-butterfly-3 butterfly-requires slice-aggregate-put mul-put put-requires add-x loop-less loop-again same_length returns)

@@ -66,10 +66,10 @@ mul-narrow-row-2 c = omega (arith, (row c.before).1)
 sub-narrow-row-2 : tie.Need-slice_bounds-narrow_row-count-in-loop-y invariant-loop decreases-loop
 sub-narrow-row-2 c = omega arith
 
-part-narrow-row-start-2 : tie.Need-slice-bounds-narrow-row-start-2 invariant-loop decreases-loop
+part-narrow-row-start-2 : tie.Need-slice_bounds-narrow_row-start-in-loop-y invariant-loop decreases-loop
 part-narrow-row-start-2 c = omega arith
 
-part-narrow-row-end-2 : tie.Need-slice-bounds-narrow-row-end-2 invariant-loop decreases-loop
+part-narrow-row-end-2 : tie.Need-slice_bounds-narrow_row-end-in-loop-y invariant-loop decreases-loop
 part-narrow-row-end-2 c = omega (arith, room c.before)
 
 narrow-row-requires : tie.Need-narrow_row-requires invariant-loop decreases-loop

@@ -35,7 +35,7 @@ returns c =
     let room = length s.args.u.now in
     let e : s.args.n ≡ 4 = c.before.before.before.before.before.if-n-eq4.true in (
       c.before.front.ensures.long,
-      subst (λ (n : ℕ). Weights room n s.args.forward s.args.kind n c.before.front.new.1.1.0) (sym e)
+      subst (λ (n : ℕ). Weights room n s.args.forward s.args.kind n c.before.front.new.u) (sym e)
           (λ pairs l m. front c.before.before.before.before.zipped_4.ensures c.before.front.ensures pairs l m),
     )
 
@@ -48,7 +48,7 @@ returns-2 c =
     let room = length s.args.u.now in
     let e : s.args.n ≡ 8 = is-eight s.args.n s.requires.0.0 c.before.before.before.before.before.if-n-eq4.false s.requires.0.1 in (
       c.before.front-else-n-eq4.ensures.long,
-      subst (λ (n : ℕ). Weights room n s.args.forward s.args.kind n c.before.front-else-n-eq4.new.1.1.0) (sym e)
+      subst (λ (n : ℕ). Weights room n s.args.forward s.args.kind n c.before.front-else-n-eq4.new.u) (sym e)
           (λ pairs l m. front c.before.before.before.before.zipped_8.ensures c.before.front-else-n-eq4.ensures pairs l m),
     )
 

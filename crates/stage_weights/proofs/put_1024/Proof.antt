@@ -30,7 +30,7 @@ returns : tie.Need-returns-then-n-gt16
 returns c =
     let s = c.before.before.before in
     let e : s.args.n ≡ 32 = is-thirty-two s.args.n s.requires.0 c.before.before.if-n-gt16.true in
-    (c.put_32.ensures.0, subst (λ (n : ℕ). Weights 1024 n s.args.forward s.args.kind n c.put_32.new.1.1.0) (sym e) (whole s.args.kind s.args.forward c.put_32.ensures.1))
+    (c.put_32.ensures.0, subst (λ (n : ℕ). Weights 1024 n s.args.forward s.args.kind n c.put_32.new.u) (sym e) (whole s.args.kind s.args.forward c.put_32.ensures.1))
 
 returns-2 : tie.Need-returns-then-n-eq16
 returns-2 c =
@@ -38,7 +38,7 @@ returns-2 c =
     let e : s.args.n ≡ 16 = c.before.before.before.before.if-n-eq16.true in
     in-room s.args.n s.args.kind s.args.forward s.requires.1 (
       c.front.ensures.long,
-      subst (λ (n : ℕ). Weights (length s.args.u.now) n s.args.forward s.args.kind n c.front.new.1.1.0) (sym e)
+      subst (λ (n : ℕ). Weights (length s.args.u.now) n s.args.forward s.args.kind n c.front.new.u) (sym e)
           (λ pairs l m. front c.before.before.before.zipped_16.ensures c.front.ensures pairs l m),
     )
 

@@ -40,7 +40,7 @@ returns c =
     let e : s.args.n ≡ 32 = is-thirty-two s.args.n s.requires.0 c.before.before.before.before.before.if-n-gt16.true in
     in-room s.args.n s.args.kind s.args.forward s.requires.1 (
       c.front.ensures.long,
-      subst (λ (n : ℕ). Weights (length s.args.u.now) n s.args.forward s.args.kind n c.front.new.1.1.0) (sym e)
+      subst (λ (n : ℕ). Weights (length s.args.u.now) n s.args.forward s.args.kind n c.front.new.u) (sym e)
           (λ pairs l m. front c.before.before.before.put_32.ensures.1 c.front.ensures pairs l m),
     )
 
@@ -50,7 +50,7 @@ returns-2 c =
     let e : s.args.n ≡ 16 = c.before.before.before.before.if-n-eq16.true in
     in-room s.args.n s.args.kind s.args.forward s.requires.1 (
       c.front-then-n-eq16.ensures.long,
-      subst (λ (n : ℕ). Weights (length s.args.u.now) n s.args.forward s.args.kind n c.front-then-n-eq16.new.1.1.0) (sym e)
+      subst (λ (n : ℕ). Weights (length s.args.u.now) n s.args.forward s.args.kind n c.front-then-n-eq16.new.u) (sym e)
           (λ pairs l m. front c.before.before.before.zipped_16.ensures c.front-then-n-eq16.ensures pairs l m),
     )
 

@@ -7,12 +7,12 @@ use Rattle.wrapping.proofs.forward.Tie as tie
 total-requires : tie.Need-total-requires
 total-requires c κs = search rules
 
-same_length : tie.Need-same-length
+same_length : tie.Need-shape_of-y
 same_length c = search rules
 
 returns : tie.Need-returns
 unfolding forward_line forward_sum
 returns c = c.before.total.ensures
 
-pub forward-spec : {M : Type 1} → statement M
-forward-spec = tie.close (tie.spec total-requires same_length returns)
+pub forward_spec : {M : Type 1} → statement M
+forward_spec = tie.close (tie.spec total-requires same_length returns)

@@ -7,12 +7,12 @@ use Rattle.wrapping.proofs.inverse.Tie as tie
 total-requires : tie.Need-total-requires
 total-requires c κs = search rules
 
-same_length : tie.Need-same-length
+same_length : tie.Need-shape_of-y
 same_length c = search rules
 
 returns : tie.Need-returns
 unfolding inverse_line inverse_sum
 returns c = c.before.total.ensures
 
-pub inverse-spec : {M : Type 1} → statement M
-inverse-spec = tie.close (tie.spec total-requires same_length returns)
+pub inverse_spec : {M : Type 1} → statement M
+inverse_spec = tie.close (tie.spec total-requires same_length returns)

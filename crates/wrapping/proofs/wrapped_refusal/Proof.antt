@@ -14,31 +14,31 @@ of-line s = line_tests s.args.n s.args.kind s.args.input s.args.output
 abbrev of-order : tie.Start → List Refusal
 of-order s = test (not (is_order s.args.n s.args.order.now)) 21 ∷ []
 
-line-refusal-requires : tie.Need-line-refusal-requires
+line-refusal-requires : tie.Need-line_refusal-number-requires
 line-refusal-requires c κs = search rules
 
-returns : tie.Need-returns
+returns : tie.Need-returns-then-number-ne0
 returns c =
     let s = c.before.before.before in
-    c.before.line-refusal.ensures
-    ∙ sym (refused-first (of-order s) (λ number place. number) 0 (of-line s) tt (λ e. c.if1.true (c.before.line-refusal.ensures ∙ e)))
+    c.before.line_refusal-number.ensures
+    ∙ sym (refused-first (of-order s) (λ number place. number) 0 (of-line s) tt (λ e. c.if-number-ne0.true (c.before.line_refusal-number.ensures ∙ e)))
 
 -- past the line's, the order decides
-past : (c : tie.Else1) → let s = c.before.before.before in number_of (wrapped_tests s.args.n s.args.kind s.args.input s.args.output s.args.order.now) ≡ number_of (of-order s)
-past c = let s = c.before.before.before in passed_first (of-order s) (λ number place. number) 0 (of-line s) tt (sym c.before.line-refusal.ensures ∙ c.if1.false)
+past : (c : tie.Else-number-ne0) → let s = c.before.before.before in number_of (wrapped_tests s.args.n s.args.kind s.args.input s.args.output s.args.order.now) ≡ number_of (of-order s)
+past c = let s = c.before.before.before in passed_first (of-order s) (λ number place. number) 0 (of-line s) tt (sym c.before.line_refusal-number.ensures ∙ c.if-number-ne0.false)
 
-is-order-requires : tie.Need-is-order-requires
+is-order-requires : tie.Need-is_order-requires
 is-order-requires c κs = search rules
 
 -- what was asked of the order
-asked : (c : tie.After-is-order) → let s = c.before.before.before.before in c.is-order.result ≡ is_order s.args.n s.args.order.now
-asked c = c.is-order.ensures
+asked : (c : tie.After-is_order) → let s = c.before.before.before.before in c.is_order.result ≡ is_order s.args.n s.args.order.now
+asked c = c.is_order.ensures
 
-returns-2 : tie.Need-returns-2
-returns-2 c = sym (past c.before.before ∙ rw (← asked c.before, c.if2.true))
+returns-2 : tie.Need-returns-then-not-is_order
+returns-2 c = sym (past c.before.before ∙ rw (← asked c.before, c.if-not-is_order.true))
 
-returns-3 : tie.Need-returns-3
-returns-3 c = sym (past c.before.before ∙ rw (← asked c.before, c.if2.false))
+returns-3 : tie.Need-returns
+returns-3 c = sym (past c.before.before ∙ rw (← asked c.before, c.if-not-is_order.false))
 
-pub wrapped-refusal-spec : {M : Type 1} → statement M
-wrapped-refusal-spec = tie.close (tie.spec line-refusal-requires returns is-order-requires returns-2 returns-3)
+pub wrapped_refusal_spec : {M : Type 1} → statement M
+wrapped_refusal_spec = tie.close (tie.spec line-refusal-requires returns is-order-requires returns-2 returns-3)

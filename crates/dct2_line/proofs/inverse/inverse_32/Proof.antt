@@ -52,7 +52,7 @@ butterfly-requires c κs =
     let T = L.before.before.before.before in
     let D = T.before.before in
     let E = D.before.before.before in
-    let S = E.before.before in
+    let S = E.before in
     (step_given S.requires.0 8 refl S.requires.1.1 E.inverse_16.ensures T.odd_32-t.ensures D.deal.ensures L.line.ensures, S.requires.1.0)
 
 same_length : tie.Need-shape_of-o
@@ -67,7 +67,7 @@ returns c =
     let T = L.before.before.before.before in
     let D = T.before.before in
     let E = D.before.before.before in
-    let S = E.before.before in
+    let S = E.before in
     step S.requires.0 8 refl S.requires.1.1 E.inverse_16.ensures T.odd_32-t.ensures D.deal.ensures L.line.ensures halves-32 c.before.butterfly.ensures
 
 pub inverse_32_spec : {M : Type 1} → statement M

@@ -14,23 +14,23 @@ use Rattle.kernel_picks.proofs.along.along_8.Tie as tie
 half_is : (c : tie.Start) → to_z w32 (of_z w32 c.args.half) ≡ c.args.half
 half_is c = to_z-of_z w32 c.args.half c.ranges.half
 
-first-along-8-requires : tie.Need-first-along-8-requires
-first-along-8-requires c κs = (c.before.before.requires.0, (subst (λ (k : ℕ). Rowed c.before.before.args.wide 8 k (to_z w32 (of_z w32 c.before.before.args.half)) c.before.before.args.shift c.before.before.args.m.now) c.before.if1.true (subst (λ (z : ℤ). Rowed c.before.before.args.wide 8 c.before.before.args.apart z c.before.before.args.shift c.before.before.args.m.now) (sym (half_is c.before.before)) c.before.before.requires.1.0), c.before.before.requires.1.1))
+first-along-8-requires : tie.Need-first_along_8-requires
+first-along-8-requires c κs = (c.before.before.requires.0, (subst (λ (k : ℕ). Rowed c.before.before.args.wide 8 k (to_z w32 (of_z w32 c.before.before.args.half)) c.before.before.args.shift c.before.before.args.m.now) c.before.if-apart-eq64.true (subst (λ (z : ℤ). Rowed c.before.before.args.wide 8 c.before.before.args.apart z c.before.before.args.shift c.before.before.args.m.now) (sym (half_is c.before.before)) c.before.before.requires.1.0), c.before.before.requires.1.1))
 
-same_length : tie.Need-same-length
-same_length c = c.before.first-along-8.auto.1.1.1.1.1.1.0
+same_length : tie.Need-shape_of-r-then-apart-eq64
+same_length c = c.before.first_along_8.auto.1.1.1.1.1.1.0
 
-returns : tie.Need-returns
-returns c = c.before.first-along-8.ensures ∙ (λ t. block c.before.before.before.before.args.w 8 (λ j l. shifted (half_is c.before.before.before.before t) c.before.before.before.before.args.shift (rows_sum c.before.before.before.before.args.w c.before.before.before.before.args.wide 8 (sym c.before.before.before.if1.true t) c.before.before.before.before.args.m.now j l)))
+returns : tie.Need-returns-then-apart-eq64
+returns c = c.before.first_along_8.ensures ∙ (λ t. block c.before.before.before.before.args.w 8 (λ j l. shifted (half_is c.before.before.before.before t) c.before.before.before.before.args.shift (rows_sum c.before.before.before.before.args.w c.before.before.before.before.args.wide 8 (sym c.before.before.before.if-apart-eq64.true t) c.before.before.before.before.args.m.now j l)))
 
-next-along-8-requires : tie.Need-next-along-8-requires
+next-along-8-requires : tie.Need-next_along_8-requires
 next-along-8-requires c κs = (c.before.before.requires.0, (subst (λ (z : ℤ). Rowed c.before.before.args.wide 8 c.before.before.args.apart z c.before.before.args.shift c.before.before.args.m.now) (sym (half_is c.before.before)) c.before.before.requires.1.0, c.before.before.requires.1.1))
 
-same-length-2 : tie.Need-same-length-2
-same-length-2 c = c.before.next-along-8.auto.1.1.1.1.1.1.1.0
+same-length-2 : tie.Need-shape_of-r
+same-length-2 c = c.before.next_along_8.auto.1.1.1.1.1.1.1.0
 
-returns-2 : tie.Need-returns-2
-returns-2 c = c.before.next-along-8.ensures ∙ (λ t. block c.before.before.before.before.args.w 8 (λ j l. shifted (half_is c.before.before.before.before t) c.before.before.before.before.args.shift (rows_sum c.before.before.before.before.args.w c.before.before.before.before.args.wide 8 c.before.before.before.before.args.apart c.before.before.before.before.args.m.now j l)))
+returns-2 : tie.Need-returns
+returns-2 c = c.before.next_along_8.ensures ∙ (λ t. block c.before.before.before.before.args.w 8 (λ j l. shifted (half_is c.before.before.before.before t) c.before.before.before.before.args.shift (rows_sum c.before.before.before.before.args.w c.before.before.before.before.args.wide 8 c.before.before.before.before.args.apart c.before.before.before.before.args.m.now j l)))
 
-pub along-8-spec : {M : Type 1} → statement M
-along-8-spec = tie.close (tie.spec first-along-8-requires same_length returns next-along-8-requires same-length-2 returns-2)
+pub along_8_spec : {M : Type 1} → statement M
+along_8_spec = tie.close (tie.spec first-along-8-requires same_length returns next-along-8-requires same-length-2 returns-2)

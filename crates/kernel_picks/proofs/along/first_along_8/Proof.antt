@@ -11,99 +11,99 @@ use Rattle.kernel_picks.proofs.along.first_along_8.Tie as tie
 half_is : (c : tie.Start) → to_z w32 (of_z w32 c.args.half) ≡ c.args.half
 half_is c = to_z-of_z w32 c.args.half c.ranges.half
 
-add-pick : tie.Need-overflow-add-pick
+add-pick : tie.Need-overflow_add-pick
 add-pick c = omega (arith, few-picks 8 c.args.w c.args.wide c.requires.0)
 
-along-4-4-8-requires : tie.Need-along-4-4-8-requires
+along-4-4-8-requires : tie.Need-along_4_4_8-requires
 along-4-4-8-requires c κs =
-    let p = pick-8 8 c.before.before.args.w c.before.before.args.wide c.before.before.requires.0 c.before.if1.true in
+    let p = pick-8 8 c.before.before.args.w c.before.before.args.wide c.before.before.requires.0 c.before.if-pick-eq8.true in
     let g = rows-so p.0 p.1 (half_is c.before.before) c.before.before.requires.1.0 c.before.before.requires.1.1.0 in (g.0, (g.1, c.before.before.requires.1.1.1))
 
-same_length : tie.Need-same-length
-same_length c = c.before.along-4-4-8.auto.1.1.1.1.1.0
+same_length : tie.Need-shape_of-r-then-pick-eq8
+same_length c = c.before.along_4_4_8.auto.1.1.1.1.1.0
 
-returns : tie.Need-returns
+returns : tie.Need-returns-then-pick-eq8
 returns c =
-    let p = pick-8 8 c.before.before.before.before.args.w c.before.before.before.before.args.wide c.before.before.before.before.requires.0 c.before.before.before.if1.true in
-    rowed-so 8 64 c.before.before.before.before.args.shift c.before.before.before.before.args.m.now p.0 p.1 (half_is c.before.before.before.before) c.before.along-4-4-8.ensures
+    let p = pick-8 8 c.before.before.before.before.args.w c.before.before.before.before.args.wide c.before.before.before.before.requires.0 c.before.before.before.if-pick-eq8.true in
+    rowed-so 8 64 c.before.before.before.before.args.shift c.before.before.before.before.args.m.now p.0 p.1 (half_is c.before.before.before.before) c.before.along_4_4_8.ensures
 
-along-8-4-8-requires : tie.Need-along-8-4-8-requires
+along-8-4-8-requires : tie.Need-along_8_4_8-requires
 along-8-4-8-requires c κs =
-    let p = pick-12 8 c.before.before.before.args.w c.before.before.before.args.wide c.before.before.before.requires.0 c.before.if2.true in
+    let p = pick-12 8 c.before.before.before.args.w c.before.before.before.args.wide c.before.before.before.requires.0 c.before.if-pick-eq12.true in
     rows-so p.0 p.1 (half_is c.before.before.before) c.before.before.before.requires.1.0 c.before.before.before.requires.1.1.0
 
-same-length-2 : tie.Need-same-length-2
-same-length-2 c = c.before.along-8-4-8.auto.1.1.1.1.1.0
+same-length-2 : tie.Need-shape_of-r-then-pick-eq12
+same-length-2 c = c.before.along_8_4_8.auto.1.1.1.1.1.0
 
-returns-2 : tie.Need-returns-2
+returns-2 : tie.Need-returns-then-pick-eq12
 returns-2 c =
-    let p = pick-12 8 c.before.before.before.before.before.args.w c.before.before.before.before.before.args.wide c.before.before.before.before.before.requires.0 c.before.before.before.if2.true in
-    rowed-so 8 64 c.before.before.before.before.before.args.shift c.before.before.before.before.before.args.m.now p.0 p.1 (half_is c.before.before.before.before.before) c.before.along-8-4-8.ensures
+    let p = pick-12 8 c.before.before.before.before.before.args.w c.before.before.before.before.before.args.wide c.before.before.before.before.before.requires.0 c.before.before.before.if-pick-eq12.true in
+    rowed-so 8 64 c.before.before.before.before.before.args.shift c.before.before.before.before.before.args.m.now p.0 p.1 (half_is c.before.before.before.before.before) c.before.along_8_4_8.ensures
 
-along-8-8-8-requires : tie.Need-along-8-8-8-requires
+along-8-8-8-requires : tie.Need-along_8_8_8-requires
 along-8-8-8-requires c κs =
-    let p = pick-16 8 c.before.before.before.before.args.w c.before.before.before.before.args.wide c.before.before.before.before.requires.0 c.before.if3.true in
+    let p = pick-16 8 c.before.before.before.before.args.w c.before.before.before.before.args.wide c.before.before.before.before.requires.0 c.before.if-pick-eq16.true in
     rows-so p.0 p.1 (half_is c.before.before.before.before) c.before.before.before.before.requires.1.0 c.before.before.before.before.requires.1.1.0
 
-same-length-3 : tie.Need-same-length-3
-same-length-3 c = c.before.along-8-8-8.auto.1.1.1.1.1.0
+same-length-3 : tie.Need-shape_of-r-then-pick-eq16
+same-length-3 c = c.before.along_8_8_8.auto.1.1.1.1.1.0
 
-returns-3 : tie.Need-returns-3
+returns-3 : tie.Need-returns-then-pick-eq16
 returns-3 c =
-    let p = pick-16 8 c.before.before.before.before.before.before.args.w c.before.before.before.before.before.before.args.wide c.before.before.before.before.before.before.requires.0 c.before.before.before.if3.true in
-    rowed-so 8 64 c.before.before.before.before.before.before.args.shift c.before.before.before.before.before.before.args.m.now p.0 p.1 (half_is c.before.before.before.before.before.before) c.before.along-8-8-8.ensures
+    let p = pick-16 8 c.before.before.before.before.before.before.args.w c.before.before.before.before.before.before.args.wide c.before.before.before.before.before.before.requires.0 c.before.before.before.if-pick-eq16.true in
+    rowed-so 8 64 c.before.before.before.before.before.before.args.shift c.before.before.before.before.before.before.args.m.now p.0 p.1 (half_is c.before.before.before.before.before.before) c.before.along_8_8_8.ensures
 
-along-16-4-8-requires : tie.Need-along-16-4-8-requires
+along-16-4-8-requires : tie.Need-along_16_4_8-requires
 along-16-4-8-requires c κs =
-    let p = pick-20 8 c.before.before.before.before.before.args.w c.before.before.before.before.before.args.wide c.before.before.before.before.before.requires.0 c.before.if4.true in
+    let p = pick-20 8 c.before.before.before.before.before.args.w c.before.before.before.before.before.args.wide c.before.before.before.before.before.requires.0 c.before.if-pick-eq20.true in
     rows-so p.0 p.1 (half_is c.before.before.before.before.before) c.before.before.before.before.before.requires.1.0 c.before.before.before.before.before.requires.1.1.0
 
-same-length-4 : tie.Need-same-length-4
-same-length-4 c = c.before.along-16-4-8.auto.1.1.1.1.1.0
+same-length-4 : tie.Need-shape_of-r-then-pick-eq20
+same-length-4 c = c.before.along_16_4_8.auto.1.1.1.1.1.0
 
-returns-4 : tie.Need-returns-4
+returns-4 : tie.Need-returns-then-pick-eq20
 returns-4 c =
-    let p = pick-20 8 c.before.before.before.before.before.before.before.args.w c.before.before.before.before.before.before.before.args.wide c.before.before.before.before.before.before.before.requires.0 c.before.before.before.if4.true in
-    rowed-so 8 64 c.before.before.before.before.before.before.before.args.shift c.before.before.before.before.before.before.before.args.m.now p.0 p.1 (half_is c.before.before.before.before.before.before.before) c.before.along-16-4-8.ensures
+    let p = pick-20 8 c.before.before.before.before.before.before.before.args.w c.before.before.before.before.before.before.before.args.wide c.before.before.before.before.before.before.before.requires.0 c.before.before.before.if-pick-eq20.true in
+    rowed-so 8 64 c.before.before.before.before.before.before.before.args.shift c.before.before.before.before.before.before.before.args.m.now p.0 p.1 (half_is c.before.before.before.before.before.before.before) c.before.along_16_4_8.ensures
 
-along-16-16-8-requires : tie.Need-along-16-16-8-requires
+along-16-16-8-requires : tie.Need-along_16_16_8-requires
 along-16-16-8-requires c κs =
-    let p = pick-32 8 c.before.before.before.before.before.before.args.w c.before.before.before.before.before.before.args.wide c.before.before.before.before.before.before.requires.0 c.before.if5.true in
+    let p = pick-32 8 c.before.before.before.before.before.before.args.w c.before.before.before.before.before.before.args.wide c.before.before.before.before.before.before.requires.0 c.before.if-pick-eq32.true in
     rows-so p.0 p.1 (half_is c.before.before.before.before.before.before) c.before.before.before.before.before.before.requires.1.0 c.before.before.before.before.before.before.requires.1.1.0
 
-same-length-5 : tie.Need-same-length-5
-same-length-5 c = c.before.along-16-16-8.auto.1.1.1.1.1.0
+same-length-5 : tie.Need-shape_of-r-then-pick-eq32
+same-length-5 c = c.before.along_16_16_8.auto.1.1.1.1.1.0
 
-returns-5 : tie.Need-returns-5
+returns-5 : tie.Need-returns-then-pick-eq32
 returns-5 c =
-    let p = pick-32 8 c.before.before.before.before.before.before.before.before.args.w c.before.before.before.before.before.before.before.before.args.wide c.before.before.before.before.before.before.before.before.requires.0 c.before.before.before.if5.true in
-    rowed-so 8 64 c.before.before.before.before.before.before.before.before.args.shift c.before.before.before.before.before.before.before.before.args.m.now p.0 p.1 (half_is c.before.before.before.before.before.before.before.before) c.before.along-16-16-8.ensures
+    let p = pick-32 8 c.before.before.before.before.before.before.before.before.args.w c.before.before.before.before.before.before.before.before.args.wide c.before.before.before.before.before.before.before.before.requires.0 c.before.before.before.if-pick-eq32.true in
+    rowed-so 8 64 c.before.before.before.before.before.before.before.before.args.shift c.before.before.before.before.before.before.before.before.args.m.now p.0 p.1 (half_is c.before.before.before.before.before.before.before.before) c.before.along_16_16_8.ensures
 
-along-32-8-8-requires : tie.Need-along-32-8-8-requires
+along-32-8-8-requires : tie.Need-along_32_8_8-requires
 along-32-8-8-requires c κs =
-    let p = pick-40 8 c.before.before.before.before.before.before.before.args.w c.before.before.before.before.before.before.before.args.wide c.before.before.before.before.before.before.before.requires.0 c.before.if6.true in
+    let p = pick-40 8 c.before.before.before.before.before.before.before.args.w c.before.before.before.before.before.before.before.args.wide c.before.before.before.before.before.before.before.requires.0 c.before.if-pick-eq40.true in
     rows-so p.0 p.1 (half_is c.before.before.before.before.before.before.before) c.before.before.before.before.before.before.before.requires.1.0 c.before.before.before.before.before.before.before.requires.1.1.0
 
-same-length-6 : tie.Need-same-length-6
-same-length-6 c = c.before.along-32-8-8.auto.1.1.1.1.1.0
+same-length-6 : tie.Need-shape_of-r-then-pick-eq40
+same-length-6 c = c.before.along_32_8_8.auto.1.1.1.1.1.0
 
-returns-6 : tie.Need-returns-6
+returns-6 : tie.Need-returns-then-pick-eq40
 returns-6 c =
-    let p = pick-40 8 c.before.before.before.before.before.before.before.before.before.args.w c.before.before.before.before.before.before.before.before.before.args.wide c.before.before.before.before.before.before.before.before.before.requires.0 c.before.before.before.if6.true in
-    rowed-so 8 64 c.before.before.before.before.before.before.before.before.before.args.shift c.before.before.before.before.before.before.before.before.before.args.m.now p.0 p.1 (half_is c.before.before.before.before.before.before.before.before.before) c.before.along-32-8-8.ensures
+    let p = pick-40 8 c.before.before.before.before.before.before.before.before.before.args.w c.before.before.before.before.before.before.before.before.before.args.wide c.before.before.before.before.before.before.before.before.before.requires.0 c.before.before.before.if-pick-eq40.true in
+    rowed-so 8 64 c.before.before.before.before.before.before.before.before.before.args.shift c.before.before.before.before.before.before.before.before.before.args.m.now p.0 p.1 (half_is c.before.before.before.before.before.before.before.before.before) c.before.along_32_8_8.ensures
 
-along-32-32-8-requires : tie.Need-along-32-32-8-requires
+along-32-32-8-requires : tie.Need-along_32_32_8-requires
 along-32-32-8-requires c κs =
-    let p = pick-64 8 c.before.before.before.before.before.before.before.args.w c.before.before.before.before.before.before.before.args.wide c.before.before.before.before.before.before.before.requires.0 (last-8 c.before.before.before.before.before.before.before.args.w c.before.before.before.before.before.before.before.args.wide c.before.before.before.before.before.before.before.requires.0 c.before.before.before.before.before.before.if1.false c.before.before.before.before.before.if2.false c.before.before.before.before.if3.false c.before.before.before.if4.false c.before.before.if5.false c.before.if6.false) in
+    let p = pick-64 8 c.before.before.before.before.before.before.before.args.w c.before.before.before.before.before.before.before.args.wide c.before.before.before.before.before.before.before.requires.0 (last-8 c.before.before.before.before.before.before.before.args.w c.before.before.before.before.before.before.before.args.wide c.before.before.before.before.before.before.before.requires.0 c.before.before.before.before.before.before.if-pick-eq8.false c.before.before.before.before.before.if-pick-eq12.false c.before.before.before.before.if-pick-eq16.false c.before.before.before.if-pick-eq20.false c.before.before.if-pick-eq32.false c.before.if-pick-eq40.false) in
     rows-so p.0 p.1 (half_is c.before.before.before.before.before.before.before) c.before.before.before.before.before.before.before.requires.1.0 c.before.before.before.before.before.before.before.requires.1.1.0
 
-same-length-7 : tie.Need-same-length-7
-same-length-7 c = c.before.along-32-32-8.auto.1.1.1.1.1.0
+same-length-7 : tie.Need-shape_of-r
+same-length-7 c = c.before.along_32_32_8.auto.1.1.1.1.1.0
 
-returns-7 : tie.Need-returns-7
+returns-7 : tie.Need-returns
 returns-7 c =
-    let p = pick-64 8 c.before.before.before.before.before.before.before.before.before.args.w c.before.before.before.before.before.before.before.before.before.args.wide c.before.before.before.before.before.before.before.before.before.requires.0 (last-8 c.before.before.before.before.before.before.before.before.before.args.w c.before.before.before.before.before.before.before.before.before.args.wide c.before.before.before.before.before.before.before.before.before.requires.0 c.before.before.before.before.before.before.before.before.if1.false c.before.before.before.before.before.before.before.if2.false c.before.before.before.before.before.before.if3.false c.before.before.before.before.before.if4.false c.before.before.before.before.if5.false c.before.before.before.if6.false) in
-    rowed-so 8 64 c.before.before.before.before.before.before.before.before.before.args.shift c.before.before.before.before.before.before.before.before.before.args.m.now p.0 p.1 (half_is c.before.before.before.before.before.before.before.before.before) c.before.along-32-32-8.ensures
+    let p = pick-64 8 c.before.before.before.before.before.before.before.before.before.args.w c.before.before.before.before.before.before.before.before.before.args.wide c.before.before.before.before.before.before.before.before.before.requires.0 (last-8 c.before.before.before.before.before.before.before.before.before.args.w c.before.before.before.before.before.before.before.before.before.args.wide c.before.before.before.before.before.before.before.before.before.requires.0 c.before.before.before.before.before.before.before.before.if-pick-eq8.false c.before.before.before.before.before.before.before.if-pick-eq12.false c.before.before.before.before.before.before.if-pick-eq16.false c.before.before.before.before.before.if-pick-eq20.false c.before.before.before.before.if-pick-eq32.false c.before.before.before.if-pick-eq40.false) in
+    rowed-so 8 64 c.before.before.before.before.before.before.before.before.before.args.shift c.before.before.before.before.before.before.before.before.before.args.m.now p.0 p.1 (half_is c.before.before.before.before.before.before.before.before.before) c.before.along_32_32_8.ensures
 
-pub first-along-8-spec : {M : Type 1} → statement M
-first-along-8-spec = tie.close (tie.spec add-pick along-4-4-8-requires same_length returns along-8-4-8-requires same-length-2 returns-2 along-8-8-8-requires same-length-3 returns-3 along-16-4-8-requires same-length-4 returns-4 along-16-16-8-requires same-length-5 returns-5 along-32-8-8-requires same-length-6 returns-6 along-32-32-8-requires same-length-7 returns-7)
+pub first_along_8_spec : {M : Type 1} → statement M
+first_along_8_spec = tie.close (tie.spec add-pick along-4-4-8-requires same_length returns along-8-4-8-requires same-length-2 returns-2 along-8-8-8-requires same-length-3 returns-3 along-16-4-8-requires same-length-4 returns-4 along-16-16-8-requires same-length-5 returns-5 along-32-8-8-requires same-length-6 returns-6 along-32-32-8-requires same-length-7 returns-7)

@@ -23,15 +23,15 @@ part-live-rows-start : tie.Need-slice_bounds-live_rows-start
 part-live-rows-start c = search rules
 
 part-live-rows-end : tie.Need-slice_bounds-live_rows-end
-part-live-rows-end c = omega (arith, small c.before.before)
+part-live-rows-end c = omega (arith, small c.before)
 
 live-rows-requires : tie.Need-live_rows-requires
 live-rows-requires c κs =
-    let s = c.before.before.before in
-    (s.requires.0, part-long s.args.w c.before.before.marks-seen.result (omega (arith, small s, c.before.before.marks-seen.ensures.long)) ∙ sym (mul-one s.args.w))
+    let s = c.before.before in
+    (s.requires.0, part-long s.args.w c.marks-seen.result (omega (arith, small s, c.marks-seen.ensures.long)) ∙ sym (mul-one s.args.w))
 
 returns : tie.Need-returns
-returns c = columns-live c.before.before.before.marks-seen.ensures c.live_rows.ensures
+returns c = columns-live c.marks-seen.ensures c.live_rows.ensures
 
 pub live_columns_spec : {M : Type 1} → statement M
 live_columns_spec = tie.close (tie.spec marks-requires sub-live-rows part-live-rows-start part-live-rows-end live-rows-requires returns)

@@ -14,7 +14,7 @@ no-header-requires c κs = search rules
 
 returns : tie.Need-returns-then-part-eq0
 unfolding digit
-returns c = rw (eq-eqb _ 0 (sym c.before.before.part_of-part.ensures ∙ c.before.if-part-eq0.true)) c.no_Header.ensures
+returns c = rw (eq-eqb _ 0 (sym c.before.before.part_of-part.ensures ∙ c.before.if-part-eq0.true)) c.no_header.ensures
 
 with-digit-requires : tie.Need-with_digit-width-requires
 with-digit-requires c κs = search rules

@@ -38,7 +38,7 @@ no-header-requires c κs = search rules
 
 returns-4 : tie.Need-returns
 unfolding plain
-returns-4 c = rw (ne_eqb _ 35 c.before.before.before.before.before.if-b-eq35.false, sym c.before.before.before.before.is_space.ensures ∙ c.before.before.before.if-is_space.false, sym c.before.before.is_digit.ensures ∙ c.before.if-is_digit.false) c.no_Header.ensures
+returns-4 c = rw (ne_eqb _ 35 c.before.before.before.before.before.if-b-eq35.false, sym c.before.before.before.before.is_space.ensures ∙ c.before.before.before.if-is_space.false, sym c.before.before.is_digit.ensures ∙ c.before.if-is_digit.false) c.no_header.ensures
 
 pub plain_spec : {M : Type 1} → statement M
 plain_spec =

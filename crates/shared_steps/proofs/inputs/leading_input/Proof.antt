@@ -22,8 +22,8 @@ stretch c =
 taken-requires : tie.Need-taken-own-requires
 taken-requires c κs = (c.requires.0, omega (arith, c.requires.1.0, c.requires.1.1.all))
 
-own : (c : tie.After-taken-own) → let s = c.before.args in Reads c.true.result (reading s.back s.n s.x.now s.g) 32768
-own c = reads 32768 c.true.ensures.0 c.true.ensures.1 (omega arith)
+own : (c : tie.After-taken-own) → let s = c.before.args in Reads c.taken-own.result (reading s.back s.n s.x.now s.g) 32768
+own c = reads 32768 c.taken-own.ensures.0 c.taken-own.ensures.1 (omega arith)
 
 rem-r : tie.Need-nonzero_rem-r
 rem-r c = omega (arith, c.before.requires.1.1.by-q.some)
@@ -35,7 +35,7 @@ returns : tie.Need-returns-then-r-q
 returns c =
     let s = c.before.before.args in
     let x = reading s.back s.n s.x.now in (
-      (own c.before).is ∙ sym (+ℤ_idr (x s.g)) ∙ ap (folded x) (sym (into-own s.p s.q s.g c.if1.true)),
+      (own c.before).is ∙ sym (+ℤ_idr (x s.g)) ∙ ap (folded x) (sym (into-own s.p s.q s.g c.if-r-q.true)),
       omega (arith, is-small (own c.before)),
     )
 
@@ -45,7 +45,7 @@ mul-taken c = let z = c.before.before.requires.1.1 in omega (arith, z.all, z.by-
 nearer-requires : tie.Need-nearer-requires
 nearer-requires c κs =
     let s = stretch c.before.before in
-    (below _ _ s.1 c.if1.false, s.0)
+    (below _ _ s.1 c.if-r-q.false, s.0)
   where
     below : (r q : ℕ) → r < q → (r + 1 ≡ q → ⊥) → r + 1 < q
     below r q h d = omega arith
@@ -70,8 +70,8 @@ taken-requires-2 : tie.Need-taken-last-requires
 taken-requires-2 c κs = let p = c.before.before.before.requires in (p.0, omega (arith, near c, p.1.1.all))
 
 last : (c : tie.After-taken-last) → let s = c.before.before.before.before.args in
-    Reads c.taken2.result (reading s.back s.n s.x.now (half s.p * s.q + (c.before.nearer.result - 1))) 32768
-last c = reads 32768 c.taken2.ensures.0 c.taken2.ensures.1 (omega arith)
+    Reads c.taken-last.result (reading s.back s.n s.x.now (half s.p * s.q + (c.before.nearer.result - 1))) 32768
+last c = reads 32768 c.taken-last.ensures.0 c.taken-last.ensures.1 (omega arith)
 
 div-sign : tie.Need-nonzero_div-g
 div-sign c = omega (arith, c.before.before.before.before.requires.1.1.by-q.some)
@@ -100,7 +100,7 @@ returns-2 c =
     let s = t.before.args in
     let x = reading s.back s.n s.x.now in
     let k = half s.p * s.q in
-    let r = reads-sum (own t) (changed c.before) c.two-inputs.ensures (omega arith) in (
+    let r = reads-sum (own t) (changed c.before) c.two_inputs.ensures (omega arith) in (
       r.is
           ∙ ap (λ (z : ℤ). x s.g +ℤ z)
           (ap (λ (j : ℕ). signed (less t.before) (x (k + (j - 1)))) c.before.before.before.nearer.ensures ∙ sym (lone-part (less t.before) x _))

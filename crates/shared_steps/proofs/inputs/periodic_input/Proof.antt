@@ -61,8 +61,8 @@ taken-requires-2 : tie.Need-taken-second-requires invariant-loop decreases-loop
 taken-requires-2 c κs = (c.before.before.before.requires.0, omega (arith, inside c.before, room c.before.before.before))
 
 first : (c : tie.After-taken-first invariant-loop decreases-loop) → let s = c.before.before.before in
-    Reads c.true.result (X s (c.before.before.loop-k.k * s.args.q + s.args.g)) 32768
-first c = reads 32768 c.true.ensures.0 c.true.ensures.1 (omega arith)
+    Reads c.taken-first.result (X s (c.before.before.loop-k.k * s.args.q + s.args.g)) 32768
+first c = reads 32768 c.taken-first.ensures.0 c.taken-first.ensures.1 (omega arith)
 
 second : (c : tie.After-taken-second invariant-loop decreases-loop) → let s = c.before.before.before.before in
     Reads c.taken-second.result (X s (c.before.before.before.loop-k.k * s.args.q + s.args.q - 2 - s.args.g)) 32768

@@ -12,10 +12,10 @@ sub-result : tie.Need-overflow_sub-result
 sub-result c = search rules
 
 returns : tie.Need-returns-then-w-q
-returns c = let s = c.before.args in rw (lt-ltb (s.w + s.w) s.q c.if1.true)
+returns c = let s = c.before.args in rw (lt-ltb (s.w + s.w) s.q c.if-w-q.true)
 
 returns-2 : tie.Need-returns-else-w-q
-returns-2 c = let s = c.before.args in rw (le-ltb (s.w + s.w) s.q c.if1.false)
+returns-2 c = let s = c.before.args in rw (le-ltb (s.w + s.w) s.q c.if-w-q.false)
 
 pub nearer_spec : {M : Type 1} → statement M
 nearer_spec = tie.close (tie.spec add-if1 sub-result returns returns-2)

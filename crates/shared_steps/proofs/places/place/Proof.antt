@@ -13,10 +13,10 @@ sub-result-2 : tie.Need-overflow_sub-result-then-back
 sub-result-2 c = search rules
 
 returns : tie.Need-returns-then-back
-returns c = let s = c.before.args in sym (ap (λ (b : Bool). turned b s.n s.k) c.if1.true)
+returns c = let s = c.before.args in sym (ap (λ (b : Bool). turned b s.n s.k) c.if-back.true)
 
 returns-2 : tie.Need-returns-else-back
-returns-2 c = let s = c.before.args in sym (ap (λ (b : Bool). turned b s.n s.k) c.if1.false)
+returns-2 c = let s = c.before.args in sym (ap (λ (b : Bool). turned b s.n s.k) c.if-back.false)
 
 pub place_spec : {M : Type 1} → statement M
 place_spec = tie.close (tie.spec sub-result sub-result-2 returns returns-2)

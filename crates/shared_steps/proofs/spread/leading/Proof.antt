@@ -27,7 +27,7 @@ past c = let s = c.args in s.k - half s.p * s.q
 
 -- two of the first q sums
 left : (c : tie.Else-k-m) → past c.before < half c.before.args.q
-left c = omega (arith, c.if1.false, c.before.requires.0, c.before.requires.1.0.all)
+left c = omega (arith, c.if-k-m.false, c.before.requires.0, c.before.requires.1.0.all)
 
 near : (c : tie.Else-k-m) → past c.before < half c.before.args.p * c.before.args.q
 near c = let z = c.before.requires.1.0 in omega (arith, left c, z.whole, z.by-q.odd)
@@ -39,10 +39,10 @@ mul-m : tie.Need-overflow_mul-m
 mul-m c = omega (arith, bound c)
 
 mul-result : tie.Need-offset_bounds-a-k
-mul-result c = omega (arith, c.if1.true, bound c.before)
+mul-result c = omega (arith, c.if-k-m.true, bound c.before)
 
 shared-slice-copy-out-result : tie.Need-bounds-a-k
-shared-slice-copy-out-result c = omega (arith, c.if1.true, c.before.requires.1.1.long)
+shared-slice-copy-out-result c = omega (arith, c.if-k-m.true, c.before.requires.1.1.long)
 
 returns : tie.Need-returns-then-k-m
 returns c =
@@ -75,10 +75,10 @@ plus-requires c κs =
     (safe (number I.before _ (near I)) (omega arith), safe (number I.before _ (far I)) (omega arith))
 
 first : (c : tie.After-plus-two) → let s = c.before.before.before.before in
-    Reads c.plus.result-1 (sums s (past s) +ℤ sums s (s.args.q - 2 - past s)) 188743680
+    Reads c.plus-two.result-1 (sums s (past s) +ℤ sums s (s.args.q - 2 - past s)) 188743680
 first c =
     let I = c.before.before.before in
-    reads-sum (number I.before _ (near I)) (number I.before _ (far I)) c.plus.ensures (omega arith)
+    reads-sum (number I.before _ (near I)) (number I.before _ (far I)) c.plus-two.ensures (omega arith)
 
 returns-2 : tie.Need-returns-then-p-eq3
 returns-2 c =
@@ -86,7 +86,7 @@ returns-2 c =
     let s = I.before in
     let r = first c.before in (
       r.is ∙ ap (λ (z : ℤ). sums s (past s) +ℤ z) (sym (+ℤ_idr (sums s (s.args.q - 2 - past s))))
-          ∙ ap (folded (sums s)) (sym (leading_two s.args.p s.args.q s.args.k I.if-k-m.false c.if2.true)),
+          ∙ ap (folded (sums s)) (sym (leading_two s.args.p s.args.q s.args.k I.if-k-m.false c.if-p-eq3.true)),
       omega (arith, is-small r),
     )
 
@@ -95,7 +95,7 @@ negated-requires c κs = safe (first c.before) (omega arith)
 
 -- two of the next q, where p is 5
 double : (c : tie.Else-p-eq3) → let s = c.before.before.before.before.before in half s.args.p * s.args.q ≡ 2 * s.args.q
-double c = let z = c.before.before.before.before.before.requires.1.0 in z.wide (z.five c.if2.false)
+double c = let z = c.before.before.before.before.before.requires.1.0 in z.wide (z.five c.if-p-eq3.false)
 
 near-2 : (c : tie.Else-p-eq3) → let s = c.before.before.before.before.before in s.args.q + past s < half s.args.p * s.args.q
 near-2 c =
@@ -140,11 +140,11 @@ plus-requires-2 c κs =
     (safe (number s _ (near-2 D)) (omega arith), safe (number s _ (far-2 D)) (omega arith))
 
 second : (c : tie.After-plus) → let s = c.before.before.before.before.before.before.before.before.before in
-    Reads c.plus2.result-1 (sums s (s.args.q + past s) +ℤ sums s (2 * s.args.q - 2 - past s)) 188743680
+    Reads c.plus.result-1 (sums s (s.args.q + past s) +ℤ sums s (2 * s.args.q - 2 - past s)) 188743680
 second c =
     let D = c.before.before.before.before in
     let s = D.before.before.before.before.before in
-    reads-sum (number s _ (near-2 D)) (number s _ (far-2 D)) c.plus2.ensures (omega arith)
+    reads-sum (number s _ (near-2 D)) (number s _ (far-2 D)) c.plus.ensures (omega arith)
 
 changed : (c : tie.After-negated) → let s = c.before.before.before.before.before.before in
     Reads c.negated.result-1 (neg_ℤ (sums s (past s) +ℤ sums s (s.args.q - 2 - past s))) 188743680
@@ -157,7 +157,7 @@ returns-3 : tie.Need-returns
 returns-3 c =
     let I = c.before.before.before.before.before.before.before.before.before in
     let s = I.before in
-    let r = reads-sum (changed c.before.before.before.before) (second c.before) c.plus3.ensures (omega arith) in
+    let r = reads-sum (changed c.before.before.before.before) (second c.before) c.plus-2.ensures (omega arith) in
     let g = past s in
     let q = s.args.q in (
       r.is ∙ four (sums s g) (sums s (q - 2 - g)) (sums s (q + g)) (sums s (2 * q - 2 - g))

@@ -18,11 +18,11 @@ use Rattle.step_run.proofs.step.one.Statement.{statement}
 use Rattle.step_run.proofs.step.one.Tie as tie
 
 -- what the calls before the tests gave
-two_is : (c : tie.After-reads_two-two) → c.reads_two.result ≡ reads_two c.before.before.args.o
-two_is c = let s = c.before.before in c.reads_two.ensures ∙ ap reads_two (to_z-of_z w32 s.args.o s.ranges.o)
+two_is : (c : tie.After-reads_two-two) → c.reads_two-two.result ≡ reads_two c.before.before.args.o
+two_is c = let s = c.before.before in c.reads_two-two.ensures ∙ ap reads_two (to_z-of_z w32 s.args.o s.ranges.o)
 
-second_is : (c : tie.After-second-b) → let s = c.before.before.before.args in c.second.result ≡ cond (reads_two s.o) (cell_of s.d) s.a
-second_is c = let s = c.before.before.before in c.second.ensures ∙ (λ i. cond (two_is c.before i) (cell_of (to_z-of_z w32 s.args.d s.ranges.d i)) s.args.a)
+second_is : (c : tie.After-second-b) → let s = c.before.before.before.args in c.second-b.result ≡ cond (reads_two s.o) (cell_of s.d) s.a
+second_is c = let s = c.before.before.before in c.second-b.ensures ∙ (λ i. cond (two_is c.before i) (cell_of (to_z-of_z w32 s.args.d s.ranges.d i)) s.args.a)
 
 inside_is : (c : tie.After-inside) → let s = c.before.before.before.before.args in
     c.inside.result ≡ (ltb s.t s.n && (ltb s.a s.n && ltb (cond (reads_two s.o) (cell_of s.d) s.a) s.n))
@@ -30,7 +30,7 @@ inside_is c = let s = c.before.before.before.before.args in c.inside.ensures ∙
 
 -- the three cells lie inside
 cells_in : (c : tie.Then-inside) → let s = c.before.before.before.before.before.args in (s.t < s.n) × ((s.a < s.n) × (c.before.before.second-b.result < s.n))
-cells_in c = let s = c.before.before.before.before.before.args in three s.t s.a c.before.before.second-b.result s.n (sym c.before.inside.ensures ∙ c.if1.true)
+cells_in c = let s = c.before.before.before.before.before.args in three s.t s.a c.before.before.second-b.result s.n (sym c.before.inside.ensures ∙ c.if-inside.true)
 
 reads-two-requires : tie.Need-reads_two-two-requires
 reads-two-requires c κs = search rules
@@ -67,7 +67,7 @@ same-length-2 c = search rules
 
 returns : tie.Need-returns-then-known
 returns c =
-    let q = c.before.before.before.before.before.before.before.before.before.before.before.before.before.before.before.before.before.before in
+    let q = c.before.before.before.before.before.before.before.before.before.before.before.before.before.before.before.before in
     let s = q.args in
     let e = sym (inside_is c.before.before.before.before.before.before.before.before.before.before.before.before.before.before) ∙ c.before.before.before.before.before.before.before.before.before.before.before.before.before.if-inside.true in
     let m = second_is c.before.before.before.before.before.before.before.before.before.before.before.before.before.before.before in
@@ -84,16 +84,16 @@ same-length-3 c = search rules
 
 returns-2 : tie.Need-returns-then-inside
 returns-2 c =
-    let s = c.before.before.before.before.before.before.before.before.args in
+    let s = c.before.before.before.before.before.before.before.args in
     let e = sym (inside_is c.before.before.before.before) ∙ c.before.before.before.if-inside.true in
     let f : get_or s.written.now s.a false && get_or s.written.now (cond (reads_two s.o) (cell_of s.d) s.a) false ≡ false =
-    ap (λ m. get_or s.written.now s.a false && get_or s.written.now m false) (sym (second_is c.before.before.before.before.before)) ∙ sym c.before.known.ensures ∙ c.if2.false in
+    ap (λ m. get_or s.written.now s.a false && get_or s.written.now m false) (sym (second_is c.before.before.before.before.before)) ∙ sym c.before.known.ensures ∙ c.if-known.false in
     λ k. sym (step-parts s.o s.t s.a s.d s.n s.values.now s.written.now k ∙ rw (e, f))
 
 returns-3 : tie.Need-returns
 returns-3 c =
     let s = c.before.before.before.before.before.args in
-    let e = sym (inside_is c.before) ∙ c.if1.false in
+    let e = sym (inside_is c.before) ∙ c.if-inside.false in
     λ k. sym (step-parts s.o s.t s.a s.d s.n s.values.now s.written.now k ∙ rw e)
 
 pub one_spec : {M : Type 1} → statement M

@@ -12,7 +12,7 @@ fits-requires : tie.Need-fits-requires
 fits-requires c κs = search rules
 
 narrow-requires : tie.Need-narrow-requires
-narrow-requires c κs = sym c.before.fits2.ensures ∙ c.if-fits.true
+narrow-requires c κs = sym c.before.fits.ensures ∙ c.if-fits.true
 
 mul-t7 : tie.Need-offset_bounds-values-t
 mul-t7 c = search rules
@@ -33,7 +33,7 @@ returns : tie.Need-returns-then-fits
 returns c =
     let s = c.before.before.before.before in
     let z = s.args.z in
-    let e : fits32 z ≡ true = ap fits32 (sym (to_z-of_z w64 z s.ranges.z)) ∙ sym c.before.before.fits2.ensures ∙ c.before.if-fits.true in
+    let e : fits32 z ≡ true = ap fits32 (sym (to_z-of_z w64 z s.ranges.z)) ∙ sym c.before.before.fits.ensures ∙ c.before.if-fits.true in
     let y = to_z-of_z w32 c.narrow.result (search rules) ∙ c.narrow.ensures ∙ to_z-of_z w64 z s.ranges.z in
     λ k. rw (y, e)
 
@@ -41,7 +41,7 @@ returns-2 : tie.Need-returns
 returns-2 c =
     let s = c.before.before.before in
     let z = s.args.z in
-    let e : fits32 z ≡ false = ap fits32 (sym (to_z-of_z w64 z s.ranges.z)) ∙ sym c.before.fits2.ensures ∙ c.if-fits.false in
+    let e : fits32 z ≡ false = ap fits32 (sym (to_z-of_z w64 z s.ranges.z)) ∙ sym c.before.fits.ensures ∙ c.if-fits.false in
     λ k. rw e
 
 pub store_spec : {M : Type 1} → statement M

@@ -11,48 +11,48 @@ once-on l k e = once-next l k ∙ rw (eq-eqb (times k l) 1 e)
 once-off : (l : List ℕ) (k : ℕ) → (times k l ≡ 1 → ⊥) → once_to (k + 1) l ≡ false
 once-off l k e = once-next l k ∙ rw (ne_eqb (times k l) 1 e)
 
-abbrev invariant-loop : tie.invariant-loop
+abbrev invariant-loop : tie.invariant-loop-k
 invariant-loop order n once₀ k₀ once k = (k ≤ n) × (once ≡ once_to k order)
 
-abbrev decreases-loop : tie.decreases-loop
+abbrev decreases-loop : tie.decreases-loop-k
 decreases-loop order n once₀ k₀ once k = n - k
 
-returns : tie.Need-returns invariant-loop decreases-loop
+returns : tie.Need-returns-then-order-n invariant-loop decreases-loop
 unfolding is_order
-returns c = rw (ne_eqb (length c.before.before.args.order.now) c.before.before.args.n c.if1.true)
+returns c = rw (ne_eqb (length c.before.before.args.order.now) c.before.before.args.n c.if-order-n.true)
 
-loop-holds : tie.Need-loop-init invariant-loop decreases-loop
+loop-holds : tie.Need-loop-k-init invariant-loop decreases-loop
 loop-holds c = (search rules, sym (once-none _))
 
-times-of-requires : tie.Need-times-of-requires invariant-loop decreases-loop
+times-of-requires : tie.Need-times_of-requires invariant-loop decreases-loop
 times-of-requires c κs = search rules
 
-add-k : tie.Need-overflow-add-k invariant-loop decreases-loop
+add-k : tie.Need-overflow_add-k invariant-loop decreases-loop
 add-k c = search rules
 
-loop-less : tie.Need-loop-smaller invariant-loop decreases-loop
+loop-less : tie.Need-loop-k-smaller invariant-loop decreases-loop
 loop-less c = search rules
 
-loop-again : tie.Need-loop-preserved invariant-loop decreases-loop
+loop-again : tie.Need-loop-k-preserved invariant-loop decreases-loop
 loop-again c =
-    let L = c.before.before.before.loop in
+    let L = c.before.before.before.loop-k in
     let s = c.before.before.before.before.before.before.args in (
       search rules,
       ⊎_elim
-          (λ w. w.1 ∙ sym (once-off s.order.now L.k (λ e. w.0.taken (c.before.times-of.ensures ∙ e))))
-          (λ w. w.1 ∙ L.invariant.1 ∙ sym (once-on s.order.now L.k (sym c.before.times-of.ensures ∙ w.0.left)))
-          c.if2.branch,
+          (λ w. w.1 ∙ sym (once-off s.order.now L.k (λ e. w.0.true (c.before.times_of.ensures ∙ e))))
+          (λ w. w.1 ∙ L.invariant.1 ∙ sym (once-on s.order.now L.k (sym c.before.times_of.ensures ∙ w.0.false)))
+          c.if-times_of-ne1.branch,
     )
 
-returns-2 : tie.Need-returns-2 invariant-loop decreases-loop
+returns-2 : tie.Need-returns invariant-loop decreases-loop
 unfolding is_order
 returns-2 c =
-    let L = c.before.loop in
+    let L = c.before.loop-k in
     let s = c.before.before.before.before.args in
-    L.invariant.1 ∙ ap (λ (m : ℕ). once_to m s.order.now) (le_antisymm L.invariant.0 c.loop-test.false) ∙ sym (rw (eq-eqb (length s.order.now) s.n c.before.before.if1.false))
+    L.invariant.1 ∙ ap (λ (m : ℕ). once_to m s.order.now) (le_antisymm L.invariant.0 c.loop-k-test.false) ∙ sym (rw (eq-eqb (length s.order.now) s.n c.before.before.if-order-n.false))
 
-pub is-order-spec : {M : Type 1} → statement M
-is-order-spec =
+pub is_order_spec : {M : Type 1} → statement M
+is_order_spec =
     tie.close
     (tie.spec
     invariant-loop

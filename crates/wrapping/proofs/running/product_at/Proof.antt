@@ -8,28 +8,28 @@ use Rattle.wrapping.specs.Wrapped.{wrap}
 use Rattle.wrapping.proofs.running.product_at.Statement.{statement}
 use Rattle.wrapping.proofs.running.product_at.Tie as tie
 
-mul-product : tie.Need-overflow-mul-product
+mul-product : tie.Need-overflow_mul-j
 mul-product c = search rules
 
-mul-product-2 : tie.Need-overflow-mul-product-2
+mul-product-2 : tie.Need-overflow_mul-i
 mul-product-2 c = search rules
 
-add-product : tie.Need-overflow-add-product
+add-product : tie.Need-overflow_add-i
 add-product c = search rules
 
-add-product-2 : tie.Need-overflow-add-product-2
+add-product-2 : tie.Need-overflow_add-j
 add-product-2 c = search rules
 
-mul-product-3 : tie.Need-overflow-mul-product-3
+mul-product-3 : tie.Need-offset_bounds-t-j
 mul-product-3 c = search rules
 
-shared-slice-copy-out-product : tie.Need-shared-slice-copy-out-product
+shared-slice-copy-out-product : tie.Need-bounds-t-j
 shared-slice-copy-out-product c = search rules
 
-mul-product-4 : tie.Need-overflow-mul-product-4
+mul-product-4 : tie.Need-offset_bounds-x-i
 mul-product-4 c = search rules
 
-shared-slice-copy-out-product-2 : tie.Need-shared-slice-copy-out-product-2
+shared-slice-copy-out-product-2 : tie.Need-bounds-x-i
 shared-slice-copy-out-product-2 c = search rules
 
 product-requires : tie.Need-product-requires
@@ -40,12 +40,12 @@ returns c =
     let S = c.before.before.before in
     let w = at S.args.t.now (2 * S.args.j + spot S.args.apart S.args.i) in
     let v = at S.args.x.now S.args.i in (
-      c.product.ensures ∙ (λ s. wrap (to_z-of_z w16 w (record { sfits = c.before.before.product-arg.given }) s *ℤ to_z-of_z w16 v (record { sfits = c.before.product-arg2.given }) s)),
-      product-size {x = w} {y = v} (record { sfits = c.before.before.product-arg.given }) (record { sfits = c.before.product-arg2.given }) (inl S.requires.1.1),
+      c.product.ensures ∙ (λ s. wrap (to_z-of_z w16 w (record { sfits = c.before.before.product-arg-1.given }) s *ℤ to_z-of_z w16 v (record { sfits = c.before.product-arg-2-1.given }) s)),
+      product-size {x = w} {y = v} (record { sfits = c.before.before.product-arg-1.given }) (record { sfits = c.before.product-arg-2-1.given }) (inl S.requires.1.1),
     )
 
-pub product-at-spec : {M : Type 1} → statement M
-product-at-spec =
+pub product_at_spec : {M : Type 1} → statement M
+product_at_spec =
     tie.close
     (tie.spec
     mul-product

@@ -11,13 +11,13 @@ w c = cast w32 (arg {w = w16} c.ranges.w) tt
 abbrev v : tie.Start → MV w32
 v c = cast w32 (arg {w = w16} c.ranges.v) tt
 
-cast-bits : tie.Need-overflow-cast-bits
+cast-bits : tie.Need-overflow_cast-w
 cast-bits c = cast_fits w32 (arg {w = w16} c.ranges.w) tt
 
-cast-bits-2 : tie.Need-overflow-cast-bits-2
+cast-bits-2 : tie.Need-overflow_cast-v
 cast-bits-2 c = cast_fits w32 (arg {w = w16} c.ranges.v) tt
 
-mul-bits : tie.Need-overflow-mul-bits
+mul-bits : tie.Need-overflow_mul-w
 mul-bits c = mul-fits (w c) (v c) tt
 
 bits-requires : tie.Need-bits-requires
@@ -26,5 +26,5 @@ bits-requires c κs = tt
 returns : tie.Need-returns
 returns c = c.bits.ensures ∙ ap wrap (val (mul (w c.before) (v c.before) tt))
 
-pub product-spec : {M : Type 1} → statement M
-product-spec = tie.close (tie.spec cast-bits cast-bits-2 mul-bits bits-requires returns)
+pub product_spec : {M : Type 1} → statement M
+product_spec = tie.close (tie.spec cast-bits cast-bits-2 mul-bits bits-requires returns)
