@@ -25,7 +25,7 @@ here : (c : tie.Start invariant-loop decreases-loop) → Place c.args.kind c.arg
 here c = place c.args.kind c.args.n c.args.j c.args.k c.requires
 
 -- the sum so far, and the two weights of row i
-sofar : (c : tie.In-loop-i invariant-loop decreases-loop) → let s = c.before.before.args in to_z w32 c.before.loop-i.sum ≡ products s.kind s.n s.j s.k c.before.loop-i.i
+sofar : (c : tie.In-loop-i invariant-loop decreases-loop) → let s = c.before.before.args in to_z w32 c.before.loop-i.sum-bits ≡ products s.kind s.n s.j s.k c.before.loop-i.i
 sofar c =
     let s = c.before.before.args in
     reads s.kind s.n s.j s.k (here c.before.before).size c.before.loop-i.invariant.1 (omega (arith, (here c.before.before).few))
@@ -61,7 +61,7 @@ mac-requires c κs =
     let L = c.before.before.before in
     let s = L.before.args in
     let light = weight_size s.kind s.n (even-places s.n (here L.before).size) L.loop-i.i in (
-      subst (λ (z : ℤ). nat_abs z ≤ 259200) (sym (sofar c.before.before)) (omega (arith, (here L.before).few, c.before.before.loop-i-test.true, products-in s.kind s.n s.j s.k (here L.before).size L.loop.i)),
+      subst (λ (z : ℤ). nat_abs z ≤ 259200) (sym (sofar c.before.before)) (omega (arith, (here L.before).few, c.before.before.loop-i-test.true, products-in s.kind s.n s.j s.k (here L.before).size L.loop-i.i)),
       (
         subst (λ (z : ℤ). nat_abs z ≤ 90) (sym (first-weight c.before)) (light s.j),
         subst (λ (z : ℤ). nat_abs z ≤ 90) (sym (second-weight c)) (light s.k),
@@ -81,7 +81,7 @@ loop-again c =
       omega (arith, c.before.before.before.loop-i-test.true),
       ap (of_z w32) (c.mac-sum.ensures
           ∙ (λ t. sofar c.before.before.before t +ℤ first-weight c.before.before t *ℤ second-weight c.before t)
-          ∙ sym (products-next s.kind s.n s.j s.k L.loop.i)),
+          ∙ sym (products-next s.kind s.n s.j s.k L.loop-i.i)),
     )
 
 returns : tie.Need-returns invariant-loop decreases-loop

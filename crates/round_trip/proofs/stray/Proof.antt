@@ -23,7 +23,7 @@ decreases-loop kind n j total₀ k₀ total k = n - k
 
 -- a column that there is
 there : (c : tie.Else-not-is_column invariant-loop decreases-loop) → let s = c.before.before.args in is_column s.kind s.n s.j ≡ true
-there c = sym c.before.is_column.ensures ∙ not-false c.before.is_column.result c.if-not-is_column.false
+there c = sym c.before.is_column.ensures ∙ c.if-not-is_column.false
 
 size : (c : tie.Else-not-is_column invariant-loop decreases-loop) → is_size c.before.before.args.n ≡ true
 size c = let s = c.before.before.args in column-size s.kind s.n s.j (there c)
@@ -32,7 +32,7 @@ is-column-requires : tie.Need-is_column-requires invariant-loop decreases-loop
 is-column-requires c κs = search rules
 
 returns : tie.Need-returns-then-not-is_column invariant-loop decreases-loop
-returns c = rw (← c.before.is_column.ensures, not-true c.before.is_column.result c.if-not-is_column.true)
+returns c = rw (← c.before.is_column.ensures, c.if-not-is_column.true)
 
 loop-holds : tie.Need-loop-k-init invariant-loop decreases-loop
 unfolding sumℕ
