@@ -1,6 +1,6 @@
 -- `is_place` meets its contract: a test for each part of the conjunction. Assumes nothing.
 use borrow.Author.Rules.{rules}
-use borrow.Author.Tests.{not-true, not-false, lt-ltb, le-ltb}
+use borrow.Author.Tests.{lt-ltb, le-ltb}
 use Rattle.line.proofs.is_place.Statement.{statement}
 use Rattle.line.proofs.is_place.Tie as tie
 

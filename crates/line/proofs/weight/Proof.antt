@@ -3,7 +3,6 @@ use borrow.Author.Rules.{rules}
 use mathlib.Core.Path.{sym, ◌∙◌}
 use mir.Syntax.{w32}
 use mir.ValLaws.{to_z-of_z}
-use borrow.Author.Tests.{not-true, not-false}
 use Rattle.line.proofs.Lent.{place}
 use Rattle.line.proofs.weight.Statement.{statement}
 use Rattle.line.proofs.weight.Tie as tie

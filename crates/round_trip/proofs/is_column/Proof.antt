@@ -1,6 +1,5 @@
 -- `is_column` meets its contract: a test for each part of the conjunction. Assumes nothing.
 use borrow.Author.Rules.{rules}
-use borrow.Author.Tests.{not-true, not-false}
 use Rattle.round_trip.proofs.is_column.Statement.{statement}
 use Rattle.round_trip.proofs.is_column.Tie as tie
 
