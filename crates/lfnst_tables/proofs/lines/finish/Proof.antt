@@ -81,7 +81,7 @@ loop-again c =
       omega arith,
       wrote_at _ _ _ (omega arith) refl (omega (arith, s.requires.0.room, I.loop-j-test.true)) L.loop-j.invariant.1
           (to_z-of_z w32 c.clipped.result (search rules) ∙ c.clipped.ensures
-          ∙ ap (clip (range_of s.args.reach)) ((cast_v (arg (short S)) (lit< tt)).val ∙ S.round.ensures ∙ ap rounded (read S.before))),
+          ∙ ap (clip (range_of s.args.reach)) ((cast_v (arg (short S)) {w' = w64} (lit< tt)).val ∙ S.round.ensures ∙ ap rounded (read S.before))),
     )
 
 same_length : tie.Need-shape_of-v invariant-loop decreases-loop
