@@ -49,8 +49,8 @@ loop-again c = (
       let told : beyond (range_of 15) (at n L.loop-k.k) ≡ E.is_beyond.result =
       sym (E.is_beyond.ensures ∙ ap (beyond (range_of 15)) (to_z-of_z w32 (at n L.loop-k.k) (record { sfits = E.before.is_beyond-arg-1.given }))) in
       ⊎_elim
-      (λ t. absurd (true≢false (sym t.1 ∙ f)))
-      (λ t. below_more (λ i. beyond (range_of 15) (at n i) ≡ false) L.loop-k.k (L.loop-k.invariant.1 (sym t.1 ∙ f)) (told ∙ t.0.false))
+      (λ t. absurd (true≢false (sym t.found-is ∙ f)))
+      (λ t. below_more (λ i. beyond (range_of 15) (at n i) ≡ false) L.loop-k.k (L.loop-k.invariant.1 (sym t.found-is ∙ f)) (told ∙ t.if-is_beyond.false))
       c.if-is_beyond.branch-raw,
 )
 

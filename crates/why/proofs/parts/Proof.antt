@@ -94,15 +94,15 @@ part-later-end c = simp length-append (omega (arith, ap length c.widen.ensures.0
 
 later-requires : tie.Need-later-requires
 later-requires c κs =
-    let W = c.before.before.before in
+    let W = c.before.before in
     let E = W.before.before.before in
-    subst (Passed false (s W.before.before).args.shape) (sym (part_same (length (l (s W.before.before))) _ _ (ap length W.widen.ensures.0) ∙ W.widen.ensures.0)) (taken E)
+    subst (Passed false (s E).args.shape) (sym (part_same (length (l (s E))) _ _ (ap length W.widen.ensures.0) ∙ W.widen.ensures.0)) (taken E)
 
 returns-2 : tie.Need-returns
 returns-2 c =
-    let W = c.before.before.before.before in
+    let W = c.before.before.before in
     let E = W.before.before.before in
-    subst (λ (m : List ℤ). c.later.result ≡ later W.before.before m) (part_same (length (l (s W.before.before))) _ _ (ap length W.widen.ensures.0) ∙ W.widen.ensures.0) c.later.ensures
+    subst (λ (m : List ℤ). c.later.result ≡ later E m) (part_same (length (l (s E))) _ _ (ap length W.widen.ensures.0) ∙ W.widen.ensures.0) c.later.ensures
     ∙ sym (past E) ∙ why-off (s E).args.shape (l (s E)) W.widen.ensures.1 (s E).args.place
 
 pub parts_spec : {M : Type 1} → statement M
