@@ -9,6 +9,10 @@
 #                      that is missing or older than its sources or the kit; what the kit says goes to standard output, and the last
 #                      line of its check to target/staticlib/check
 #   build_program NAME the same of a program, which is copied to target/bin/NAME
+#   build_library NAME has the kit prove and build a library and those below it, each to crates/CRATE/out/rlib
+#   find_rattle NAME.. sets the words rattle and over, which call the kit's checker on a crate over these libraries, which build_library
+#                      built, and toolchain, by which it also compiles
+# What a plain `rt ci` proved is taken: `rt lib` would prove those libraries once more. `.ci/run` has target/proved say when that began.
 
 # a source that is newer than a file, if there is one; crates/NAME/out is the kit's
 newer_source() { # FILE
@@ -29,10 +33,61 @@ archive_is_current() {
 # by the mark that says when its proof began
 program_is_current() { [ -x "target/bin/$1" ] && [ -e "target/blocks/$1" ] && [ -z "$(newer_source "target/blocks/$1")" ]; } # NAME
 
+# the crates that some rest on, and these
+rests_of() { # NAMES..
+    awk -v wanted="$*" '
+        { sub(/#.*/, "") }
+        /:/ { name = $1; sub(/:.*/, "", name); sub(/[^:]*:/, ""); rests[name] = $0 }
+        function visit(name, words, n, k) {
+            if (!(name in rests) || seen[name]++) return
+            n = split(rests[name], words, " ")
+            for (k = 1; k <= n; k++) visit(words[k])
+            print name
+        }
+        END { n = split(wanted, first, " "); for (k = 1; k <= n; k++) visit(first[k]) }' crates.txt
+}
+
+# whether libraries stand as `rt ci` left them, and nothing has changed since; those of other commands have a stamp
+are_of_gate() { # NAMES..
+    local name
+    [ -e target/proved ] && [ -z "$(newer_source target/proved)" ] || return
+    for name; do [ -e "crates/$name/out/rlib/$name.rlib" ] && [ ! -e "crates/$name/out/rlib/stamp" ] || return; done
+}
+
+build_library() { # NAME
+    # shellcheck disable=SC2046
+    are_of_gate $(rests_of "$1") || (cd "crates/$1" && flock ../../crates.txt rt lib 2>&1)
+}
+
+find_rattle() { # NAMES..
+    local kit name
+    kit=$(dirname "$(dirname "$(readlink -f "$(command -v rt)")")")
+    rattle=("$kit/bin/rattle")
+    over=(--extern "std=$kit/rlibs/std.rlib" -L "dependency=$kit/rlibs" --antt-project "$kit/rattle/logic/antt-project.json" --logic-built "$kit/logic_built")
+    for name; do over+=(--extern "$name=$PWD/crates/$name/out/rlib/$name.rlib"); done
+    for name in $(rests_of "$@"); do over+=(-L "dependency=$PWD/crates/$name/out/rlib"); done
+    over+=(--jobs "$(nproc)")
+    toolchain=(--toolchain "$kit/toolchain")
+}
+
+# The crate of the exports alone is proved over what `rt ci` left; else all by `rt lib`.
+prove_archive() {
+    local below rattle over toolchain
+    below=$(rests_of hoengtila_c | grep -vx hoengtila_c)
+    # shellcheck disable=SC2086
+    if are_of_gate $below; then
+        mkdir -p crates/hoengtila_c/out
+        find_rattle $(sed -n 's/^hoengtila_c staticlib://p' crates.txt)
+        (cd crates/hoengtila_c && "${rattle[@]}" build --crate-name hoengtila_c src/lib.rt "${over[@]}" "${toolchain[@]}" --crate-type staticlib --backend llvm -o out/libhoengtila_c.a)
+    else
+        (cd crates/hoengtila_c && rt lib)
+    fi
+}
+
 make_archive() {
     mkdir -p target/staticlib
     : >target/staticlib/began
-    (cd crates/hoengtila_c && rt lib 2>&1) | tee target/staticlib/said || return
+    prove_archive 2>&1 | tee target/staticlib/said || return
     keep_archive
 }
 
