@@ -281,12 +281,12 @@ fn stored_list(n: usize, list: &StepList) -> String {
     )
 }
 
-/// Numbers in lines of at most 100 letters.
+/// Numbers in lines of at most 99 letters.
 fn filled(words: &[String]) -> String {
     let mut lines = vec!["   ".to_string()];
     for word in words {
         let line = lines.last_mut().unwrap();
-        if line.len() + word.len() + 2 > 100 {
+        if line.len() + word.len() + 2 > 99 {
             lines.push(format!("    {word},"));
         } else {
             *line += &format!(" {word},");
