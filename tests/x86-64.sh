@@ -61,7 +61,7 @@ build_library() { # NAME
 
 find_rattle() { # NAMES..
     local kit name
-    kit=$(dirname "$(dirname "$(readlink -f "$(command -v rt)")")")
+    kit=$(dirname "$(rt doc)")
     rattle=("$kit/bin/rattle")
     over=(--extern "std=$kit/rlibs/std.rlib" -L "dependency=$kit/rlibs" --antt-project "$kit/rattle/logic/antt-project.json" --logic-built "$kit/logic_built")
     for name; do over+=(--extern "$name=$PWD/crates/$name/out/rlib/$name.rlib"); done
