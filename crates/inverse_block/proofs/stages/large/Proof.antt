@@ -127,7 +127,7 @@ part-settle-start : tie.Need-slice_bounds-settle-start
 part-settle-start c = omega arith
 
 part-settle-end : tie.Need-slice_bounds-settle-end
-part-settle-end c = first-room (plan-given (given (start c.before))) (first c.before)
+part-settle-end c = first-room (plan-given (given (start c.before))) (first c)
 
 sub-settle-2 : tie.Need-slice_bounds-settle-count-2
 sub-settle-2 c = omega arith
@@ -142,7 +142,7 @@ settle-requires : tie.Need-settle-rails-requires
 settle-requires c κs =
     let J = c.before.before.before in
     let W = J.before in
-    settle-given (plan-given (given (start J))) (first J) (zipped W) (fits (start W)) (zipped-long W) (omega arith)
+    settle-given (plan-given (given (start J))) (first c.before.before) (zipped J) (fits (start J)) (zipped-long J) (omega arith)
 
 abbrev joined : tie.After-settle-rails → tie.Joined-rows-le4
 joined c = c.before.before.before
