@@ -5,25 +5,32 @@ use crate::numbers::{marks, widened};
 use crate::print::{end, text};
 use meaning::Shape;
 
-fn inverse(shape: Shape, numbers: [i16; 1024], input: usize, output: usize)
+fn inverse(to: &impl Print, shape: Shape, numbers: [i16; 1024], input: usize, output: usize)
     requires { (input ≤ 1024) × (output ≤ 1024) }
 {
-    text(b": inverse");
+    text(to, b": inverse");
     let mut out = widened(marks());
     let answer = block::inverse(shape, &numbers[0..input], &mut out[0..output]);
-    end(shape, input, answer, out, output);
+    end(to, shape, input, answer, out, output);
 }
 
-fn forward(shape: Shape, numbers: [i16; 1024], input: usize, output: usize)
+fn forward(to: &impl Print, shape: Shape, numbers: [i16; 1024], input: usize, output: usize)
     requires { (input ≤ 1024) × (output ≤ 1024) }
 {
-    text(b": forward");
+    text(to, b": forward");
     let mut out = marks();
     let answer = block::forward(shape, &numbers[0..input], &mut out[0..output]);
-    end(shape, input, answer, widened(out), output);
+    end(to, shape, input, answer, widened(out), output);
 }
 
-pub fn line(is_forward: bool, shape: Shape, numbers: [i16; 1024], input: usize, output: usize) {
+pub fn line(
+    to: &impl Print,
+    is_forward: bool,
+    shape: Shape,
+    numbers: [i16; 1024],
+    input: usize,
+    output: usize,
+) {
     if 1024 < input {
         return;
     }
@@ -31,8 +38,8 @@ pub fn line(is_forward: bool, shape: Shape, numbers: [i16; 1024], input: usize, 
         return;
     }
     if is_forward {
-        forward(shape, numbers, input, output);
+        forward(to, shape, numbers, input, output);
     } else {
-        inverse(shape, numbers, input, output);
+        inverse(to, shape, numbers, input, output);
     }
 }

@@ -10,57 +10,57 @@ fn shape_of(r: [u32; 11]) -> Shape {
     most.keeping(r[5], r[6])
 }
 
-fn row(is_forward: bool, number: i16, other: i16, r: [u32; 11]) {
+fn row(out: &impl Print, is_forward: bool, number: i16, other: i16, r: [u32; 11]) {
     let input = r[7] as usize;
     let output = r[8] as usize;
     let place = r[9] as usize;
     let next = r[10] as usize;
-    few(place, number, next, other);
+    few(out, place, number, next, other);
     let numbers = only(place, number, next, other);
-    line(is_forward, shape_of(r), numbers, input, output);
+    line(out, is_forward, shape_of(r), numbers, input, output);
 }
 
-fn rows(is_forward: bool, number: i16, other: i16, table: &[[u32; 11]]) {
+fn rows(out: &impl Print, is_forward: bool, number: i16, other: i16, table: &[[u32; 11]]) {
     let mut k: usize = 0;
     while k < table.len() {
-        row(is_forward, number, other, table[k]);
+        row(out, is_forward, number, other, table[k]);
         k += 1;
     }
 }
 
 // Items 7 to 10, and kind 0 beside 8; 4, 5 and the second half of 8 are among the worst cases.
-pub fn items() {
-    row(false, 32767, 21063, tables::ITEM_7);
-    row(false, 32767, 21064, tables::ITEM_7);
-    row(false, 32767, 21066, tables::ITEM_7);
-    row(false, 64, 0, tables::ITEM_8);
-    row(false, 64, 0, tables::FLAT);
-    row(false, 1000, 0, tables::ITEM_9);
-    row(false, 0, 1000, tables::ITEM_9);
-    row(false, 0, 0, tables::ITEM_10);
-    row(true, 0, 0, tables::ITEM_10);
+pub fn items(out: &impl Print) {
+    row(out, false, 32767, 21063, tables::ITEM_7);
+    row(out, false, 32767, 21064, tables::ITEM_7);
+    row(out, false, 32767, 21066, tables::ITEM_7);
+    row(out, false, 64, 0, tables::ITEM_8);
+    row(out, false, 64, 0, tables::FLAT);
+    row(out, false, 1000, 0, tables::ITEM_9);
+    row(out, false, 0, 1000, tables::ITEM_9);
+    row(out, false, 0, 0, tables::ITEM_10);
+    row(out, true, 0, 0, tables::ITEM_10);
 }
 
 // 1 to 7 and 20 alone, and the order of all: 4096 at place 16 is 8's for the inverse and 9's for the forward.
-pub fn refusals(is_forward: bool) {
+pub fn refusals(out: &impl Print, is_forward: bool) {
     let alone = tables::ALONE;
-    rows(is_forward, 0, 0, &alone);
+    rows(out, is_forward, 0, 0, &alone);
     let order = tables::ORDER;
-    rows(is_forward, 4096, 4096, &order);
+    rows(out, is_forward, 4096, 4096, &order);
 }
 
-pub fn outside() {
+pub fn outside(out: &impl Print) {
     let table = tables::OUTSIDE;
-    rows(false, 1, -1, &table);
-    rows(false, -32768, 32767, &table);
+    rows(out, false, 1, -1, &table);
+    rows(out, false, -32768, 32767, &table);
 }
 
-pub fn too_large() {
-    row(true, -256, 256, tables::SMALL);
-    row(true, 256, -255, tables::SMALL);
-    row(true, -255, -32768, tables::SMALL);
-    row(true, 255, -255, tables::SMALL);
-    row(true, 4096, -4096, tables::LARGE);
-    row(true, -4096, 4095, tables::LARGE);
-    row(true, -4095, 4095, tables::LARGE);
+pub fn too_large(out: &impl Print) {
+    row(out, true, -256, 256, tables::SMALL);
+    row(out, true, 256, -255, tables::SMALL);
+    row(out, true, -255, -32768, tables::SMALL);
+    row(out, true, 255, -255, tables::SMALL);
+    row(out, true, 4096, -4096, tables::LARGE);
+    row(out, true, -4096, 4095, tables::LARGE);
+    row(out, true, -4095, 4095, tables::LARGE);
 }

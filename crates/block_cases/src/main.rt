@@ -4,6 +4,7 @@
 // with each number times its place from 1; and an output of sixteen numbers whole. A block by value: both kinds and the
 // depth, number, place and rail count and the sixteen numbers, then the same of the lent form.
 #![tactic(auto)]
+
 mod by_value;
 mod call;
 mod few;
@@ -12,13 +13,13 @@ mod print;
 mod tables;
 mod worst;
 
-fn main() {
-    few::items();
-    few::refusals(false);
-    few::outside();
-    few::refusals(true);
-    few::too_large();
-    worst::inverse();
-    worst::forward();
-    by_value::all();
+fn main(rt: HostRuntime) {
+    few::items(&rt);
+    few::refusals(&rt, false);
+    few::outside(&rt);
+    few::refusals(&rt, true);
+    few::too_large(&rt);
+    worst::inverse(&rt);
+    worst::forward(&rt);
+    by_value::all(&rt);
 }

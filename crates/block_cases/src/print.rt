@@ -3,22 +3,21 @@
 ghost use Rattle.std.specs.Prelude.{◌≤◌};
 
 use crate::numbers::{mark, wide};
-use libc::STDOUT_FILENO;
 use meaning::{Answer, Shape};
 use std::num::{wrapping_add_u64, wrapping_sub_u64};
 
-pub fn text(t: &[u8]) {
-    io::write_all(STDOUT_FILENO, t);
+pub fn text(out: &impl Print, t: &[u8]) {
+    let _ = out.write_all(t);
 }
 
-fn signed(n: u64) {
+fn signed(out: &impl Print, n: u64) {
     if n < 9223372036854775808 {
-        text(b" ");
-        io::print_decimal(STDOUT_FILENO, n);
+        text(out, b" ");
+        let _ = out.print(n);
         return;
     }
-    text(b" -");
-    io::print_decimal(STDOUT_FILENO, wrapping_sub_u64(0, n));
+    text(out, b" -");
+    let _ = out.print(wrapping_sub_u64(0, n));
 }
 
 fn modular(v: i32) -> u64 {
@@ -30,27 +29,30 @@ fn modular(v: i32) -> u64 {
     }
 }
 
-fn list(a: &[u64]) {
+fn list(out: &impl Print, a: &[u64]) {
     let mut k: usize = 0;
     while k < a.len() {
-        signed(a[k]);
+        signed(out, a[k]);
         k += 1;
     }
 }
 
 // What stands in a block, where that is two numbers.
-pub fn few(place: usize, number: i16, next: usize, other: i16) {
-    text(b"at");
-    list(&[
-        place as u64,
-        modular(wide(number)),
-        next as u64,
-        modular(wide(other)),
-    ]);
+pub fn few(out: &impl Print, place: usize, number: i16, next: usize, other: i16) {
+    text(out, b"at");
+    list(
+        out,
+        &[
+            place as u64,
+            modular(wide(number)),
+            next as u64,
+            modular(wide(other)),
+        ],
+    );
 }
 
 // From the last number on: what is summed so far is added to the second sum at each place.
-fn sums(a: &[i32]) {
+fn sums(out: &impl Print, a: &[i32]) {
     let mut changed: u64 = 0;
     let mut plain: u64 = 0;
     let mut placed: u64 = 0;
@@ -63,59 +65,72 @@ fn sums(a: &[i32]) {
         plain = wrapping_add_u64(plain, modular(a[k]));
         placed = wrapping_add_u64(placed, plain);
     }
-    list(&[changed, plain, placed]);
+    list(out, &[changed, plain, placed]);
 }
 
 // All numbers, where they are sixteen.
-pub fn every(a: &[i32]) {
+pub fn every(out: &impl Print, a: &[i32]) {
     if a.len() != 16 {
         return;
     }
     let mut k: usize = 0;
     while k < a.len() {
-        signed(modular(a[k]));
+        signed(out, modular(a[k]));
         k += 1;
     }
 }
 
-fn outcome(shape: Shape, input: usize, output: usize, answer: Answer) {
-    list(&[
-        shape.width as u64,
-        shape.height as u64,
-        shape.horizontal as u64,
-        shape.vertical as u64,
-        shape.depth as u64,
-        shape.columns as u64,
-        shape.rows as u64,
-        input as u64,
-        output as u64,
-        answer.number as u64,
-        answer.place as u64,
-        answer.rails as u64,
-    ]);
+fn outcome(out: &impl Print, shape: Shape, input: usize, output: usize, answer: Answer) {
+    list(
+        out,
+        &[
+            shape.width as u64,
+            shape.height as u64,
+            shape.horizontal as u64,
+            shape.vertical as u64,
+            shape.depth as u64,
+            shape.columns as u64,
+            shape.rows as u64,
+            input as u64,
+            output as u64,
+            answer.number as u64,
+            answer.place as u64,
+            answer.rails as u64,
+        ],
+    );
 }
 
 // What a call on a block by value was given and handed back.
-pub fn answer(lead: &[u8], r: [u32; 3], answer: Answer) {
-    text(lead);
-    list(&[
-        r[0] as u64,
-        r[1] as u64,
-        r[2] as u64,
-        answer.number as u64,
-        answer.place as u64,
-        answer.rails as u64,
-    ]);
+pub fn answer(out: &impl Print, lead: &[u8], r: [u32; 3], answer: Answer) {
+    text(out, lead);
+    list(
+        out,
+        &[
+            r[0] as u64,
+            r[1] as u64,
+            r[2] as u64,
+            answer.number as u64,
+            answer.place as u64,
+            answer.rails as u64,
+        ],
+    );
 }
 
 // The first `count` numbers are those of the output.
-pub fn end(shape: Shape, input: usize, answer: Answer, room: [i32; 1024], count: usize)
+pub fn end(
+    out: &impl Print,
+    shape: Shape,
+    input: usize,
+    answer: Answer,
+    room: [i32; 1024],
+    count: usize,
+)
     requires { count ≤ 1024 }
 {
     let output = &room[0..count];
-    outcome(shape, input, count, answer);
-    text(b" changes");
-    sums(output);
-    every(output);
-    text(b"\n");
+    outcome(out, shape, input, count, answer);
+    text(out, b" changes");
+    sums(out, output);
+    every(out, output);
+    text(out, b"\n");
 }

@@ -4,9 +4,9 @@
 #![tactic(auto)]
 ghost use Rattle.std.specs.Prelude.{◌≡◌, length};
 
-use file_input::{ending, file_buffer, read_input, say_refusal};
-use libc::{STDIN_FILENO, STDOUT_FILENO};
+use file_input::{ending, file_buffer, read_input, say_refusal, word, word_buffer};
 use plain_text::{NO_NUMBER, number_of};
+use std::rt::Files;
 
 // As long as the largest picture.
 fn picture_buffer() -> [u8; 2063]
@@ -15,43 +15,43 @@ fn picture_buffer() -> [u8; 2063]
     [0; 2063]
 }
 
-fn show(file: &[u8], n: usize) {
+fn show(rt: &(impl Files + Print), err: &impl Print, file: &[u8], n: usize) {
     let mut picture = picture_buffer();
     let view = file_picture::shown::shown(file, n, &mut picture);
     let number = view.number;
     let bytes = view.bytes as usize;
     if number != 0 {
-        ending::refused(say_refusal(number, view.offset));
+        ending::refused(rt, say_refusal(err, number, view.offset));
         return;
     }
     if bytes == 0 {
-        ending::failed(b"there is no such block");
+        ending::failed(rt, b"there is no such block");
         return;
     }
     if bytes > 2063 {
         return;
     }
-    ending::ran(io::write_all(STDOUT_FILENO, &picture[..bytes]));
+    ending::ran(rt, rt.write_all(&picture[..bytes]).is_ok());
 }
 
-fn ask(file: &[u8], word: &[u8]) {
+fn ask(rt: &(impl Files + Print), err: &impl Print, file: &[u8], word: &[u8]) {
     let n = number_of(word);
     if n == NO_NUMBER {
-        ending::failed(b"the block is no number");
+        ending::failed(rt, b"the block is no number");
         return;
     }
-    show(file, n);
+    show(rt, err, file, n);
 }
 
-fn main() {
-    let mut text = io::buffer();
-    let n = os::arg(1, &mut text);
+fn main(rt: HostRuntime) {
+    let mut text = word_buffer();
+    let n = word(&rt, 1, &mut text);
     let mut file = file_buffer();
-    let read = read_input(STDIN_FILENO, &mut file);
+    let read = read_input(&mut rt.stdin(), &mut file);
     let count = read.count;
     if read.failed {
-        ending::unread(0);
+        ending::unread(&rt, 0);
         return;
     }
-    ask(&file[..count], &text[..n]);
+    ask(&rt, &rt.stderr(), &file[..count], &text[..n]);
 }

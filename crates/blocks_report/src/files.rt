@@ -2,10 +2,16 @@
 ghost use Rattle.std.specs.Prelude.{◌≡◌, ◌+◌, length};
 
 use file_fields::cursor::Cursor;
-use file_input::{ending, file_buffer, read_input, say, say_refused};
+use file_input::{
+    descriptor, ending, file_buffer, read_input, say, say_refused, word, word_buffer,
+};
 use file_numbers::bytes::read_numbers;
-use libc::STDIN_FILENO;
 use meaning::Shape;
+use std::env::Env;
+use std::fs::File;
+use std::io;
+use std::io::{ErrorKind, Read};
+use std::rt::Files;
 
 // How a file ended: at its end, by a refusal, or so that no file comes after it; the ending is then told.
 pub const ENDED: u32 = 0;
@@ -80,42 +86,57 @@ fn add_file(totals: &mut [u64; 578], file: &[u8]) -> Stop {
     }
 }
 
-fn say_stop(number: u32, offset: usize, path: &[u8]) -> bool {
-    if !say_refused(number, offset) {
+fn say_stop(err: &impl Print, number: u32, offset: usize, path: &[u8]) -> bool {
+    if !say_refused(err, number, offset) {
         return false;
     }
-    if !say(b" ") {
+    if !say(err, b" ") {
         return false;
     }
-    if !say(path) {
+    if !say(err, path) {
         return false;
     }
-    say(b"\n")
+    say(err, b"\n")
 }
 
 // Says which refusal ended a file, where the line about progress was.
-fn refuse(number: u32, offset: usize, path: &[u8], progress: bool) -> u32 {
-    clear(progress);
-    if say_stop(number, offset, path) {
+fn refuse(
+    rt: &impl Files,
+    err: &impl Print,
+    number: u32,
+    offset: usize,
+    path: &[u8],
+    progress: bool,
+) -> u32 {
+    clear(rt, progress);
+    if say_stop(err, number, offset, path) {
         return REFUSED;
     }
-    ending::unsaid();
+    ending::unsaid(rt);
     STOPPED
 }
 
-// What stands on a descriptor, which word i names.
-fn take_input(totals: &mut [u64; 578], fd: i32, i: usize, path: &[u8], progress: bool) -> u32 {
+// What a reader gives, which word i names.
+fn take_input(
+    rt: &impl Files,
+    input: &mut impl Read,
+    err: &impl Print,
+    totals: &mut [u64; 578],
+    i: usize,
+    path: &[u8],
+    progress: bool,
+) -> u32 {
     let mut file = file_buffer();
-    let read = read_input(fd, &mut file);
+    let read = read_input(input, &mut file);
     let count = read.count;
     if read.failed {
-        ending::unread(i);
+        ending::unread(rt, i);
         return STOPPED;
     }
     let stop = add_file(totals, &file[..count]);
     let number = stop.number;
     if number != 0 {
-        return refuse(number, stop.offset, path, progress);
+        return refuse(rt, err, number, stop.offset, path, progress);
     }
     ENDED
 }
@@ -127,41 +148,66 @@ fn is_standard_input(path: &[u8]) -> bool {
     path[0] == b'-'
 }
 
+// Opens a file by its name. std's names are text.
+fn open<R: Files>(rt: &R, path: &[u8]) -> io::Result<R::File> {
+    match std::str::from_utf8(path) {
+        Ok(text) => File::open(rt, text),
+        Err(_) => Err(io::Error::from(ErrorKind::InvalidFilename)),
+    }
+}
+
 // Takes the file that word i names, - being standard input.
-pub fn take(totals: &mut [u64; 578], i: usize, progress: bool) -> u32 {
-    let mut space = io::buffer();
-    let n = os::arg(i, &mut space);
+pub fn take<R: Env + Files>(
+    rt: &R,
+    input: &mut impl Read,
+    err: &impl Print,
+    totals: &mut [u64; 578],
+    i: usize,
+    progress: bool,
+) -> u32 {
+    let mut space = word_buffer();
+    let n = word(rt, i, &mut space);
     let path = &space[..n];
     if is_standard_input(path) {
-        return take_input(totals, STDIN_FILENO, i, path, progress);
+        return take_input(rt, input, err, totals, i, path, progress);
     }
-    let fd = os::open_read(path);
-    if fd < 0 {
-        ending::unread(i);
-        return STOPPED;
+    match open(rt, path) {
+        Ok(mut file) => take_input(rt, &mut file, err, totals, i, path, progress),
+        Err(_) => {
+            ending::unread(rt, i);
+            STOPPED
+        }
     }
-    let taken = take_input(totals, fd, i, path, progress);
-    libc::close(fd);
-    taken
+}
+
+const PROGRESS: &str = "/proc/self/fd/4";
+
+fn show(rt: &impl Files, words: &[u8]) {
+    descriptor::write(rt, PROGRESS, words);
+}
+
+fn show_number(rt: &impl Files, n: usize) {
+    let mut digits = itoa::Buffer::new();
+    show(rt, digits.format(n).as_bytes());
 }
 
 // Takes away the line about progress.
-pub fn clear(progress: bool) {
+pub fn clear(rt: &impl Files, progress: bool) {
     if progress {
-        io::write_all(4, b"\r\x1b[K");
+        show(rt, b"\r\x1b[K");
     }
 }
 
 // How many files are done, of those before the last word; nothing stays of it in the end.
-pub fn tell(done: usize, last: usize) {
-    clear(true);
+pub fn tell(rt: &impl Files, done: usize, last: usize) {
+    clear(rt, true);
     if done < last {
         let all = last - 1;
         if done < all {
-            io::print_decimal(4, done as u64);
-            io::write_all(4, b" of ");
-            io::print_decimal(4, all as u64);
-            io::write_all(4, b" files");
+            show_number(rt, done);
+            show(rt, b" of ");
+            show_number(rt, all);
+            show(rt, b" files");
         }
     }
 }

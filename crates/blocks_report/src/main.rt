@@ -6,38 +6,48 @@
 mod files;
 mod table;
 
-use file_input::ending;
+use file_input::{ending, word, word_buffer, word_count};
 use plain_text::{print, text_buffer};
+use std::env::Env;
+use std::io::Read;
+use std::rt::Files;
 
 // Whether all was written.
-fn print_totals(totals: [u64; 578]) -> bool {
+fn print_totals(out: &impl Print, totals: [u64; 578]) -> bool {
     let mut text = text_buffer();
     let end = table::put_table(totals, &mut text);
-    print(&text, end)
+    print(out, &text, end)
 }
 
 // Whether a word asks for progress.
-fn wanted(i: usize) -> bool {
-    let mut word = io::buffer();
-    let n = os::arg(i, &mut word);
+fn wanted(rt: &impl Env, i: usize) -> bool {
+    let mut space = word_buffer();
+    let n = word(rt, i, &mut space);
     if n == 0 {
         return false;
     }
-    word[0] == b'4'
+    space[0] == b'4'
 }
 
 // All files, up to one that cannot be read; whether a refusal ended one of them.
-fn take_all(totals: &mut [u64; 578], last: usize, progress: bool) -> u32 {
+fn take_all<R: Env + Files>(
+    rt: &R,
+    input: &mut impl Read,
+    err: &impl Print,
+    totals: &mut [u64; 578],
+    last: usize,
+    progress: bool,
+) -> u32 {
     let mut how = files::ENDED;
     let mut i = 1;
     while i < last {
-        let taken = files::take(totals, i, progress);
+        let taken = files::take(rt, input, err, totals, i, progress);
         if taken == files::STOPPED {
             return files::STOPPED;
         }
         how = later(how, taken);
         if progress {
-            files::tell(i, last);
+            files::tell(rt, i, last);
         }
         i += 1;
     }
@@ -52,29 +62,36 @@ fn later(before: u32, now: u32) -> u32 {
     now
 }
 
-fn end(written: bool, how: u32) {
+fn end(rt: &impl Files, written: bool, how: u32) {
     if !written {
-        ending::unwritten();
+        ending::unwritten(rt);
         return;
     }
     if how == files::REFUSED {
-        ending::refused(true);
+        ending::refused(rt, true);
         return;
     }
-    ending::ran(true);
+    ending::ran(rt, true);
 }
 
-fn main() {
+fn main(rt: HostRuntime) {
     let mut totals = report::totals::empty();
-    let count = os::arg_count();
+    let count = word_count(&rt);
     if count == 0 {
         return;
     }
     let last = count - 1;
-    let progress = wanted(last);
-    let how = take_all(&mut totals, last, progress);
-    files::clear(progress);
+    let progress = wanted(&rt, last);
+    let how = take_all(
+        &rt,
+        &mut rt.stdin(),
+        &rt.stderr(),
+        &mut totals,
+        last,
+        progress,
+    );
+    files::clear(&rt, progress);
     if how != files::STOPPED {
-        end(print_totals(totals), how);
+        end(&rt, print_totals(&rt, totals), how);
     }
 }

@@ -5,10 +5,10 @@ use plain_text::{put, put_natural, put_spaces, put_word};
 
 // A number, right-aligned.
 fn put_number(n: u64, width: usize, text: &mut [u8], at: usize) -> usize {
-    let mut digits: [u8; 20] = [0; 20];
-    let count = io::decimal(n, &mut digits);
-    let start = put_spaces(width, count, text, at);
-    put_word(&digits[..count], text, start)
+    let mut buffer = itoa::Buffer::new();
+    let digits = buffer.format(n).as_bytes();
+    let start = put_spaces(width, digits.len(), text, at);
+    put_word(digits, text, start)
 }
 
 // 0 to 3 are 4, 8, 16 and 32.

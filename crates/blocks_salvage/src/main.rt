@@ -4,7 +4,7 @@
 ghost use Rattle.std.specs.Prelude.{◌≡◌, length};
 
 use file_input::{ending, file_buffer, read_input, say, say_numbers, say_refusal};
-use libc::{STDIN_FILENO, STDOUT_FILENO};
+use std::rt::Files;
 
 // 1,024 places.
 fn list_buffer() -> [u32; 2048]
@@ -13,17 +13,17 @@ fn list_buffer() -> [u32; 2048]
     [0; 2048]
 }
 
-fn say_stretch(offset: u32, length: u32) -> bool {
-    if !say_numbers(offset as u64, length as u64) {
+fn say_stretch(err: &impl Print, offset: u32, length: u32) -> bool {
+    if !say_numbers(err, offset as u64, length as u64) {
         return false;
     }
-    say(b"\n")
+    say(err, b"\n")
 }
 
-fn say_dropped(list: &[u32]) -> bool {
+fn say_dropped(err: &impl Print, list: &[u32]) -> bool {
     let mut i = 1;
     while i < list.len() {
-        if !say_stretch(list[i - 1], list[i]) {
+        if !say_stretch(err, list[i - 1], list[i]) {
             return false;
         }
         i += 2;
@@ -31,7 +31,7 @@ fn say_dropped(list: &[u32]) -> bool {
     true
 }
 
-fn save(file: &[u8]) {
+fn save(rt: &(impl Files + Print), err: &impl Print, file: &[u8]) {
     let mut out = file_buffer();
     let mut list = list_buffer();
     let saved = salvage::saving::salvage(file, &mut out, &mut list);
@@ -40,7 +40,7 @@ fn save(file: &[u8]) {
     let numbers = saved.stretches as usize * 2;
     if number != 0 {
         // The offset is that of the file's start: nothing is written, whichever field is the first too many.
-        ending::refused(say_refusal(number, 0));
+        ending::refused(rt, say_refusal(err, number, 0));
         return;
     }
     if bytes > 65537 {
@@ -49,24 +49,24 @@ fn save(file: &[u8]) {
     if numbers > 2048 {
         return;
     }
-    if !io::write_all(STDOUT_FILENO, &out[..bytes]) {
-        ending::unwritten();
+    if rt.write_all(&out[..bytes]).is_err() {
+        ending::unwritten(rt);
         return;
     }
-    if !say_dropped(&list[..numbers]) {
-        ending::unsaid();
+    if !say_dropped(err, &list[..numbers]) {
+        ending::unsaid(rt);
         return;
     }
-    ending::ran(true);
+    ending::ran(rt, true);
 }
 
-fn main() {
+fn main(rt: HostRuntime) {
     let mut file = file_buffer();
-    let read = read_input(STDIN_FILENO, &mut file);
+    let read = read_input(&mut rt.stdin(), &mut file);
     let count = read.count;
     if read.failed {
-        ending::unread(0);
+        ending::unread(&rt, 0);
         return;
     }
-    save(&file[..count]);
+    save(&rt, &rt.stderr(), &file[..count]);
 }

@@ -50,10 +50,10 @@ fn put_lines(kind: u32, name: &[u8], text: &mut [u8], at: usize) -> usize {
     put_line(kind, name, 32, text, of_16)
 }
 
-fn main() {
+fn main(rt: HostRuntime) {
     let mut text = text_buffer();
     let of_0 = put_lines(0, b"DCT-II, ", &mut text, 0);
     let of_1 = put_lines(1, b"DST-VII, ", &mut text, of_0);
     let of_2 = put_lines(2, b"DCT-VIII, ", &mut text, of_1);
-    ending::ran(print(&text, of_2));
+    ending::ran(&rt, print(&rt, &text, of_2));
 }

@@ -7,10 +7,12 @@ mod text;
 
 ghost use Rattle.std.specs.Prelude.{◌≡◌, length};
 
-use file_input::{ending, file_buffer, read_input, say, say_refusal, say_refused};
+use file_input::{
+    ending, file_buffer, read_input, say, say_refusal, say_refused, word, word_buffer,
+};
 use file_why::named::named;
-use libc::STDIN_FILENO;
 use plain_text::{NO_NUMBER, number_of, print};
+use std::rt::Files;
 use why::Parts;
 
 fn text_buffer() -> [u8; 1024]
@@ -19,86 +21,104 @@ fn text_buffer() -> [u8; 1024]
     [0; 1024]
 }
 
-fn show(depth: u32, parts: Parts) {
+fn show(rt: &(impl Files + Print), depth: u32, parts: Parts) {
     let mut text = text_buffer();
     let end = text::put_parts(depth, parts, &mut text);
-    ending::ran(print(&text, end));
+    ending::ran(rt, print(rt, &text, end));
 }
 
 // A refusal that has to do with a place of the block, which is given as it is to be written.
-fn say_refused_place(number: u32, offset: usize, place: &[u8]) -> bool {
-    if !say_refused(number, offset) {
+fn say_refused_place(err: &impl Print, number: u32, offset: usize, place: &[u8]) -> bool {
+    if !say_refused(err, number, offset) {
         return false;
     }
-    if !say(b" place ") {
+    if !say(err, b" place ") {
         return false;
     }
-    if !say(place) {
+    if !say(err, place) {
         return false;
     }
-    say(b"\n")
+    say(err, b"\n")
 }
 
 // 15 with the place that was asked for, as it was written, and else the place of a coefficient.
-fn say_place(number: u32, offset: usize, place: u32, word: &[u8]) -> bool {
+fn say_place(err: &impl Print, number: u32, offset: usize, place: u32, word: &[u8]) -> bool {
     if number == 15 {
-        return say_refused_place(number, offset, word);
+        return say_refused_place(err, number, offset, word);
     }
-    let mut digits: [u8; 20] = [0; 20];
-    let count = io::decimal(place as u64, &mut digits);
-    say_refused_place(number, offset, &digits[..count])
+    let mut digits = itoa::Buffer::new();
+    say_refused_place(err, number, offset, digits.format(place).as_bytes())
 }
 
-fn answer(file: &[u8], n: usize, place: u32, word: &[u8]) {
+fn answer(
+    rt: &(impl Files + Print),
+    err: &impl Print,
+    file: &[u8],
+    n: usize,
+    place: u32,
+    word: &[u8],
+) {
     let reasons = named(file, n, place);
     let tag = reasons.tag;
     let offset = reasons.offset;
     let parts = reasons.parts;
     let number = parts.number;
     if tag == 3 {
-        ending::failed(b"the block is a forward, which has no such parts");
+        ending::failed(rt, b"the block is a forward, which has no such parts");
         return;
     }
     if tag == 2 {
         if number != 0 {
-            ending::refused(say_place(number, offset, parts.place, word));
+            ending::refused(rt, say_place(err, number, offset, parts.place, word));
             return;
         }
-        show(reasons.depth, parts);
+        show(rt, reasons.depth, parts);
         return;
     }
     if number != 0 {
-        ending::refused(say_refusal(number, offset));
+        ending::refused(rt, say_refusal(err, number, offset));
         return;
     }
-    ending::failed(b"there is no such block");
+    ending::failed(rt, b"there is no such block");
 }
 
-fn ask(file: &[u8], block: &[u8], word: &[u8]) {
+fn ask(
+    rt: &(impl Files + Print),
+    err: &impl Print,
+    file: &[u8],
+    block: &[u8],
+    word: &[u8],
+) {
     let n = number_of(block);
     if n == NO_NUMBER {
-        ending::failed(b"the block is no number");
+        ending::failed(rt, b"the block is no number");
         return;
     }
     let place = number_of(word);
     if place == NO_NUMBER {
-        ending::failed(b"the place is no number");
+        ending::failed(rt, b"the place is no number");
         return;
     }
-    answer(file, n, place as u32, word);
+    answer(rt, err, file, n, place as u32, word);
 }
 
-fn main() {
-    let mut block = io::buffer();
-    let b = os::arg(1, &mut block);
-    let mut place = io::buffer();
-    let p = os::arg(2, &mut place);
+fn main(rt: HostRuntime) {
+    let mut block = word_buffer();
+    let b = word(&rt, 1, &mut block);
+    let mut place = word_buffer();
+    let p = word(&rt, 2, &mut place);
     let mut file = file_buffer();
-    let read = read_input(STDIN_FILENO, &mut file);
+    let read = read_input(&mut rt.stdin(), &mut file);
     let count = read.count;
     if read.failed {
-        ending::unread(0);
+        ending::unread(&rt, 0);
         return;
     }
-    ask(&file[..count], &block[..b], &place[..p]);
+    ask(
+        &rt,
+        &rt.stderr(),
+        &file[..count],
+        &block[..b],
+        &place[..p],
+    );
 }

@@ -32,11 +32,11 @@ fn put_minus(negative: bool, text: &mut [u8], at: usize) -> usize {
 
 // A number behind its sign, right-aligned in so many bytes and one.
 fn put_signed(negative: bool, n: u64, width: usize, text: &mut [u8], at: usize) -> usize {
-    let mut digits: [u8; 20] = [0; 20];
-    let count = io::decimal(n, &mut digits);
-    let spaces = put_spaces(width, count, text, at);
+    let mut buffer = itoa::Buffer::new();
+    let digits = buffer.format(n).as_bytes();
+    let spaces = put_spaces(width, digits.len(), text, at);
     let sign = put_minus(negative, text, spaces);
-    put_word(&digits[..count], text, sign)
+    put_word(digits, text, sign)
 }
 
 // The digits behind the point: as many as it takes, which are no more than 19 where the divisor is a power of two up to 2^19.

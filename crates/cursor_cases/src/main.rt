@@ -2,10 +2,11 @@
 // and then a file. Prints a new cursor, the advance's number and tag and its next cursor, and the body. `tests/cursor` holds it to
 // the independent model.
 #![tactic(auto)]
+
 ghost use Rattle.std.specs.Prelude.{◌≡◌, ◌+◌, ◌≤◌, ◌<◌, length};
 
 use file_fields::cursor::Cursor;
-use libc::STDOUT_FILENO;
+use file_input::read_input;
 use meaning::Shape;
 
 // A cursor and somewhat more than a file may have.
@@ -57,39 +58,39 @@ fn cursor_of(bytes: &[u8]) -> Cursor
     }
 }
 
-fn print_number(n: u64) {
-    io::print_decimal(STDOUT_FILENO, n);
-    io::write_all(STDOUT_FILENO, b" ");
+fn print_number(out: &impl Print, n: u64) {
+    let _ = out.print(n);
+    let _ = out.print(" ");
 }
 
-fn print_cursor(cursor: Cursor) {
+fn print_cursor(out: &impl Print, cursor: Cursor) {
     let shape = cursor.shape;
-    print_number(cursor.at as u64);
-    print_number(shape.width as u64);
-    print_number(shape.height as u64);
-    print_number(shape.horizontal as u64);
-    print_number(shape.vertical as u64);
-    print_number(shape.depth as u64);
-    print_number(shape.columns as u64);
-    print_number(shape.rows as u64);
-    io::write_all(STDOUT_FILENO, b"\n");
+    print_number(out, cursor.at as u64);
+    print_number(out, shape.width as u64);
+    print_number(out, shape.height as u64);
+    print_number(out, shape.horizontal as u64);
+    print_number(out, shape.vertical as u64);
+    print_number(out, shape.depth as u64);
+    print_number(out, shape.columns as u64);
+    print_number(out, shape.rows as u64);
+    let _ = out.print("\n");
 }
 
-fn print_advance(cursor: Cursor, file: &[u8]) {
-    print_cursor(Cursor::new());
+fn print_advance(out: &impl Print, cursor: Cursor, file: &[u8]) {
+    print_cursor(out, Cursor::new());
     let advance = cursor.advance(file);
-    print_number(advance.number as u64);
-    print_number(advance.tag as u64);
-    print_cursor(advance.next);
-    io::write_all(STDOUT_FILENO, cursor.body(file));
+    print_number(out, advance.number as u64);
+    print_number(out, advance.tag as u64);
+    print_cursor(out, advance.next);
+    let _ = out.write_all(cursor.body(file));
 }
 
-fn main() {
+fn main(rt: HostRuntime) {
     let mut input = input_buffer();
-    let count = io::read_full(libc::STDIN_FILENO, &mut input);
+    let count = read_input(&mut rt.stdin(), &mut input).count;
     if count < 36 {
         return;
     }
     let given = &input[..count];
-    print_advance(cursor_of(given), &given[36..]);
+    print_advance(&rt, cursor_of(given), &given[36..]);
 }

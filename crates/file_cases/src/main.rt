@@ -1,27 +1,62 @@
 // Runs stored files, and writes for each its name on a line and then what it prints. The files and the text are made by
 // harness/src/bin/file_cases.rs, from the independent model.
 #![tactic(auto)]
-use libc::STDOUT_FILENO;
 
-fn case(i: usize) {
-    let mut path = io::buffer();
-    let n = os::arg(i, &mut path);
-    io::write_all(STDOUT_FILENO, &path[..n]);
-    io::write_all(STDOUT_FILENO, b":\n");
-    let fd = os::open_read(&path[..n]);
-    if fd < 0 {
-        os::fail(&path[..n]);
-        return;
+use file_input::{word, word_buffer, word_count};
+use std::env::Env;
+use std::fs::File;
+use std::io;
+use std::io::{Cursor, ErrorKind, Write};
+use std::rt::Files;
+
+// std's names are text.
+fn open<R: Files>(rt: &R, path: &[u8]) -> io::Result<R::File> {
+    match std::str::from_utf8(path) {
+        Ok(text) => File::open(rt, text),
+        Err(_) => Err(io::Error::from(ErrorKind::InvalidFilename)),
     }
-    file_program::answer(fd, STDOUT_FILENO);
-    libc::close(fd);
 }
 
-fn main() {
-    let count = os::arg_count();
+// An error's words, without its number, which std puts behind them.
+fn words(text: &[u8]) -> &str {
+    match std::str::from_utf8(text) {
+        Ok(all) => match all.split_once(" (os error ") {
+            Some((words, _)) => words,
+            None => all,
+        },
+        Err(_) => "",
+    }
+}
+
+fn say_unopened(err: &impl Print, path: &[u8], error: io::Error) {
+    let mut room = [0u8; 128];
+    let mut text = Cursor::new(&mut room[..]);
+    let _ = write!(text, "{error}");
+    let end = text.position() as usize;
+    let _ = Print::write_all(err, path);
+    let _ = err.print(": ");
+    let _ = err.println(words(&room[..end.min(128)]));
+}
+
+fn case<R: Env + Files + Print>(rt: &R, err: &impl Print, i: usize) {
+    let mut space = word_buffer();
+    let n = word(rt, i, &mut space);
+    let path = &space[..n];
+    let _ = Print::write_all(rt, path);
+    let _ = rt.print(":\n");
+    match open(rt, path) {
+        Ok(mut file) => {
+            file_program::answer(&mut file, rt);
+        }
+        Err(error) => say_unopened(err, path, error),
+    }
+}
+
+fn main(rt: HostRuntime) {
+    let count = word_count(&rt);
     let mut i = 1;
     while i < count {
-        case(i);
+        case(&rt, &rt.stderr(), i);
         i += 1;
     }
 }

@@ -1,47 +1,51 @@
-// How a program ended: a line on a descriptor of its own, of which `blocks` makes the status. A program has no status, and what it says
-// on standard error has names in it: here no name and no byte of a file can stand. Where the descriptor is closed, nothing is told.
-const ENDING: i32 = 3;
+// How a program ended: a line on a descriptor of its own, of which `blocks` makes the status. What a program says on standard error has
+// names in it: here no name and no byte of a file can stand. Where the descriptor is closed, nothing is told.
+use crate::descriptor;
+use std::rt::Files;
 
-fn tell(words: &[u8]) {
-    io::write_all(ENDING, words);
+const ENDING: &str = "/proc/self/fd/3";
+
+fn tell(rt: &impl Files, words: &[u8]) {
+    descriptor::write(rt, ENDING, words);
 }
 
 // Status 2, and why.
-pub fn failed(why: &[u8]) {
-    tell(b"2 ");
-    tell(why);
-    tell(b"\n");
+pub fn failed(rt: &impl Files, why: &[u8]) {
+    tell(rt, b"2 ");
+    tell(rt, why);
+    tell(rt, b"\n");
 }
 
 // Status 2: a word names the input, which could not be read. The first word is 1; 0 is standard input where no word names it.
-pub fn unread(word: usize) {
-    tell(b"unread ");
-    io::print_decimal(ENDING, word as u64);
-    tell(b"\n");
+pub fn unread(rt: &impl Files, word: usize) {
+    let mut digits = itoa::Buffer::new();
+    tell(rt, b"unread ");
+    tell(rt, digits.format(word).as_bytes());
+    tell(rt, b"\n");
 }
 
-pub fn unwritten() {
-    failed(b"the answer could not be written");
+pub fn unwritten(rt: &impl Files) {
+    failed(rt, b"the answer could not be written");
 }
 
-pub fn unsaid() {
-    failed(b"standard error could not be written");
+pub fn unsaid(rt: &impl Files) {
+    failed(rt, b"standard error could not be written");
 }
 
 // Status 0, where the answer was written.
-pub fn ran(written: bool) {
+pub fn ran(rt: &impl Files, written: bool) {
     if written {
-        tell(b"0\n");
+        tell(rt, b"0\n");
         return;
     }
-    unwritten();
+    unwritten(rt);
 }
 
 // Status 1, where the refusal stands in the answer or was said.
-pub fn refused(said: bool) {
+pub fn refused(rt: &impl Files, said: bool) {
     if said {
-        tell(b"1\n");
+        tell(rt, b"1\n");
         return;
     }
-    unsaid();
+    unsaid(rt);
 }

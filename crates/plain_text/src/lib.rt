@@ -3,8 +3,6 @@
 #![tactic(auto)]
 ghost use Rattle.std.specs.Prelude.{◌≡◌, ◌≤◌, length};
 
-use libc::STDOUT_FILENO;
-
 pub fn put(byte: u8, text: &mut [u8], at: usize) -> usize {
     if at < text.len() {
         text[at] = byte;
@@ -24,9 +22,8 @@ pub fn put_word(word: &[u8], text: &mut [u8], at: usize) -> usize {
 }
 
 pub fn put_natural(n: u64, text: &mut [u8], at: usize) -> usize {
-    let mut digits: [u8; 20] = [0; 20];
-    let count = io::decimal(n, &mut digits);
-    put_word(&digits[..count], text, at)
+    let mut digits = itoa::Buffer::new();
+    put_word(digits.format(n).as_bytes(), text, at)
 }
 
 // As many spaces as `count` bytes lack in `width`.
@@ -48,11 +45,11 @@ pub fn text_buffer() -> [u8; 65536]
 }
 
 // The front of a buffer on standard output; whether all of it was written.
-pub fn print(text: &[u8], end: usize) -> bool {
+pub fn print(out: &impl Print, text: &[u8], end: usize) -> bool {
     if end > text.len() {
         return false;
     }
-    io::write_all(STDOUT_FILENO, &text[..end])
+    out.write_all(&text[..end]).is_ok()
 }
 
 // What stands for a word that is no number.

@@ -1,6 +1,7 @@
 // Compares the library's weights with published ones that are written out here, and prints for each source how many agree; then
 // what document 004 measures of a matrix. docs/DECISIONS.md, "Published weights", says where each number came from.
 #![tactic(auto)]
+
 mod letters;
 mod norms;
 mod numbers;
@@ -10,15 +11,16 @@ ghost use Rattle.std.specs.Prelude.{◌≤◌, ◌<◌, length};
 
 use numbers::agreeing;
 
-fn report(source: &[u8], agreed: usize, of: usize) {
-    print::of(source, agreed as u64, of as u64);
-    print::text(b"\n");
+fn report(out: &impl Print, source: &[u8], agreed: usize, of: usize) {
+    print::of(out, source, agreed as u64, of as u64);
+    print::text(out, b"\n");
 }
 
-fn compare(source: &[u8], kind: u32, n: u32, published: &[i32])
+fn compare(out: &impl Print, source: &[u8], kind: u32, n: u32, published: &[i32])
     requires { (0 < n) × (length published.now ≤ 1024) }
 {
     report(
+        out,
         source,
         agreeing(kind, n, false, n, published),
         published.len(),
@@ -26,36 +28,50 @@ fn compare(source: &[u8], kind: u32, n: u32, published: &[i32])
 }
 
 // The first `columns` weights of each odd row of kind 0.
-fn compare_odd(source: &[u8], n: u32, columns: u32, published: &[i32])
+fn compare_odd(out: &impl Print, source: &[u8], n: u32, columns: u32, published: &[i32])
     requires { (0 < columns) × (length published.now ≤ 1024) }
 {
     report(
+        out,
         source,
         agreeing(0, n, true, columns, published),
         published.len(),
     );
 }
 
-fn document_01() {
+fn document_01(out: &impl Print) {
     let s4 = numbers::FIRST_4;
-    compare(b"document 01, first row of 4 points", 1, 4, &s4);
+    compare(out, b"document 01, first row of 4 points", 1, 4, &s4);
     let s8 = numbers::FIRST_8;
-    compare(b"document 01, first row of 8 points", 1, 8, &s8);
+    compare(out, b"document 01, first row of 8 points", 1, 8, &s8);
     let s16 = numbers::FIRST_16;
-    compare(b"document 01, first row of 16 points", 1, 16, &s16);
+    compare(out, b"document 01, first row of 16 points", 1, 16, &s16);
     let s32 = numbers::FIRST_32;
-    compare(b"document 01, first row of 32 points", 1, 32, &s32);
+    compare(out, b"document 01, first row of 32 points", 1, 32, &s32);
     let c4 = numbers::ITEM_3;
-    compare(b"document 01, item 3, DCT-VIII of 4 points", 2, 4, &c4);
+    compare(out, b"document 01, item 3, DCT-VIII of 4 points", 2, 4, &c4);
 }
 
-fn decoder_dst() {
+fn decoder_dst(out: &impl Print) {
     let s4 = numbers::FIRST_4;
-    compare(b"FFmpeg 7.1.5, first row of DST-VII of 4 points", 1, 4, &s4);
+    compare(
+        out,
+        b"FFmpeg 7.1.5, first row of DST-VII of 4 points",
+        1,
+        4,
+        &s4,
+    );
     let s8 = numbers::FIRST_8;
-    compare(b"FFmpeg 7.1.5, first row of DST-VII of 8 points", 1, 8, &s8);
+    compare(
+        out,
+        b"FFmpeg 7.1.5, first row of DST-VII of 8 points",
+        1,
+        8,
+        &s8,
+    );
     let s16 = numbers::FIRST_16;
     compare(
+        out,
         b"FFmpeg 7.1.5, first row of DST-VII of 16 points",
         1,
         16,
@@ -63,6 +79,7 @@ fn decoder_dst() {
     );
     let s32 = numbers::DECODER_32;
     compare(
+        out,
         b"FFmpeg 7.1.5, first row of DST-VII of 32 points",
         1,
         32,
@@ -70,9 +87,10 @@ fn decoder_dst() {
     );
 }
 
-fn decoder_dct() {
+fn decoder_dct(out: &impl Print) {
     let c4 = numbers::DECODER_DCT_4;
     compare(
+        out,
         b"FFmpeg 7.1.5, first row of DCT-VIII of 4 points",
         2,
         4,
@@ -80,6 +98,7 @@ fn decoder_dct() {
     );
     let c8 = numbers::DECODER_DCT_8;
     compare(
+        out,
         b"FFmpeg 7.1.5, first row of DCT-VIII of 8 points",
         2,
         8,
@@ -87,6 +106,7 @@ fn decoder_dct() {
     );
     let c16 = numbers::DECODER_DCT_16;
     compare(
+        out,
         b"FFmpeg 7.1.5, first row of DCT-VIII of 16 points",
         2,
         16,
@@ -94,6 +114,7 @@ fn decoder_dct() {
     );
     let c32 = numbers::DECODER_DCT_32;
     compare(
+        out,
         b"FFmpeg 7.1.5, first row of DCT-VIII of 32 points",
         2,
         32,
@@ -101,13 +122,14 @@ fn decoder_dct() {
     );
 }
 
-fn matrices() {
+fn matrices(out: &impl Print) {
     let d4 = numbers::DCT_4;
-    compare(b"FFmpeg 7.1.5, DCT-II of 4 points", 0, 4, &d4);
+    compare(out, b"FFmpeg 7.1.5, DCT-II of 4 points", 0, 4, &d4);
     let d8 = numbers::DCT_8;
-    compare(b"FFmpeg 7.1.5, DCT-II of 8 points", 0, 8, &d8);
+    compare(out, b"FFmpeg 7.1.5, DCT-II of 8 points", 0, 8, &d8);
     let d16 = numbers::DCT_16;
     compare_odd(
+        out,
         b"FFmpeg 7.1.5, DCT-II of 16 points, first half of the odd rows",
         16,
         8,
@@ -115,9 +137,10 @@ fn matrices() {
     );
 }
 
-fn odd_rows() {
+fn odd_rows(out: &impl Print) {
     let o4 = numbers::ODD_4;
     compare_odd(
+        out,
         b"FFmpeg 7.1.5, DCT-II of 4 points, odd rows' first weights",
         4,
         1,
@@ -125,6 +148,7 @@ fn odd_rows() {
     );
     let o8 = numbers::ODD_8;
     compare_odd(
+        out,
         b"FFmpeg 7.1.5, DCT-II of 8 points, odd rows' first weights",
         8,
         1,
@@ -132,6 +156,7 @@ fn odd_rows() {
     );
     let o16 = numbers::ODD_16;
     compare_odd(
+        out,
         b"FFmpeg 7.1.5, DCT-II of 16 points, odd rows' first weights",
         16,
         1,
@@ -139,6 +164,7 @@ fn odd_rows() {
     );
     let o32 = numbers::ODD_32;
     compare_odd(
+        out,
         b"FFmpeg 7.1.5, DCT-II of 32 points, odd rows' first weights",
         32,
         1,
@@ -146,9 +172,10 @@ fn odd_rows() {
     );
 }
 
-fn document_004() {
+fn document_004(out: &impl Print) {
     let s16 = numbers::FIRST_16;
     compare(
+        out,
         b"document 004, equation 8, first row of DST-VII of 16 points",
         1,
         16,
@@ -156,29 +183,32 @@ fn document_004() {
     );
     let c16 = numbers::DECODER_DCT_16;
     compare(
+        out,
         b"document 004, equation 9, first row of DCT-VIII of 16 points",
         2,
         16,
         &c16,
     );
     report(
+        out,
         b"document 004, table III, letters of nine rows of 16 points",
         letters::table_iii(),
         135,
     );
 }
 
-fn main() {
-    document_01();
-    decoder_dst();
-    decoder_dct();
-    matrices();
-    odd_rows();
-    document_004();
+fn main(rt: HostRuntime) {
+    document_01(&rt);
+    decoder_dst(&rt);
+    decoder_dct(&rt);
+    matrices(&rt);
+    odd_rows(&rt);
+    document_004(&rt);
     report(
+        &rt,
         b"document 000, equation 1, letters of all rows of 16 points",
         letters::equation_1(),
         256,
     );
-    norms::table_ii();
+    norms::table_ii(&rt);
 }

@@ -87,20 +87,20 @@ fn farthest(first: &[i32], base: u32) -> u32
 }
 
 // In ten-thousandths, rounded down: which column of the table has this measure.
-fn column(measure: u64, tuned: u64, original: u64) {
+fn column(out: &impl Print, measure: u64, tuned: u64, original: u64) {
     if measure == tuned {
-        print::text(b", Tuned\n");
+        print::text(out, b", Tuned\n");
         return;
     }
     if measure == original {
-        print::text(b", Original\n");
+        print::text(out, b", Original\n");
         return;
     }
-    print::text(b", neither column\n");
+    print::text(out, b", neither column\n");
 }
 
 // The measure of a first row beside the two of the table, which are for 8 bits.
-fn report(name: &[u8], first: &[i32], tuned: u64, original: u64)
+fn report(out: &impl Print, name: &[u8], first: &[i32], tuned: u64, original: u64)
     requires { (0 < length first.now) × (length first.now ≤ 32) }
 {
     let base = squares(first, 0);
@@ -109,12 +109,12 @@ fn report(name: &[u8], first: &[i32], tuned: u64, original: u64)
     }
     let most = farthest(first, base);
     let measure = most as u64 * 10000 / base as u64;
-    print::text(b"document 004, table II, norm measure of ");
-    print::of(name, most as u64, base as u64);
-    print::text(b", ");
-    print::number(measure);
-    print::text(b" ten-thousandths");
-    column(measure, tuned, original);
+    print::text(out, b"document 004, table II, norm measure of ");
+    print::of(out, name, most as u64, base as u64);
+    print::text(out, b", ");
+    print::number(out, measure);
+    print::text(out, b" ten-thousandths");
+    column(out, measure, tuned, original);
 }
 
 // The library's own first row of 32 points.
@@ -128,17 +128,17 @@ fn library_32() -> [i32; 32] {
     row
 }
 
-fn report_32(name: &[u8], first: &[i32; 32]) {
-    report(name, first, 39, 45);
+fn report_32(out: &impl Print, name: &[u8], first: &[i32; 32]) {
+    report(out, name, first, 39, 45);
 }
 
-pub fn table_ii() {
+pub fn table_ii(out: &impl Print) {
     let library = library_32();
-    report_32(b"the library's row of 32 points", &library);
+    report_32(out, b"the library's row of 32 points", &library);
     let first = numbers::FIRST_32;
-    report_32(b"document 01's row of 32 points", &first);
+    report_32(out, b"document 01's row of 32 points", &first);
     let rounded = numbers::EQUATION_12;
-    report_32(b"equation 12's row of 32 points", &rounded);
+    report_32(out, b"equation 12's row of 32 points", &rounded);
     let s16 = numbers::FIRST_16;
-    report(b"equation 8's row of 16 points", &s16, 47, 66);
+    report(out, b"equation 8's row of 16 points", &s16, 47, 66);
 }

@@ -1,19 +1,18 @@
 // Text and numbers on standard output.
-use libc::STDOUT_FILENO;
 
-pub fn text(t: &[u8]) {
-    io::write_all(STDOUT_FILENO, t);
+pub fn text(out: &impl Print, t: &[u8]) {
+    let _ = out.write_all(t);
 }
 
-pub fn number(n: u64) {
-    io::print_decimal(STDOUT_FILENO, n);
+pub fn number(out: &impl Print, n: u64) {
+    let _ = out.print(n);
 }
 
 // "NAME: A of B"
-pub fn of(name: &[u8], a: u64, b: u64) {
-    text(name);
-    text(b": ");
-    number(a);
-    text(b" of ");
-    number(b);
+pub fn of(out: &impl Print, name: &[u8], a: u64, b: u64) {
+    text(out, name);
+    text(out, b": ");
+    number(out, a);
+    text(out, b" of ");
+    number(out, b);
 }
