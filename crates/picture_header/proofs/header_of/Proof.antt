@@ -4,7 +4,6 @@ use mathlib.Core.Bool.{true}
 use mathlib.Core.List.{List}
 use Prim.Native.Nat.{ℕ, ◌-◌, ◌≤◌}
 use lib.ListN.{length, drop, drop_of_length-le}
-use borrow.Author.Tests.{not-true, not-false}
 use Rattle.picture_header.specs.Header.{behind_p5, read_from, is_p5, header_of}
 use Rattle.picture_header.proofs.Tests.{two_bytes}
 use Rattle.picture_header.proofs.Reading.{read_more, read-ended}
