@@ -50,11 +50,11 @@ first c = rw (c.row_shift-p.ensures, c.kept_columns-columns.ensures) at c.stage.
 zip-requires : tie.Need-zip-requires
 zip-requires c κs =
     let s = c.before.before.before.before.before.before.before.before.before.before in
-    rw c.before.before.before.before.before.before.before.before.before.kept_columns-columns.ensures (zip-given s.requires.0 s.requires.1.0 s.requires.1.1 (first c.before.before.before) refl)
+    rw c.kept_columns-columns.ensures (zip-given s.requires.0 s.requires.1.0 s.requires.1.1 (first c.before.before) refl)
 
 zipped : (c : tie.After-zip) → let s = c.before.before.before.before.before.before.before.before.before.before.before.args in
     Laid s.shape.columns (s.shape.height / 2) 2 (2 * s.shape.columns) (λ i x. at c.stage.new.out (x + i * s.shape.columns)) c.zip.new.z
-zipped c = rw c.before.before.before.before.before.before.before.before.before.before.kept_columns-columns.ensures at c.zip.ensures
+zipped c = rw c.kept_columns-columns.ensures at c.zip.ensures
 
 few-rows : (c : tie.After-kept_rows-rows) → c.kept_rows-rows.result ≤ 32
 few-rows c = let s = c.before.before.before.before in omega (arith, c.kept_rows-rows.ensures, (rows-kept s.args.shape s.requires.0.taken).within, size_in s.args.shape.height s.requires.0.taken.height)
@@ -63,26 +63,26 @@ few-columns : (c : tie.After-kept_columns-columns) → c.kept_columns-columns.re
 few-columns c = let s = c.before.before.before in omega (arith, c.kept_columns-columns.ensures, (columns-kept s.args.shape s.requires.0.taken).within, size_in s.args.shape.width s.requires.0.taken.width)
 
 mul-clear-beyond : tie.Need-overflow_mul-rows
-mul-clear-beyond c = omega (arith, mul-le-mul (few-rows c.before.before.before.before.before.before.before.before.before.before) (few-columns c.before.before.before.before.before.before.before.before.before.before.before))
+mul-clear-beyond c = omega (arith, mul-le-mul (few-rows c.before.before.before.before.before.before.before.before) (few-columns c.before.before.before.before.before.before.before.before.before))
 
 clear-beyond-requires : tie.Need-clear_beyond-requires
 clear-beyond-requires c κs = search rules
 
 long : (c : tie.After-clear_beyond) → let s = c.before.before.before.before.before.before.before.before.before.before.before.before.before.before.args in length c.clear_beyond.new.out ≡ s.shape.width * s.shape.height
-long c = c.clear_beyond.ensures.0 ∙ (first c.before.before.before.before.before.before.before).long ∙ c.before.before.before.before.before.before.before.before.before.before.before.before.before.before.before.before.requires.1.1
+long c = c.clear_beyond.ensures.0 ∙ (first c.before.before.before.before.before.before).long ∙ c.before.before.before.before.before.before.before.before.before.before.before.before.before.before.requires.1.1
 
 mul-stage-2 : tie.Need-overflow_mul-h
 mul-stage-2 c = let s = c.before.before.before.before.before.before.before.before.before.before.before.before.before.before.before in omega (arith, size_in s.args.shape.height s.requires.0.taken.height)
 
 mul-stage-3 : tie.Need-overflow_mul-columns
-mul-stage-3 c = omega (arith, few-columns c.before.before.before.before.before.before.before.before.before.before.before.before.before.before.before)
+mul-stage-3 c = omega (arith, few-columns c.before.before.before.before.before.before.before.before.before.before.before.before)
 
 stage-requires-2 : tie.Need-stage-requires-2
 stage-requires-2 c κs =
     let s = c.before.before.before.before.before.before.before.before.before.before.before.before.before.before.before.before in (
       s.requires.0.taken.height,
-      rw (c.before.before.before.before.before.before.before.before.before.before.before.before.before.column_shift-q.ensures, c.before.before.before.before.before.before.before.before.before.before.before.before.before.before.before.before.kept_columns-columns.ensures, c.before.before.before.before.before.before.before.before.before.before.before.before.before.before.before.kept_rows-rows.ensures)
-          (column-put s.requires.0 s.requires.1.0 s.requires.1.1 (first c.before.before.before.before.before.before.before.before.before.before) (zipped c.before.before.before.before.before.before) _ (long c.before.before.before)),
+      rw (c.column_shift-q.ensures, c.kept_columns-columns.ensures, c.kept_rows-rows.ensures)
+          (column-put s.requires.0 s.requires.1.0 s.requires.1.1 (first c.before.before.before.before.before.before.before.before) (zipped c.before.before.before.before.before) _ (long c.before.before)),
     )
 
 same_length : tie.Need-shape_of-along
@@ -95,14 +95,14 @@ same-length-2 c = search rules
 cleared : (c : tie.After-clear_beyond) → let s = c.before.before.before.before.before.before.before.before.before.before.before.before.before.before.args in s.shape.rows * s.shape.columns < length c.clear_beyond.new.out → (k : ℕ) → k < length c.clear_beyond.new.out → at c.clear_beyond.new.out k ≡ pos 0
 cleared c =
     let e = c.clear_beyond.ensures in
-    rw (sym e.0) at (rw (c.before.before.before.before.before.before.before.before.before.before.before.before.before.kept_columns-columns.ensures, c.before.before.before.before.before.before.before.before.before.before.before.before.kept_rows-rows.ensures) at e.1)
+    rw (sym e.0) at (rw (c.kept_columns-columns.ensures, c.kept_rows-rows.ensures) at e.1)
 
 returns : tie.Need-returns
 returns c =
     let s = c.before.before.before.before.before.before.before.before.before.before.before.before.before.before.before.before.before.before in
     let K = c.before.before.before.before.before in
-    block-done s.requires.0 s.requires.1.0 s.requires.1.1 (first c.before.before.before.before.before.before.before.before.before.before.before.before) (zipped c.before.before.before.before.before.before.before.before) (long K) (cleared K)
-    (rw (c.before.before.before.before.before.before.before.before.before.before.before.before.before.before.before.column_shift-q.ensures, c.before.before.before.before.before.before.before.before.before.before.before.before.before.before.before.before.before.before.kept_columns-columns.ensures, c.before.before.before.before.before.before.before.before.before.before.before.before.before.before.before.before.before.kept_rows-rows.ensures) at c.before.stage-2.ensures)
+    block-done s.requires.0 s.requires.1.0 s.requires.1.1 (first c.before.before.before.before.before.before.before.before.before.before) (zipped c.before.before.before.before.before.before.before) (long c.before.before.before.before) (cleared c.before.before.before.before)
+    (rw (c.column_shift-q.ensures, c.kept_columns-columns.ensures, c.kept_rows-rows.ensures) at c.before.stage-2.ensures)
 
 pub worked_spec : {M : Type 1} → statement M
 worked_spec =

@@ -58,7 +58,7 @@ slice-aggregate-middles-2 c = search rules
 
 -- the weights of the columns
 abbrev down : tie.After-put_1024 → List ℤ
-down c = c.put_1024.new.1.1.1.0
+down c = c.put_1024.new.u
 
 middles-requires : tie.Need-middles-rails-requires
 middles-requires c κs =
@@ -79,7 +79,7 @@ abbrev start : tie.After-middles-rails → tie.Start
 start c = (laid c).before.before.before.before.before.before
 
 abbrev between : tie.After-middles-rails → List ℤ
-between c = c.middles-rails.new.1.1.1.1.1.1.1.0
+between c = c.middles-rails.new.m
 
 abbrev rest : tie.After-middles-rails → List ℤ
 rest c = drop ((start c).args.shape.height * (2 * (start c).args.columns)) (replicate 1024 (pos 0))
@@ -114,7 +114,7 @@ mul-residuals c =
 
 -- the weights of the rows, in the same room
 abbrev along : tie.After-put_1024-2 → List ℤ
-along c = c.put_1024-2.new.1.1.1.0
+along c = c.put_1024-2.new.u
 
 residuals-requires : tie.Need-residuals-requires
 residuals-requires c κs =

@@ -67,7 +67,7 @@ shared-slice-copy-out-mac-2 : tie.Need-bounds-v-b invariant-loop decreases-loop
 shared-slice-copy-out-mac-2 c = omega (arith, there c.before)
 
 -- sums stay small
-small : (c : tie.At-loop-k invariant-loop decreases-loop) → nat_abs (to_z w64 c.loop-k.sum) ≤ 2251799813685248
+small : (c : tie.At-loop-k invariant-loop decreases-loop) → nat_abs (to_z w64 c.loop-k.sum-bits) ≤ 2251799813685248
 small c = omega (arith, c.loop-k.invariant.1.1, c.loop-k.invariant.0, c.before.requires.few)
 
 mac-requires : tie.Need-mac-even-requires invariant-loop decreases-loop
@@ -95,8 +95,8 @@ shared-slice-copy-out-mac-4 c = there c.before.before.before.before
 even_is : (c : tie.After-mac-even invariant-loop decreases-loop) → to_z w64 (of_z w64 c.mac-even.result) ≡ c.mac-even.result
 even_is c = to_z-of_z w64 c.mac-even.result (search rules)
 
-even-small : (c : tie.After-mac-even invariant-loop decreases-loop) → nat_abs (to_z w64 (of_z w64 c.mac-even.result)) ≤ nat_abs (to_z w64 c.before.before.before.before.loop-k.sum) + 70368744177664
-even-small c = subst (λ (z : ℤ). nat_abs z ≤ nat_abs (to_z w64 c.before.before.before.before.loop-k.sum) + 70368744177664) (sym (even_is c)) c.mac-even.ensures.1
+even-small : (c : tie.After-mac-even invariant-loop decreases-loop) → nat_abs (to_z w64 (of_z w64 c.mac-even.result)) ≤ nat_abs (to_z w64 c.before.before.before.before.loop-k.sum-bits) + 70368744177664
+even-small c = subst (λ (z : ℤ). nat_abs z ≤ nat_abs (to_z w64 c.before.before.before.before.loop-k.sum-bits) + 70368744177664) (sym (even_is c)) c.mac-even.ensures.1
 
 mac-requires-2 : tie.Need-mac-sum-requires invariant-loop decreases-loop
 mac-requires-2 c κs =

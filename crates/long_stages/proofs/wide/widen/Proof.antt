@@ -6,7 +6,7 @@ use mathlib.Core.Path.{refl, sym, ◌∙◌}
 use Prim.Native.Nat.{ℕ, ◌-◌, ◌≤◌, ◌<◌}
 use lib.Dec.{lit<}
 use lib.ListN.{length}
-use mir.Syntax.{w16}
+use mir.Syntax.{w16, w32}
 use mir.Val.{SFits}
 use Rattle.algebra.specs.Lists.{at}
 use Rattle.algebra.proofs.Word.{arg, cast_v, cast_fits}
@@ -57,7 +57,7 @@ loop-again c =
     let L = I.before in (
       omega (arith, I.loop-k-test.true),
       (
-        fill-first _ (room I) L.loop-k.invariant.1.0 (cast_v (arg (short c)) (lit< tt)).val,
+        fill-first _ (room I) L.loop-k.invariant.1.0 (cast_v (arg (short c)) {w' = w32} (lit< tt)).val,
         below_more (λ i. SFits w16 (at L.before.args.c.now i)) L.loop-k.k L.loop-k.invariant.1.1 (short c),
       ),
     )
