@@ -51,7 +51,7 @@ loop-again c = (
       ⊎_elim
       (λ t. absurd (true≢false (sym t.1 ∙ f)))
       (λ t. below_more (λ i. beyond (range_of 15) (at n i) ≡ false) L.loop.k (L.loop.invariant.1 (sym t.1 ∙ f)) (told ∙ t.0.left))
-      c.if1.branch,
+      c.if1.branch-raw,
 )
 
 returns : tie.Need-returns invariant-loop decreases-loop

@@ -12,7 +12,7 @@ worked-requires : tie.Need-worked-requires
 worked-requires c κs = (c.before.before.before.requires, c.before.before.is_dct2.ensures c.before.if-is_dct2.true)
 
 same_length : tie.Need-shape_of-r-then-is_dct2
-same_length c = c.before.worked.auto.1.1.1.1.0
+same_length c = c.before.worked.auto.r
 
 returns : tie.Need-returns-then-is_dct2
 returns c = c.before.worked.ensures

@@ -96,7 +96,7 @@ rounding c =
 along-requires : tie.Need-along-requires
 along-requires c κs =
     let H = c.before in
-    let D = H.before.before.before.before in
+    let D = H.before.before.before in
     let s = D.before.before in (
       record { height = s.requires.across.height; kernel = s.requires.across.kernel; there = λ x y a b. subst (λ (n : ℕ). place_of (min s.args.h 8) (min s.args.w 8) (min s.args.w 8 * s.args.h) x y < n) (sym (all-long D)) (s.requires.across.there x y a b) },
       (rounding H, (H.before.strip_of.ensures, s.requires.out)),
@@ -109,19 +109,19 @@ part-touched-start : tie.Need-slice_bounds-touched-start
 part-touched-start c = omega arith
 
 part-touched-end : tie.Need-slice_bounds-touched-end
-part-touched-end c = let D = c.before.before.before.before.before.before.before.before in omega (arith, all-long D, D.before.before.before.requires.room)
+part-touched-end c = let D = c.before.before.before.before.before.before in omega (arith, all-long D, D.before.before.before.requires.room)
 
 touched-requires : tie.Need-touched-requires
 touched-requires c κs = search rules
 
 same_length : tie.Need-shape_of-m
-same_length c = all-long c.before.before.before.before.before.before.before.before.before.before
+same_length c = all-long c.before.before.before.before.before.before.before.before
 
 returns : tie.Need-returns
 returns c =
-    let A = c.before.before.before.before in
+    let A = c.before.before.before in
     let H = A.before.before in
-    let D = H.before.before.before.before in
+    let D = H.before.before.before in
     let s = D.before in
     let a = s.args in (
       A.along.ensures

@@ -15,7 +15,7 @@ both-requires : tie.Need-both-requires
 both-requires c κs = fits_work c.before.before.requires _ refl (zeros-at 256)
 
 same_length : tie.Need-shape_of-r
-same_length c = c.before.before.both.auto.1.1.1.1.1.1.1.1.1.1.0
+same_length c = c.before.before.both.auto.r
 
 returns : tie.Need-returns
 returns c = c.before.before.both.ensures

@@ -46,9 +46,9 @@ loop-again c f =
     let m = L.before.args.m.now in
     let z = at m L.loop-i.i in
     ⊎_elim
-    (λ t. absurd (true≢false (sym t.1 ∙ f)))
-    (λ t. below_more (λ k. Inner (at m k)) L.loop-i.i (L.loop-i.invariant (sym t.1 ∙ f)) (subst Inner (to_z-of_z w16 z (record { sfits = E.before.at_end-arg-1.given })) (E.at_end.ensures t.0.left)))
-    c.if-at_end.branch
+    (λ t. absurd (true≢false (sym t.found-is ∙ f)))
+    (λ t. below_more (λ k. Inner (at m k)) L.loop-i.i (L.loop-i.invariant (sym t.found-is ∙ f)) (subst Inner (to_z-of_z w16 z (record { sfits = E.before.at_end-arg-1.given })) (E.at_end.ensures t.if-at_end.false)))
+    c.if-at_end.branch-raw
 
 returns : tie.Need-returns invariant-loop decreases-loop
 returns c f k h = c.before.loop-i.invariant f k (omega (arith, c.loop-i-test.false))

@@ -88,7 +88,7 @@ first c =
     let s = start P in
     c.lines.ensures
     ∙ all-written (s.args.shape.height * s.args.shape.width) _ s.args.r.now (omega (arith, room s))
-    ∙ of-square (λ w h. block w h (λ x y. shifted (pos 64) 7 (line_sum P.put.last.1.0 (2 * y) 16 (zipped P) 16 4 x)) ≡ down_block s.args.shape.vertical w h s.args.c.now) (square s)
+    ∙ of-square (λ w h. block w h (λ x y. shifted (pos 64) 7 (line_sum P.put.new.t (2 * y) 16 (zipped P) 16 4 x)) ≡ down_block s.args.shape.vertical w h s.args.c.now) (square s)
     (down-sums s.args.shape.vertical refl (omega arith) (omega arith) P.put.ensures.1 s.args.c.now (columns P))
     ∙ whole-sums (given s)
 
@@ -102,12 +102,12 @@ slice-aggregate-settle c = search rules
 settle-requires : tie.Need-settle-rails-requires
 settle-requires c κs =
     let L = c.before.before.before in
-    let s = start (down L) in
-    let e = first-long L ∙ elements s in
-    (e ∙ sym (zipped-long (down L)), omega arith)
+    let s = start (down c.before.before) in
+    let e = first-long c.before.before ∙ elements s in
+    (e ∙ sym (zipped-long (down c.before.before)), omega arith)
 
 abbrev work : tie.After-settle-rails → tie.After-lines
-work c = c.before.before.before.before
+work c = c.before.before.before
 
 abbrev origin : tie.After-settle-rails → tie.Start
 origin c = start (down (work c))
@@ -142,8 +142,8 @@ lines-requires-2 c κs =
     let P = c.before.before.before in
     let S = middle P in
     let s = origin S in (
-      of-square (λ w h. Lines h w 4 S.settle-rails.last.1.0 8 2 P.put-2.new.1.0 16) (square s)
-          (along-lines s.args.horizontal refl (omega arith) (omega arith) P.put-2.ensures.1 S.settle-rails.last.1.0 (settled-long S)),
+      of-square (λ w h. Lines h w 4 S.settle-rails.new.m 8 2 P.put-2.new.t 16) (square s)
+          (along-lines s.args.horizontal refl (omega arith) (omega arith) P.put-2.ensures.1 S.settle-rails.new.m (settled-long S)),
       (half-rounds P.before.before.half-half.ensures, omega (arith, first-long (work S))),
     )
 
@@ -156,9 +156,9 @@ returns c =
     let m = settled (plan-given (given s)) (first (work S)) S.settle-rails.ensures in (
       counted (plan-given (given s)) (first (work S)) S.settle-rails.ensures,
       c.before.lines-2.ensures
-          ∙ all-written (s.args.shape.height * s.args.shape.width) _ (work S).lines.last.1.1.1.1.1.1.1.1.1.1.0 (omega (arith, first-long (work S)))
-          ∙ of-square (λ w h. block w h (λ x y. shifted (to_z w32 (of_z w32 P.before.before.half-half.result)) last (line_sum S.settle-rails.last.1.0 (8 * y) 2 P.put-2.new.1.0 16 4 x)) ≡ along_block s.args.horizontal w h S.settle-rails.last.1.0 last) (square s)
-          (along-sums s.args.horizontal refl (omega arith) (omega arith) P.put-2.ensures.1 S.settle-rails.last.1.0 (settled-long S) last (half_is P.before.before.half-half.ensures))
+          ∙ all-written (s.args.shape.height * s.args.shape.width) _ (work S).lines.new.out (omega (arith, first-long (work S)))
+          ∙ of-square (λ w h. block w h (λ x y. shifted (to_z w32 (of_z w32 P.before.before.half-half.result)) last (line_sum S.settle-rails.new.m (8 * y) 2 P.put-2.new.t 16 4 x)) ≡ along_block s.args.horizontal w h S.settle-rails.new.m last) (square s)
+          (along-sums s.args.horizontal refl (omega arith) (omega arith) P.put-2.ensures.1 S.settle-rails.new.m (settled-long S) last (half_is P.before.before.half-half.ensures))
           ∙ (λ i. along_block (s.requires.1.1 i) s.args.shape.width s.args.shape.height (m i) (P.before.before.before.last_shift-last.ensures.0 i))
           ∙ whole-block (given s),
     )

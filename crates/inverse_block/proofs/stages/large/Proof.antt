@@ -118,7 +118,7 @@ first c =
     (⊎_elim
     (λ t. down-leaves d 8 (sixteen s t.1.left t.2.taken) (t.8 ∙ t.6.ensures))
     (λ t. down-leaves d 16 (thirty_two s t.2.left) (t.8 ∙ t.6.ensures))))
-    c.if1.branch
+    c.if1.branch-raw
 
 sub-settle : tie.Need-overflow-sub-settle
 sub-settle c = omega arith

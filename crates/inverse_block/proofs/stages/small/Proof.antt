@@ -98,7 +98,7 @@ first c =
     ⊎_elim
     (λ t. down-leaves d 2 (four (given s).size-rows t.0.taken) (t.6 ∙ t.4.ensures))
     (λ t. down-leaves d 4 (eight-rows s t.0.left) (t.6 ∙ t.4.ensures))
-    c.if1.branch
+    c.if1.branch-raw
 
 sub-settle : tie.Need-overflow-sub-settle
 sub-settle c = omega arith

@@ -53,7 +53,7 @@ loop-less : tie.Need-loop-smaller invariant-loop decreases-loop
 loop-less c = search rules
 
 loop-again : tie.Need-loop-preserved invariant-loop decreases-loop
-loop-again c = ⊎_elim (λ w. omega arith) (λ w. omega arith) c.if1.branch
+loop-again c = ⊎_elim (λ w. omega arith) (λ w. omega arith) c.if1.branch-raw
 
 returns : tie.Need-returns invariant-loop decreases-loop
 returns c = search rules
