@@ -2,6 +2,7 @@
 // `halves`: read its specs first, then inverse and forward, with specs/Lines. table has the weights of the odd halves, arith sums in
 // 32 bits.
 #![tactic(auto)]
+
 pub mod arith;
 pub mod forward;
 pub mod inverse;

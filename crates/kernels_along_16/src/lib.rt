@@ -2,6 +2,7 @@
 // down_N_L_C works C columns of N points, along_N_L_C works C rows; the first L inputs of each are live. Read one, with
 // kernel_levels/specs/Kernels for what it takes and leaves: all are the same statements with other literals.
 #![tactic(auto)]
+
 ghost use Rattle.std.specs.Prelude.{◌≡◌, length};
 ghost use Rattle.algebra.specs.Lists.{block};
 ghost use Rattle.product.specs.Product.{shifted};

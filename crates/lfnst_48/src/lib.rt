@@ -2,6 +2,7 @@
 // The weights of inputs 2k and 2k + 1 in output j stand side by side at 2 * j + k * 96. proofs/ has the rule over each matrix, by
 // one computed test.
 #![tactic(auto)]
+
 ghost use Rattle.std.specs.Prelude.{◌≡◌, ◌*◌, ◌<◌, length, ◌*ℤ◌};
 ghost use Rattle.algebra.specs.Sum.{sum};
 ghost use Rattle.algebra.specs.Lists.{at};

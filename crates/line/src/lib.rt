@@ -2,6 +2,7 @@
 // the fast path, `forward_product` and `inverse_product` the full product; the two of a direction have one contract. Read specs/Line,
 // then proofs/Agreement and proofs/Unique. The work behind them stands in `shared_line`, `dct2_line` and `full_line`.
 #![tactic(auto)]
+
 ghost use Rattle.std.specs.Prelude.{◌≡◌, true, false, length};
 ghost use Rattle.algebra.specs.Lists.{at};
 ghost use Rattle.algebra.specs.Refusals.{number_of};

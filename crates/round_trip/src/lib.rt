@@ -1,6 +1,7 @@
 // How far a round trip can stray: D of a column, and (proofs/) that no line of numbers of size at most M comes back further
 // from 4096*N times itself than M*D, and that some line comes back as far. Read specs/RoundTrip, then proofs/Furthest.
 #![tactic(auto)]
+
 ghost use Rattle.std.specs.Prelude.{◌≡◌, true, cond, ◌≤◌, ◌*◌, eqb, pos, ◌+ℤ◌, ◌-ℤ◌, ◌*ℤ◌, nat_abs};
 ghost use Rattle.line.specs.Line.{is_place};
 ghost use Rattle.round_trip.specs.RoundTrip.{G, less, is_column, stray_or_zero};

@@ -3,6 +3,7 @@
 // written out, so that the compiler has them: it unrolls the steps and puts the weights into its code, and no table is copied.
 // 8 points share nothing, and these lines do not know them.
 #![tactic(auto)]
+
 mod class_sums;
 pub mod forward;
 pub mod inverse;

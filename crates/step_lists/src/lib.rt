@@ -1,6 +1,7 @@
 // The lists of steps of the forward DST-VII at 4, 16 and 32 points as data: `list::list` hands one out as numbers, and
 // `forward::forward` runs it. Read specs/Listed; `stored` has the numbers.
 #![tactic(auto)]
+
 pub mod forward;
 pub mod list;
 mod stored;

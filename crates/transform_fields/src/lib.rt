@@ -1,6 +1,7 @@
 // Internal: the tests of a transform block's fields, each over the numbers that it looks at. What they mean is said where the block is,
 // in transform_block/specs/TransformBlock.antt.
 #![tactic(auto)]
+
 ghost use Rattle.std.specs.Prelude.{◌≡◌, true, not, cond, ◌&&◌, ◌||◌, eqb, leb};
 ghost use Rattle.meaning.specs.Shape.{is_size, is_depth_to};
 

@@ -3,6 +3,7 @@
 // an adder ends on the line's sums, Adder, whose `ends_on` is the argument, and SameLine. Numbers as bits stand in word, the order's
 // test in places, the sums in running.
 #![tactic(auto)]
+
 mod places;
 mod running;
 mod word;

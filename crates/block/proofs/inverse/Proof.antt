@@ -227,7 +227,7 @@ settled J =
     let d = t.6.ensures (flipped _ t.8.left) in
     (λ i. (answer_of (t.10 i) (t.11 i), t.9 i)) ∙ by_way E (sym d.0) d.1)
     (λ t. (λ i. (answer_of (t.2 i) (t.3 i), t.1 i)) ∙ by_number (record { before = J.before; if1 = t.0 }))))
-    J.if1.branch
+    J.if1.branch-raw
 
 answered-requires : tie.Need-answered-requires
 answered-requires c κs = search rules
@@ -248,7 +248,7 @@ as_long J =
     (λ t. let E : tie.Else2 = record { before = record { before = record { before = record { before = record { before = J.before; if1 = t.0 }; rows = t.1 }; columns = t.2 }; first-outside = t.3 }; if2 = t.4 } in
     ap length t.9 ∙ kept (record { before = record { before = E; by-kernels-arg = t.5 }; by-kernels = t.6 }))
     (λ t. ap length t.1)))
-    J.if1.branch
+    J.if1.branch-raw
 
 same_length : tie.Need-same-length
 same_length c = as_long c.before

@@ -26,13 +26,13 @@ zeros : length (replicate 16 (pos 0)) ≡ 16
 zeros = length-replicate 16 (pos 0)
 
 abbrev sums : tie.After-stage → List ℤ
-sums c = c.stage.new.1.1.1.1.0
+sums c = c.stage.new.out
 
 sums-long : (c : tie.After-stage) → length (sums c) ≡ 16
 sums-long c = ap length c.stage.ensures ∙ block-length 4 4 _
 
 abbrev turned : tie.After-put → List ℤ
-turned c = c.put.new.1.1.1.1.0
+turned c = c.put.new.m
 
 turned-long : (c : tie.After-put) → length (turned c) ≡ 16
 turned-long c = c.put.ensures.long ∙ zeros
@@ -40,16 +40,16 @@ turned-long c = c.put.ensures.long ∙ zeros
 stage-requires : tie.Need-stage-requires
 stage-requires c κs = let s = c.before in (rowed _ _ _ s.requires.0 (omega arith) (omega arith), (zeros, s.requires.1.0))
 
-slice-aggregate-put : tie.Need-slice-aggregate-put
+slice-aggregate-put : tie.Need-slice_bounds-put-end
 slice-aggregate-put c = sym (sums-long c.before)
 
-slice-aggregate-put-2 : tie.Need-slice-aggregate-put-2
+slice-aggregate-put-2 : tie.Need-slice_bounds-put-end-2
 slice-aggregate-put-2 c = sym zeros
 
 put-requires : tie.Need-put-requires
 put-requires c κs = (omega (arith, sums-long c.before.before), omega (arith, zeros))
 
-slice-aggregate-stage : tie.Need-slice-aggregate-stage
+slice-aggregate-stage : tie.Need-slice_bounds-stage-end
 slice-aggregate-stage c = sym (turned-long c.before.before)
 
 half-requires : tie.Need-half-requires
@@ -71,15 +71,15 @@ stage-requires-2 c κs =
 copied-requires : tie.Need-copied-requires
 copied-requires c κs =
     let T = c.before.before in
-    (ap length T.stage2.ensures ∙ block-length 4 4 _, T.before.before.before.before.before.before.before.before.before.before.requires.1.1.1)
+    (ap length T.stage-2.ensures ∙ block-length 4 4 _, T.before.before.before.before.before.before.before.before.before.before.requires.1.1.1)
 
-slice-aggregate-touched : tie.Need-slice-aggregate-touched
+slice-aggregate-touched : tie.Need-slice_bounds-touched-end
 slice-aggregate-touched c = sym (turned-long c.before.before.before.before.before.before.before.before.before.before)
 
 touched-requires : tie.Need-touched-requires
 touched-requires c κs = search rules
 
-same_length : tie.Need-same-length
+same_length : tie.Need-shape_of-r
 same_length c = search rules
 
 returns : tie.Need-returns
@@ -92,12 +92,12 @@ returns c =
     let n = s.args.c.now in
     let m = turned M in (
       c.before.before.before.copied.ensures
-          ∙ residuals n (sums S) m (replicate 16 (pos 0)) S.stage.ensures M.put.ensures _ s.args.shift _ (half_is H.half.ensures) T.stage2.ensures,
+          ∙ residuals n (sums S) m (replicate 16 (pos 0)) S.stage.ensures M.put.ensures _ s.args.shift _ (half_is H.half.ensures) T.stage-2.ensures,
       λ f x y h g. subst Inner (middles n (sums S) m (replicate 16 (pos 0)) S.stage.ensures M.put.ensures x y h g) (c.touched.ensures f (y + x * 4) (omega (arith, turned-long M))),
     )
 
-pub both-spec : {M : Type 1} → statement M
-both-spec =
+pub both_spec : {M : Type 1} → statement M
+both_spec =
     tie.close
     (tie.spec
     stage-requires

@@ -10,16 +10,16 @@ use Rattle.lfnst_tables.proofs.Lined.{line-given, valued}
 use Rattle.lfnst_16.proofs.all_1.Statement.{statement}
 use Rattle.lfnst_16.proofs.all_1.Tie as tie
 
-slice-aggregate-line-16 : tie.Need-slice-aggregate-line-16
+slice-aggregate-line-16 : tie.Need-slice_bounds-line_16-end
 slice-aggregate-line-16 c = search rules
 
-line-16-requires : tie.Need-line-16-requires
+line-16-requires : tie.Need-line_16-requires
 unfolding entry of16 of-1
 line-16-requires c κs =
     let s = c.before.before in
     line-given false 1 8 (omega arith) s.requires.0 s.requires.1 (laid_by 16 8 (entry 16 1) _ tt refl)
 
-same_length : tie.Need-same-length
+same_length : tie.Need-shape_of-v
 same_length c = search rules
 
 returns : tie.Need-returns
@@ -27,7 +27,7 @@ unfolding entry of16 of-1
 returns c =
     let F = c.before in
     let s = F.before.before.before in
-    valued false 1 8 (omega arith) s.requires.0 s.requires.1 (laid_by 16 8 (entry 16 1) _ tt refl) F.line-16.ensures
+    valued false 1 8 (omega arith) s.requires.0 s.requires.1 (laid_by 16 8 (entry 16 1) _ tt refl) F.line_16.ensures
 
-pub all-1-spec : {M : Type 1} → statement M
-all-1-spec = tie.close (tie.spec slice-aggregate-line-16 line-16-requires same_length returns)
+pub all_1_spec : {M : Type 1} → statement M
+all_1_spec = tie.close (tie.spec slice-aggregate-line-16 line-16-requires same_length returns)

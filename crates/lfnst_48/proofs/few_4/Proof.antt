@@ -10,16 +10,16 @@ use Rattle.lfnst_tables.proofs.Lined.{line-given, valued}
 use Rattle.lfnst_48.proofs.few_4.Statement.{statement}
 use Rattle.lfnst_48.proofs.few_4.Tie as tie
 
-slice-aggregate-line-48 : tie.Need-slice-aggregate-line-48
+slice-aggregate-line-48 : tie.Need-slice_bounds-line_48-end
 slice-aggregate-line-48 c = search rules
 
-line-48-requires : tie.Need-line-48-requires
+line-48-requires : tie.Need-line_48-requires
 unfolding entry of48 of-4
 line-48-requires c κs =
     let s = c.before.before in
     line-given true 4 4 (omega arith) s.requires.0 s.requires.1 (laid_by 48 4 (entry 48 4) _ tt refl)
 
-same_length : tie.Need-same-length
+same_length : tie.Need-shape_of-v
 same_length c = search rules
 
 returns : tie.Need-returns
@@ -27,7 +27,7 @@ unfolding entry of48 of-4
 returns c =
     let F = c.before in
     let s = F.before.before.before in
-    valued true 4 4 (omega arith) s.requires.0 s.requires.1 (laid_by 48 4 (entry 48 4) _ tt refl) F.line-48.ensures
+    valued true 4 4 (omega arith) s.requires.0 s.requires.1 (laid_by 48 4 (entry 48 4) _ tt refl) F.line_48.ensures
 
-pub few-4-spec : {M : Type 1} → statement M
-few-4-spec = tie.close (tie.spec slice-aggregate-line-48 line-48-requires same_length returns)
+pub few_4_spec : {M : Type 1} → statement M
+few_4_spec = tie.close (tie.spec slice-aggregate-line-48 line-48-requires same_length returns)

@@ -11,44 +11,44 @@ use Rattle.line.proofs.fast_forward.Statement.{statement}
 use Rattle.line.proofs.fast_forward.Tie as tie
 
 forward-requires : tie.Need-forward-requires
-forward-requires c κs = halves-given (line_taken _ _ _ _ c.before.before.requires) c.before.if1.true
+forward-requires c κs = halves-given (line_taken _ _ _ _ c.before.before.requires) c.before.if-kind-eq0.true
 
-is-shared-requires : tie.Need-is-shared-requires
+is-shared-requires : tie.Need-is_shared-requires
 is-shared-requires c κs = (line_taken _ _ _ _ c.before.requires).size
 
-forward-requires-2 : tie.Need-forward-requires-2
+forward-requires-2 : tie.Need-forward-requires-then-is_shared
 forward-requires-2 c κs =
-    folded-given (line_taken _ _ _ _ c.before.before.before.before.requires) c.before.before.before.if1.false (sym c.before.before.is_shared.ensures ∙ c.before.if2.true)
+    folded-given (line_taken _ _ _ _ c.before.before.before.before.requires) c.before.before.before.if-kind-eq0.false (sym c.before.before.is_shared.ensures ∙ c.before.if-is_shared.true)
 
 eight-requires : tie.Need-eight-requires
 eight-requires c κs =
-    eight (line_taken _ _ _ _ c.before.before.before.before.requires) (sym c.before.before.is_shared.ensures ∙ c.before.if2.false)
+    eight (line_taken _ _ _ _ c.before.before.before.before.requires) (sym c.before.before.is_shared.ensures ∙ c.before.if-is_shared.false)
 
-same_length : tie.Need-same-length
+same_length : tie.Need-shape_of-y-then-kind-eq0
 same_length c = search rules
 
-returns : tie.Need-returns
+returns : tie.Need-returns-then-kind-eq0
 returns c =
     let s = c.before.before.before.before.args in
-    c.before.forward.ensures ∙ ap (λ (kind : ℕ). line_of true kind s.n (at s.x.now)) (sym c.before.before.before.if1.true)
+    c.before.forward.ensures ∙ ap (λ (kind : ℕ). line_of true kind s.n (at s.x.now)) (sym c.before.before.before.if-kind-eq0.true)
 
-same-length-2 : tie.Need-same-length-2
+same-length-2 : tie.Need-shape_of-y-then-is_shared
 same-length-2 c = search rules
 
-returns-2 : tie.Need-returns-2
-returns-2 c = c.before.forward2.ensures
+returns-2 : tie.Need-returns-then-is_shared
+returns-2 c = c.before.forward-then-is_shared.ensures
 
-same-length-3 : tie.Need-same-length-3
+same-length-3 : tie.Need-shape_of-y-else-is_shared
 same-length-3 c = search rules
 
-returns-3 : tie.Need-returns-3
+returns-3 : tie.Need-returns-else-is_shared
 returns-3 c =
     let S = c.before.before.before.before.before.before in
     c.before.eight.ensures
-    ∙ ap (λ (n : ℕ). line_of true S.args.kind n (at S.args.x.now)) (sym (without (line_taken _ _ _ _ S.requires) (sym c.before.before.before.before.is_shared.ensures ∙ c.before.before.before.if2.false)))
+    ∙ ap (λ (n : ℕ). line_of true S.args.kind n (at S.args.x.now)) (sym (without (line_taken _ _ _ _ S.requires) (sym c.before.before.before.before.is_shared.ensures ∙ c.before.before.before.if-is_shared.false)))
 
-pub fast-forward-spec : {M : Type 1} → statement M
-fast-forward-spec =
+pub fast_forward_spec : {M : Type 1} → statement M
+fast_forward_spec =
     tie.close
     (tie.spec
     forward-requires

@@ -23,35 +23,35 @@ given_back s number place = (refused number place, s.args.y.now)
 abbrev done : tie.Start → Outcome
 done s = (accepted 0, line_of true s.args.kind s.args.n (at s.args.x.now))
 
-line-refusal-requires : tie.Need-line-refusal-requires
+line-refusal-requires : tie.Need-line_refusal-refusal-requires
 line-refusal-requires c κs = search rules
 
 refused-requires : tie.Need-refused-requires
 refused-requires c κs = search rules
 
-returns : tie.Need-returns
+returns : tie.Need-returns-then-refusal-ne0
 returns c =
     let s = c.before.before.before in
-    ap (λ (a : Answer). (a, s.args.y.now)) (c.refused.ensures ∙ ap (λ (number : ℕ). refused number 0) c.before.before.line-refusal.ensures)
-    ∙ sym (refused-first [] (given_back s) (done s) (tests s) tt (λ e. c.before.if1.true (c.before.before.line-refusal.ensures ∙ e)))
+    ap (λ (a : Answer). (a, s.args.y.now)) (c.refused.ensures ∙ ap (λ (number : ℕ). refused number 0) c.before.before.line_refusal-refusal.ensures)
+    ∙ sym (refused-first [] (given_back s) (done s) (tests s) tt (λ e. c.before.if-refusal-ne0.true (c.before.before.line_refusal-refusal.ensures ∙ e)))
 
-fast-forward-requires : tie.Need-fast-forward-requires
+fast-forward-requires : tie.Need-fast_forward-requires
 fast-forward-requires c κs = search rules
 
 accepted-requires : tie.Need-accepted-requires
 accepted-requires c κs = search rules
 
-same_length : tie.Need-same-length
+same_length : tie.Need-shape_of-y
 same_length c = search rules
 
-returns-2 : tie.Need-returns-2
+returns-2 : tie.Need-returns
 returns-2 c =
     let s = c.before.before.before.before.before.before in
-    ◌∙◌ {b = done s} (λ i. (c.accepted.ensures i, c.before.before.fast-forward.ensures i))
-    (sym (passed_first [] (given_back s) (done s) (tests s) tt (sym c.before.before.before.before.before.line-refusal.ensures ∙ c.before.before.before.before.if1.false)))
+    ◌∙◌ {b = done s} (λ i. (c.accepted.ensures i, c.before.before.fast_forward.ensures i))
+    (sym (passed_first [] (given_back s) (done s) (tests s) tt (sym c.before.before.before.before.before.line_refusal-refusal.ensures ∙ c.before.before.before.before.if-refusal-ne0.false)))
 
-pub forward-spec : {M : Type 1} → statement M
-forward-spec =
+pub forward_spec : {M : Type 1} → statement M
+forward_spec =
     tie.close
     (tie.spec
     line-refusal-requires

@@ -10,5 +10,5 @@ use Rattle.line.proofs.is_shared.Tie as tie
 returns : tie.Need-returns
 returns c = size-cases (λ n. not (eqb n 8) ≡ is_shared n) refl refl refl refl c.args.n c.requires
 
-pub is-shared-spec : {M : Type 1} → statement M
-is-shared-spec = tie.close (tie.spec returns)
+pub is_shared_spec : {M : Type 1} → statement M
+is_shared_spec = tie.close (tie.spec returns)

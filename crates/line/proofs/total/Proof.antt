@@ -23,35 +23,35 @@ given_back s number place = (refused number place, s.args.y.now)
 abbrev done : tie.Start → Outcome
 done s = (accepted 0, line_of s.args.forward s.args.kind s.args.n (at s.args.x.now))
 
-line-refusal-requires : tie.Need-line-refusal-requires
+line-refusal-requires : tie.Need-line_refusal-number-requires
 line-refusal-requires c κs = search rules
 
 refused-requires : tie.Need-refused-requires
 refused-requires c κs = search rules
 
-returns : tie.Need-returns
+returns : tie.Need-returns-then-number-ne0
 returns c =
     let s = c.before.before.before in
-    ap (λ (a : Answer). (a, s.args.y.now)) (c.refused.ensures ∙ ap (λ (number : ℕ). refused number 0) c.before.before.line-refusal.ensures)
-    ∙ sym (refused-first [] (given_back s) (done s) (tests s) tt (λ e. c.before.if1.true (c.before.before.line-refusal.ensures ∙ e)))
+    ap (λ (a : Answer). (a, s.args.y.now)) (c.refused.ensures ∙ ap (λ (number : ℕ). refused number 0) c.before.before.line_refusal-number.ensures)
+    ∙ sym (refused-first [] (given_back s) (done s) (tests s) tt (λ e. c.before.if-number-ne0.true (c.before.before.line_refusal-number.ensures ∙ e)))
 
 full-requires : tie.Need-full-requires
-full-requires c κs = line_taken _ _ _ _ (sym c.before.before.line-refusal.ensures ∙ c.before.if1.false)
+full-requires c κs = line_taken _ _ _ _ (sym c.before.before.line_refusal-number.ensures ∙ c.before.if-number-ne0.false)
 
 accepted-requires : tie.Need-accepted-requires
 accepted-requires c κs = search rules
 
-same_length : tie.Need-same-length
+same_length : tie.Need-shape_of-y
 same_length c = search rules
 
-returns-2 : tie.Need-returns-2
+returns-2 : tie.Need-returns
 returns-2 c =
     let s = c.before.before.before.before.before.before in
     ◌∙◌ {b = done s} (λ i. (c.accepted.ensures i, c.before.before.full.ensures i))
-    (sym (passed_first [] (given_back s) (done s) (tests s) tt (sym c.before.before.before.before.before.line-refusal.ensures ∙ c.before.before.before.before.if1.false)))
+    (sym (passed_first [] (given_back s) (done s) (tests s) tt (sym c.before.before.before.before.before.line_refusal-number.ensures ∙ c.before.before.before.before.if-number-ne0.false)))
 
-pub total-spec : {M : Type 1} → statement M
-total-spec =
+pub total_spec : {M : Type 1} → statement M
+total_spec =
     tie.close
     (tie.spec
     line-refusal-requires

@@ -52,107 +52,107 @@ done s =
 abbrev outcome : tie.Start → Outcome
 outcome s = long_outcome s.args.extended s.args.shape s.args.coefficients.now s.args.residuals.now
 
-passed : (c : tie.Else1) → number_of (seven c.before.before) ≡ 0
-passed c = sym c.before.block-refusal.ensures ∙ c.if1.false
+passed : (c : tie.Else-number-ne0) → number_of (seven c.before.before) ≡ 0
+passed c = sym c.before.block_refusal-number.ensures ∙ c.if-number-ne0.false
 
-past : (c : tie.Else1) → let s = c.before.before in outcome s ≡ first_of (eight s) (refuse s) (done s)
+past : (c : tie.Else-number-ne0) → let s = c.before.before in outcome s ≡ first_of (eight s) (refuse s) (done s)
 past c = let s = c.before.before in passed_first (eight s) (refuse s) (done s) (seven s) tt (passed c)
 
-taken : (c : tie.Else1) → let s = c.before.before in TakenLongBlock s.args.extended s.args.shape s.args.coefficients.now s.args.residuals.now
+taken : (c : tie.Else-number-ne0) → let s = c.before.before in TakenLongBlock s.args.extended s.args.shape s.args.coefficients.now s.args.residuals.now
 taken c = let s = c.before.before in long-block-taken s.args.shape s.args.coefficients.now s.args.residuals.now s.args.extended (passed c)
 
-turned : (c : tie.Else1) → let s = c.before.before in length s.args.coefficients.now ≡ s.args.shape.height * s.args.shape.width
+turned : (c : tie.Else-number-ne0) → let s = c.before.before in length s.args.coefficients.now ≡ s.args.shape.height * s.args.shape.width
 turned c = let s = c.before.before in (taken c).long ∙ mul_comm s.args.shape.width s.args.shape.height
 
 -- past 8
-none-outside : (c : tie.Else2) → let s = c.before.before.before.before in length s.args.coefficients.now ≤ place s
-none-outside c = omega (arith, c.before.first-outside.ensures, c.if2.false)
+none-outside : (c : tie.Else-place-coefficients) → let s = c.before.before.before.before in length s.args.coefficients.now ≤ place s
+none-outside c = omega (arith, c.before.first_outside-place.ensures, c.if-place-coefficients.false)
 
-past8 : (c : tie.Else2) → let s = c.before.before.before.before in outcome s ≡ first_of (last s) (refuse s) (done s)
+past8 : (c : tie.Else-place-coefficients) → let s = c.before.before.before.before in outcome s ≡ first_of (last s) (refuse s) (done s)
 past8 c =
     let s = c.before.before.before.before in
     past c.before.before ∙ rw (le-ltb (place s) (length s.args.coefficients.now) (none-outside c))
 
 -- where the first coefficient beyond the range stands
-beyond-is : (c : tie.After-first-beyond) → let s = c.before.before.before.before.before.before in c.first-beyond.result ≡ far s
+beyond-is : (c : tie.After-first_beyond-far) → let s = c.before.before.before.before.before.before in c.first_beyond-far.result ≡ far s
 beyond-is c =
     let s = c.before.before.before.before.before.before in
-    c.first-beyond.ensures ∙ ap (λ (r : ℕ). first_beyond (range_of r) s.args.coefficients.now) c.before.reach_of.ensures
+    c.first_beyond-far.ensures ∙ ap (λ (r : ℕ). first_beyond (range_of r) s.args.coefficients.now) c.before.reach_of-reach.ensures
 
-block-refusal-requires : tie.Need-block-refusal-requires
+block-refusal-requires : tie.Need-block_refusal-number-requires
 block-refusal-requires c κs = search rules
 
 refused-requires : tie.Need-refused-requires
 refused-requires c κs = search rules
 
-returns : tie.Need-returns
+returns : tie.Need-returns-then-number-ne0
 returns c =
     let s = c.before.before.before in
-    let n = c.before.before.block-refusal.ensures in
+    let n = c.before.before.block_refusal-number.ensures in
     ap (λ (a : Answer). (a, s.args.residuals.now)) c.refused.ensures ∙ ap (λ (n : ℕ). refuse s n 0) n
-    ∙ sym (refused-first (eight s) (refuse s) (done s) (seven s) tt (λ e. c.before.if1.true (n ∙ e)))
+    ∙ sym (refused-first (eight s) (refuse s) (done s) (seven s) tt (λ e. c.before.if-number-ne0.true (n ∙ e)))
 
-first-outside-requires : tie.Need-first-outside-requires
+first-outside-requires : tie.Need-first_outside-place-requires
 first-outside-requires c κs = (taken c).long
 
-cast-refused : tie.Need-overflow-cast-refused
-cast-refused c = omega (arith, c.if2.true, few c.before.before.before.before.args.shape (taken c.before.before))
+cast-refused : tie.Need-overflow_cast-place
+cast-refused c = omega (arith, c.if-place-coefficients.true, few c.before.before.before.before.args.shape (taken c.before.before))
 
-refused-requires-2 : tie.Need-refused-requires-2
+refused-requires-2 : tie.Need-refused-requires-then-place-coefficients
 refused-requires-2 c κs = search rules
 
-returns-2 : tie.Need-returns-2
+returns-2 : tie.Need-returns-then-place-coefficients
 returns-2 c =
     let s = c.before.before.before.before.before in
-    let h = c.before.before.first-outside.ensures in
-    let l : ltb (place s) (length s.args.coefficients.now) ≡ true = lt-ltb (place s) (length s.args.coefficients.now) (omega (arith, h, c.before.if2.true)) in
-    ap (λ (a : Answer). (a, s.args.residuals.now)) c.refused2.ensures ∙ ap (λ (n : ℕ). refuse s 8 n) h
+    let h = c.before.before.first_outside-place.ensures in
+    let l : ltb (place s) (length s.args.coefficients.now) ≡ true = lt-ltb (place s) (length s.args.coefficients.now) (omega (arith, h, c.before.if-place-coefficients.true)) in
+    ap (λ (a : Answer). (a, s.args.residuals.now)) c.refused-then-place-coefficients.ensures ∙ ap (λ (n : ℕ). refuse s 8 n) h
     ∙ sym (past c.before.before.before ∙ rw l)
 
-reach-of-requires : tie.Need-reach-of-requires
+reach-of-requires : tie.Need-reach_of-reach-requires
 reach-of-requires c κs = search rules
 
-first-beyond-requires : tie.Need-first-beyond-requires
+first-beyond-requires : tie.Need-first_beyond-far-requires
 first-beyond-requires c κs =
     let s = c.before.before.before.before.before in
-    omega (arith, c.reach_of.ensures, reach-in s.args.extended s.args.shape.depth)
+    omega (arith, c.reach_of-reach.ensures, reach-in s.args.extended s.args.shape.depth)
 
-cast-refused-2 : tie.Need-overflow-cast-refused-2
+cast-refused-2 : tie.Need-overflow_cast-far
 cast-refused-2 c =
     let E = c.before.before.before.before.before in
-    omega (arith, c.if3.true, few E.before.before.args.shape (taken E))
+    omega (arith, c.if-far-coefficients.true, few E.before.before.args.shape (taken E))
 
-refused-requires-3 : tie.Need-refused-requires-3
+refused-requires-3 : tie.Need-refused-requires-then-far-coefficients
 refused-requires-3 c κs = search rules
 
-returns-3 : tie.Need-returns-3
+returns-3 : tie.Need-returns-then-far-coefficients
 returns-3 c =
     let B = c.before.before in
     let s = B.before.before.before.before.before.before in
-    let l : ltb (far s) (length s.args.coefficients.now) ≡ true = lt-ltb (far s) (length s.args.coefficients.now) (omega (arith, beyond-is B, c.before.if3.true)) in
-    ap (λ (a : Answer). (a, s.args.residuals.now)) c.refused3.ensures ∙ ap (λ (n : ℕ). refuse s 27 n) (beyond-is B)
+    let l : ltb (far s) (length s.args.coefficients.now) ≡ true = lt-ltb (far s) (length s.args.coefficients.now) (omega (arith, beyond-is B, c.before.if-far-coefficients.true)) in
+    ap (λ (a : Answer). (a, s.args.residuals.now)) c.refused-then-far-coefficients.ensures ∙ ap (λ (n : ℕ). refuse s 27 n) (beyond-is B)
     ∙ sym (past8 B.before.before ∙ rw l)
 
-cast-w : tie.Need-overflow-cast-w
+cast-w : tie.Need-overflow_cast-w
 cast-w c = search rules
 
-cast-row-pairs : tie.Need-overflow-cast-row-pairs
+cast-row-pairs : tie.Need-overflow_cast-shape
 cast-row-pairs c = search rules
 
-row-pairs-requires : tie.Need-row-pairs-requires
+row-pairs-requires : tie.Need-row_pairs-rows-requires
 row-pairs-requires c κs =
     let E = c.before.before.before.before.before.before.before in
     ((taken E).taken.width, ((taken E).taken.height, turned E))
 
-mul-column-pairs : tie.Need-overflow-mul-column-pairs
+mul-column-pairs : tie.Need-overflow_mul-rows
 mul-column-pairs c =
     let E = c.before.before.before.before.before.before.before.before in
-    omega (arith, c.row-pairs.ensures.0, size_in E.before.before.args.shape.height (taken E).taken.height)
+    omega (arith, c.row_pairs-rows.ensures.0, size_in E.before.before.args.shape.height (taken E).taken.height)
 
-column-pairs-requires : tie.Need-column-pairs-requires
+column-pairs-requires : tie.Need-column_pairs-columns-requires
 column-pairs-requires c κs =
     let E = c.before.before.before.before.before.before.before.before in
-    ((taken E).taken.width, omega (arith, turned E, mul-le-mul_right E.before.before.args.shape.width c.row-pairs.ensures.0))
+    ((taken E).taken.width, omega (arith, turned E, mul-le-mul_right E.before.before.args.shape.width c.row_pairs-rows.ensures.0))
 
 stages-requires : tie.Need-stages-requires
 stages-requires c κs =
@@ -166,29 +166,29 @@ stages-requires c κs =
     let t = taken E in
     record {
       block = t;
-      live = live-part sh.width sh.height (2 * K.column-pairs.result) (2 * R.row-pairs.result) l K.column-pairs.ensures.0 R.row-pairs.ensures.0 R.row-pairs.ensures.1 K.column-pairs.ensures.1;
+      live = live-part sh.width sh.height (2 * K.column_pairs-columns.result) (2 * R.row_pairs-rows.result) l K.column_pairs-columns.ensures.0 R.row_pairs-rows.ensures.0 R.row_pairs-rows.ensures.1 K.column_pairs-columns.ensures.1;
       kept = kept-part (long_plan s.args.extended sh) l t.long (columns-kept sh t.taken).within (rows-kept sh t.taken).within (none-outside E2);
     }
 
 accepted-requires : tie.Need-accepted-requires
 accepted-requires c κs = search rules
 
-same_length : tie.Need-same-length
+same_length : tie.Need-shape_of-residuals
 same_length c = search rules
 
-returns-4 : tie.Need-returns-4
+returns-4 : tie.Need-returns
 returns-4 c =
     let S = c.before.before in
     let F = S.before.before.before.before.before.before in
     let B = F.before in
     let s = B.before.before.before.before.before.before in
-    let l : ltb (far s) (length s.args.coefficients.now) ≡ false = le-ltb (far s) (length s.args.coefficients.now) (omega (arith, beyond-is B, F.if3.false)) in
+    let l : ltb (far s) (length s.args.coefficients.now) ≡ false = le-ltb (far s) (length s.args.coefficients.now) (omega (arith, beyond-is B, F.if-far-coefficients.false)) in
     let e = S.stages.ensures in
     (λ i. (c.accepted.ensures i, e.1 i)) ∙ ap (λ (n : ℕ). (accepted n, inverse_block (long_plan s.args.extended s.args.shape) s.args.coefficients.now)) e.0
     ∙ sym (past8 B.before.before ∙ rw l)
 
-pub inverse-spec : {M : Type 1} → statement M
-inverse-spec =
+pub inverse_spec : {M : Type 1} → statement M
+inverse_spec =
     tie.close
     (tie.spec
     block-refusal-requires

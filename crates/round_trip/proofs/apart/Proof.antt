@@ -19,13 +19,13 @@ here : (c : tie.Start) → Place c.args.kind c.args.n c.args.j c.args.k
 here c = place c.args.kind c.args.n c.args.j c.args.k c.requires
 
 -- the two numbers of the difference
-product-of : (c : tie.After-column-product) → let s = c.before.args in to_z w32 (of_z w32 c.column-product.result) ≡ G s.kind s.n s.j s.k
-product-of c = to_z-of_z w32 c.column-product.result (search rules) ∙ c.column-product.ensures
+product-of : (c : tie.After-column_product) → let s = c.before.args in to_z w32 (of_z w32 c.column_product.result) ≡ G s.kind s.n s.j s.k
+product-of c = to_z-of_z w32 c.column_product.result (search rules) ∙ c.column_product.ensures
 
 off_of : (c : tie.After-off) → let s = c.before.before.args in to_z w32 (of_z w32 c.off.result) ≡ cond (eqb s.k s.j) (pos (4096 * s.n)) (pos 0)
 off_of c = to_z-of_z w32 c.off.result (search rules) ∙ c.off.ensures
 
-column-product-requires : tie.Need-column-product-requires
+column-product-requires : tie.Need-column_product-requires
 column-product-requires c κs = search rules
 
 off-requires : tie.Need-off-requires
@@ -50,6 +50,6 @@ returns c =
     ∙ ap nat_abs (to_z-of_z w32 c.before.minus.result (search rules) ∙ c.before.minus.ensures
     ∙ (λ t. product-of c.before.before.before t -ℤ off_of c.before.before t))
 
-pub apart-spec : {M : Type 1} → statement M
-apart-spec =
+pub apart_spec : {M : Type 1} → statement M
+apart_spec =
     tie.close (tie.spec column-product-requires off-requires minus-requires size-requires returns)

@@ -8,17 +8,17 @@ use mir.ValLaws.{to_z_pos}
 use Rattle.round_trip.proofs.off.Statement.{statement}
 use Rattle.round_trip.proofs.off.Tie as tie
 
-mul-result : tie.Need-overflow-mul-result
+mul-result : tie.Need-overflow_mul-result
 mul-result c = search rules
 
-cast-result : tie.Need-overflow-cast-result
+cast-result : tie.Need-overflow_cast-result
 cast-result c = search rules
 
-returns : tie.Need-returns
-returns c = rw (eq-eqb _ _ c.if1.true) (to_z_pos w32 (4096 * c.before.args.n) (omega (arith, c.before.requires)))
+returns : tie.Need-returns-then-k-j
+returns c = rw (eq-eqb _ _ c.if-k-j.true) (to_z_pos w32 (4096 * c.before.args.n) (omega (arith, c.before.requires)))
 
-returns-2 : tie.Need-returns-2
-returns-2 c = rw (ne_eqb _ _ c.if1.false)
+returns-2 : tie.Need-returns-else-k-j
+returns-2 c = rw (ne_eqb _ _ c.if-k-j.false)
 
-pub off-spec : {M : Type 1} → statement M
-off-spec = tie.close (tie.spec mul-result cast-result returns returns-2)
+pub off_spec : {M : Type 1} → statement M
+off_spec = tie.close (tie.spec mul-result cast-result returns returns-2)

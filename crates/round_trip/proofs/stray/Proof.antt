@@ -1,6 +1,5 @@
 -- `stray` meets its contract: the sizes before k. Assumes nothing.
 use borrow.Author.Rules.{rules}
-use borrow.Author.Tests.{not-true, not-false}
 use native.Mathlib.Omega.{arith}
 use mathlib.Core.Path.{◌≡◌, refl, sym, ap, ◌∙◌}
 use mathlib.Core.Bool.{true}
@@ -15,65 +14,65 @@ use Rattle.round_trip.proofs.Bounds.{column-place, column-size, column-in, less-
 use Rattle.round_trip.proofs.stray.Statement.{statement}
 use Rattle.round_trip.proofs.stray.Tie as tie
 
-abbrev invariant-loop : tie.invariant-loop
+abbrev invariant-loop : tie.invariant-loop-k
 invariant-loop kind n j total₀ k₀ total k = (k ≤ n) × (total ≡ sumℕ k (λ k. nat_abs (less kind n j k)))
 
-abbrev decreases-loop : tie.decreases-loop
+abbrev decreases-loop : tie.decreases-loop-k
 decreases-loop kind n j total₀ k₀ total k = n - k
 
 -- a column that there is
-there : (c : tie.Else1 invariant-loop decreases-loop) → let s = c.before.before.args in is_column s.kind s.n s.j ≡ true
-there c = sym c.before.is-column.ensures ∙ not-false c.before.is-column.result c.if1.false
+there : (c : tie.Else-not-is_column invariant-loop decreases-loop) → let s = c.before.before.args in is_column s.kind s.n s.j ≡ true
+there c = sym c.before.is_column.ensures ∙ c.if-not-is_column.false
 
-size : (c : tie.Else1 invariant-loop decreases-loop) → is_size c.before.before.args.n ≡ true
+size : (c : tie.Else-not-is_column invariant-loop decreases-loop) → is_size c.before.before.args.n ≡ true
 size c = let s = c.before.before.args in column-size s.kind s.n s.j (there c)
 
-is-column-requires : tie.Need-is-column-requires invariant-loop decreases-loop
+is-column-requires : tie.Need-is_column-requires invariant-loop decreases-loop
 is-column-requires c κs = search rules
 
-returns : tie.Need-returns invariant-loop decreases-loop
-returns c = rw (← c.before.is-column.ensures, not-true c.before.is-column.result c.if1.true)
+returns : tie.Need-returns-then-not-is_column invariant-loop decreases-loop
+returns c = rw (← c.before.is_column.ensures, c.if-not-is_column.true)
 
-loop-holds : tie.Need-loop-init invariant-loop decreases-loop
+loop-holds : tie.Need-loop-k-init invariant-loop decreases-loop
 unfolding sumℕ
 loop-holds c = let s = c.before.before.args in (omega (arith, column-in s.kind s.n s.j (there c)), refl)
 
-apart-requires : tie.Need-apart-requires invariant-loop decreases-loop
+apart-requires : tie.Need-apart-total-requires invariant-loop decreases-loop
 apart-requires c κs =
     let s = c.before.before.before.before.args in
-    column-place s.kind s.n s.j c.before.loop.k (there c.before.before) c.loop-test.true
+    column-place s.kind s.n s.j c.before.loop-k.k (there c.before.before) c.loop-k-test.true
 
-add_total : tie.Need-overflow-add-total invariant-loop decreases-loop
+add_total : tie.Need-overflow_add-total invariant-loop decreases-loop
 add_total c =
     let s = c.before.before.before.before.before.args in
     let L = c.before.before in
     let n = size L.before in
-    record { fits = omega (arith, c.before.loop-test.true, size_in s.n n, L.loop.invariant.1, c.apart.ensures, sizes-in s.kind s.n s.j L.loop.k n, less-in s.kind s.n s.j L.loop.k n) }
+    record { fits = omega (arith, c.before.loop-k-test.true, size_in s.n n, L.loop-k.invariant.1, c.apart-total.ensures, sizes-in s.kind s.n s.j L.loop-k.k n, less-in s.kind s.n s.j L.loop-k.k n) }
 
-add-k : tie.Need-overflow-add-k invariant-loop decreases-loop
+add-k : tie.Need-overflow_add-k invariant-loop decreases-loop
 add-k c = search rules
 
-loop-less : tie.Need-loop-smaller invariant-loop decreases-loop
+loop-less : tie.Need-loop-k-smaller invariant-loop decreases-loop
 loop-less c = search rules
 
-loop-again : tie.Need-loop-preserved invariant-loop decreases-loop
+loop-again : tie.Need-loop-k-preserved invariant-loop decreases-loop
 loop-again c =
     let s = c.before.before.before.before.before.args in
     let L = c.before.before in (
-      omega (arith, c.before.loop-test.true),
-      (λ t. L.loop.invariant.1 t + c.apart.ensures t) ∙ sym (sumℕ-next L.loop.k (λ k. nat_abs (less s.kind s.n s.j k))),
+      omega (arith, c.before.loop-k-test.true),
+      (λ t. L.loop-k.invariant.1 t + c.apart-total.ensures t) ∙ sym (sumℕ-next L.loop-k.k (λ k. nat_abs (less s.kind s.n s.j k))),
     )
 
-returns-2 : tie.Need-returns-2 invariant-loop decreases-loop
+returns-2 : tie.Need-returns invariant-loop decreases-loop
 unfolding D
 returns-2 c =
     let s = c.before.before.before.before.args in
     let L = c.before in
-    let e : L.loop.k ≡ s.n = omega arith in
-    L.loop.invariant.1
+    let e : L.loop-k.k ≡ s.n = omega arith in
+    L.loop-k.invariant.1
     ∙ ap (λ (m : ℕ). sumℕ m (λ k. nat_abs (less s.kind s.n s.j k))) e
     ∙ rw (there L.before)
 
-pub stray-spec : {M : Type 1} → statement M
-stray-spec =
+pub stray_spec : {M : Type 1} → statement M
+stray_spec =
     tie.close (tie.spec invariant-loop decreases-loop is-column-requires returns loop-holds apart-requires add_total add-k loop-less loop-again returns-2)

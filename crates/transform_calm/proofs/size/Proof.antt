@@ -22,31 +22,31 @@ turned c = sub (lit w32 0) (v c) tt
 word : (z y : ℤ) → nat_abs z ≤ 1048576 → nat_abs y ≡ nat_abs z → Fits w32 (nat_abs y)
 word z y f e = record { fits = omega (arith, f) }
 
-below : (c : tie.Then1) → lt_z c.before.args.v (pos 0) ≡ true
-below c = ap (λ (z : ℤ). lt_z z (pos 0)) (sym (val (v c.before))) ∙ c.if1.true
+below : (c : tie.Then-v-lt0) → lt_z c.before.args.v (pos 0) ≡ true
+below c = ap (λ (z : ℤ). lt_z z (pos 0)) (sym (val (v c.before))) ∙ c.if-v-lt0.true
 
-above : (c : tie.Else1) → lt_z c.before.args.v (pos 0) ≡ false
-above c = ap (λ (z : ℤ). lt_z z (pos 0)) (sym (val (v c.before))) ∙ c.if1.false
+above : (c : tie.Else-v-lt0) → lt_z c.before.args.v (pos 0) ≡ false
+above c = ap (λ (z : ℤ). lt_z z (pos 0)) (sym (val (v c.before))) ∙ c.if-v-lt0.false
 
-sub-result : tie.Need-overflow-sub-result
+sub-result : tie.Need-overflow_sub-result
 sub-result c = sub-fits (lit w32 0) (v c.before) tt
 
-cast-result : tie.Need-overflow-cast-result
+cast-result : tie.Need-overflow_cast-result
 cast-result c =
     let z = c.before.args.v in
     let n = below-turned z (below c) in
     subst (λ (y : ℤ). T (non_neg y) × Fits w32 (nat_abs y)) (sym (val (turned c.before))) (n.0, word z (pos 0 -ℤ z) c.before.requires n.1)
 
-returns : tie.Need-returns
+returns : tie.Need-returns-then-v-lt0
 returns c = ap nat_abs (val (turned c.before)) ∙ (below-turned c.before.args.v (below c)).1
 
-cast-result-2 : tie.Need-overflow-cast-result-2
+cast-result-2 : tie.Need-overflow_cast-result-2
 cast-result-2 c =
     let z = c.before.args.v in
     subst (λ (y : ℤ). T (non_neg y) × Fits w32 (nat_abs y)) (sym (val (v c.before))) (not-below z (above c), word z z c.before.requires refl)
 
-returns-2 : tie.Need-returns-2
+returns-2 : tie.Need-returns
 returns-2 c = ap nat_abs (val (v c.before))
 
-pub size-spec : {M : Type 1} → statement M
-size-spec = tie.close (tie.spec sub-result cast-result returns cast-result-2 returns-2)
+pub size_spec : {M : Type 1} → statement M
+size_spec = tie.close (tie.spec sub-result cast-result returns cast-result-2 returns-2)

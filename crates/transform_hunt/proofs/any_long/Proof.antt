@@ -15,50 +15,50 @@ use Rattle.meaning.specs.Long.{beyond}
 use Rattle.transform_hunt.proofs.any_long.Statement.{statement}
 use Rattle.transform_hunt.proofs.any_long.Tie as tie
 
-abbrev invariant-loop : tie.invariant-loop
+abbrev invariant-loop : tie.invariant-loop-k
 invariant-loop c count found₀ k₀ found k = (k ≤ count) × (found ≡ false → (i : ℕ) → i < k → beyond (range_of 15) (at c i) ≡ false)
 
-abbrev decreases-loop : tie.decreases-loop
+abbrev decreases-loop : tie.decreases-loop-k
 decreases-loop c count found₀ k₀ found k = count - k
 
-loop-holds : tie.Need-loop-init invariant-loop decreases-loop
+loop-holds : tie.Need-loop-k-init invariant-loop decreases-loop
 loop-holds c = (omega arith, λ e i h. absurd (omega arith))
 
-mul-is-beyond : tie.Need-overflow-mul-is-beyond invariant-loop decreases-loop
-mul-is-beyond c = omega (arith, c.loop-test.true, c.before.before.requires)
+mul-is-beyond : tie.Need-offset_bounds-c-k invariant-loop decreases-loop
+mul-is-beyond c = omega (arith, c.loop-k-test.true, c.before.before.requires)
 
-shared-slice-copy-out-is-beyond : tie.Need-shared-slice-copy-out-is-beyond invariant-loop decreases-loop
-shared-slice-copy-out-is-beyond c = omega (arith, c.loop-test.true, c.before.before.requires)
+shared-slice-copy-out-is-beyond : tie.Need-bounds-c-k invariant-loop decreases-loop
+shared-slice-copy-out-is-beyond c = omega (arith, c.loop-k-test.true, c.before.before.requires)
 
-is-beyond-requires : tie.Need-is-beyond-requires invariant-loop decreases-loop
+is-beyond-requires : tie.Need-is_beyond-requires invariant-loop decreases-loop
 is-beyond-requires c κs = omega arith
 
-add-k : tie.Need-overflow-add-k invariant-loop decreases-loop
+add-k : tie.Need-overflow_add-k invariant-loop decreases-loop
 add-k c = search rules
 
-loop-less : tie.Need-loop-smaller invariant-loop decreases-loop
+loop-less : tie.Need-loop-k-smaller invariant-loop decreases-loop
 loop-less c = search rules
 
-loop-again : tie.Need-loop-preserved invariant-loop decreases-loop
+loop-again : tie.Need-loop-k-preserved invariant-loop decreases-loop
 loop-again c = (
-  omega (arith, c.before.before.before.loop-test.true),
+  omega (arith, c.before.before.before.loop-k-test.true),
   λ f.
       let E = c.before in
       let L = E.before.before.before in
       let n = L.before.args.c.now in
-      let told : beyond (range_of 15) (at n L.loop.k) ≡ E.is-beyond.result =
-      sym (E.is-beyond.ensures ∙ ap (beyond (range_of 15)) (to_z-of_z w32 (at n L.loop.k) (record { sfits = E.before.is-beyond-arg.given }))) in
+      let told : beyond (range_of 15) (at n L.loop-k.k) ≡ E.is_beyond.result =
+      sym (E.is_beyond.ensures ∙ ap (beyond (range_of 15)) (to_z-of_z w32 (at n L.loop-k.k) (record { sfits = E.before.is_beyond-arg-1.given }))) in
       ⊎_elim
-      (λ t. absurd (true≢false (sym t.1 ∙ f)))
-      (λ t. below_more (λ i. beyond (range_of 15) (at n i) ≡ false) L.loop.k (L.loop.invariant.1 (sym t.1 ∙ f)) (told ∙ t.0.left))
-      c.if1.branch,
+      (λ t. absurd (true≢false (sym t.found-is ∙ f)))
+      (λ t. below_more (λ i. beyond (range_of 15) (at n i) ≡ false) L.loop-k.k (L.loop-k.invariant.1 (sym t.found-is ∙ f)) (told ∙ t.if-is_beyond.false))
+      c.if-is_beyond.branch-raw,
 )
 
 returns : tie.Need-returns invariant-loop decreases-loop
-returns c f i h = c.before.loop.invariant.1 f i (omega (arith, c.loop-test.false))
+returns c f i h = c.before.loop-k.invariant.1 f i (omega (arith, c.loop-k-test.false))
 
-pub any-long-spec : {M : Type 1} → statement M
-any-long-spec =
+pub any_long_spec : {M : Type 1} → statement M
+any_long_spec =
     tie.close
     (tie.spec
     invariant-loop

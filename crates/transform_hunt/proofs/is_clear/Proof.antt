@@ -11,16 +11,16 @@ use Rattle.meaning.specs.Long.{beyond}
 use Rattle.transform_hunt.proofs.is_clear.Statement.{statement}
 use Rattle.transform_hunt.proofs.is_clear.Tie as tie
 
-returns : tie.Need-returns
+returns : tie.Need-returns-then-reach-ne15
 returns c e = absurd (false≢true e)
 
-any-long-requires : tie.Need-any-long-requires
+any-long-requires : tie.Need-any_long-requires
 any-long-requires c κs = search rules
 
-returns-2 : tie.Need-returns-2
+returns-2 : tie.Need-returns
 returns-2 c e k h =
     let s = c.before.before in
-    subst (λ (r : ℕ). beyond (range_of r) (at s.args.c.now k) ≡ false) (sym c.before.if1.false) (c.any-long.ensures (not-true _ e) k h)
+    subst (λ (r : ℕ). beyond (range_of r) (at s.args.c.now k) ≡ false) (sym c.before.if-reach-ne15.false) (c.any_long.ensures (not-true _ e) k h)
 
-pub is-clear-spec : {M : Type 1} → statement M
-is-clear-spec = tie.close (tie.spec returns any-long-requires returns-2)
+pub is_clear_spec : {M : Type 1} → statement M
+is_clear_spec = tie.close (tie.spec returns any-long-requires returns-2)

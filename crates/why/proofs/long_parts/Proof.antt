@@ -24,32 +24,32 @@ module _ (s : tie.Start) where
   abbrev rest : List Refusal
   rest = outside_test p l ∷ beyond_test p l ∷ place_test p s.args.place ∷ []
 
-block-refusal-requires : tie.Need-block-refusal-requires
+block-refusal-requires : tie.Need-block_refusal-number-requires
 block-refusal-requires c κs = search rules
 
 refused-requires : tie.Need-refused-requires
 refused-requires c κs = search rules
 
-returns : tie.Need-returns
+returns : tie.Need-returns-then-number-ne0
 returns c =
     let E = c.before.before in
     let s = E.before in
-    let e = E.block-refusal.ensures in
+    let e = E.block_refusal-number.ensures in
     c.refused.ensures ∙ ap (λ (n : ℕ). no_parts n 0) e
-    ∙ sym (refuses s.args.extended s.args.shape (l s) no_parts (parts_of (p s) (l s) s.args.place) (rest s) (λ z. c.before.if1.true (e ∙ z)))
+    ∙ sym (refuses s.args.extended s.args.shape (l s) no_parts (parts_of (p s) (l s) s.args.place) (rest s) (λ z. c.before.if-number-ne0.true (e ∙ z)))
 
-clear : (c : tie.Else1) → let s = c.before.before in number_of (seven s.args.extended s.args.shape (l s)) ≡ 0
-clear c = sym c.before.block-refusal.ensures ∙ c.if1.false
+clear : (c : tie.Else-number-ne0) → let s = c.before.before in number_of (seven s.args.extended s.args.shape (l s)) ≡ 0
+clear c = sym c.before.block_refusal-number.ensures ∙ c.if-number-ne0.false
 
 later-requires : tie.Need-later-requires
 later-requires c κs = let s = c.before.before in long-block-taken s.args.shape (l s) (l s) s.args.extended (clear c)
 
-past : (c : tie.Else1) → let s = c.before.before in
+past : (c : tie.Else-number-ne0) → let s = c.before.before in
     long_why_outcome s.args.extended s.args.shape (l s) s.args.place ≡ first_of (rest s) no_parts (parts_of (p s) (l s) s.args.place)
 past c = let s = c.before.before in passes s.args.extended s.args.shape (l s) no_parts (parts_of (p s) (l s) s.args.place) (rest s) (clear c)
 
-returns-2 : tie.Need-returns-2
+returns-2 : tie.Need-returns
 returns-2 c = c.later.ensures ∙ sym (past c.before)
 
-pub long-parts-spec : {M : Type 1} → statement M
-long-parts-spec = tie.close (tie.spec block-refusal-requires refused-requires returns later-requires returns-2)
+pub long_parts_spec : {M : Type 1} → statement M
+long_parts_spec = tie.close (tie.spec block-refusal-requires refused-requires returns later-requires returns-2)

@@ -25,24 +25,24 @@ use Rattle.why.proofs.parts.Tie as tie
 abbrev l : tie.Start → List ℤ
 l s = s.args.coefficients.now
 
-block-refusal-requires : tie.Need-block-refusal-requires
+block-refusal-requires : tie.Need-block_refusal-number-requires
 block-refusal-requires c κs = search rules
 
 refused-requires : tie.Need-refused-requires
 refused-requires c κs = search rules
 
-returns : tie.Need-returns
+returns : tie.Need-returns-then-number-ne0
 unfolding is_long_depth
 returns c =
     let E = c.before.before in
     let s = E.before in
     let p = plan_of s.args.shape in
-    let e = E.block-refusal.ensures in
+    let e = E.block_refusal-number.ensures in
     c.refused.ensures ∙ ap (λ (n : ℕ). no_parts n 0) e
-    ∙ sym (refuses false s.args.shape (l s) no_parts (parts_of p (l s) s.args.place) (outside_test p (l s) ∷ place_test p s.args.place ∷ []) (λ z. c.before.if1.true (e ∙ z)))
+    ∙ sym (refuses false s.args.shape (l s) no_parts (parts_of p (l s) s.args.place) (outside_test p (l s) ∷ place_test p s.args.place ∷ []) (λ z. c.before.if-number-ne0.true (e ∙ z)))
 
 -- past 1 to 5, 20 and 6
-module _ (c : tie.Else1) where
+module _ (c : tie.Else-number-ne0) where
   abbrev s : tie.Start
   s = c.before.before
 
@@ -53,7 +53,7 @@ module _ (c : tie.Else1) where
   later m = first_of (outside_test p m ∷ beyond_test p m ∷ place_test p s.args.place ∷ []) no_parts (parts_of p m s.args.place)
 
   clear : number_of (seven false s.args.shape (l s)) ≡ 0
-  clear = sym c.before.block-refusal.ensures ∙ c.if1.false
+  clear = sym c.before.block_refusal-number.ensures ∙ c.if-number-ne0.false
 
   taken : Passed false s.args.shape (l s)
   taken = long-block-taken s.args.shape (l s) (l s) false clear
@@ -64,49 +64,49 @@ module _ (c : tie.Else1) where
   past : long_why_outcome false s.args.shape (l s) s.args.place ≡ later (l s)
   past = passes false s.args.shape (l s) no_parts (parts_of p (l s) s.args.place) (outside_test p (l s) ∷ beyond_test p (l s) ∷ place_test p s.args.place ∷ []) clear
 
-room-requires : tie.Need-room-requires
+room-requires : tie.Need-room-wide-requires
 room-requires c κs = search rules
 
-sub-widen : tie.Need-overflow-sub-widen
+sub-widen : tie.Need-slice_bounds-widen-count
 sub-widen c = search rules
 
-part-wide-start : tie.Need-slice-bounds-wide-start
+part-wide-start : tie.Need-slice_bounds-wide-start
 part-wide-start c = search rules
 
-part-wide-end : tie.Need-slice-bounds-wide-end
-part-wide-end c = omega (arith, short c.before, c.room.ensures)
+part-wide-end : tie.Need-slice_bounds-wide-end
+part-wide-end c = omega (arith, short c.before, c.room-wide.ensures)
 
 widen-requires : tie.Need-widen-requires
 widen-requires c κs =
     let R = c.before in
     let s = R.before.before.before in
-    sym (part-long (length (l s)) R.room.result (omega (arith, short R.before, R.room.ensures)))
+    sym (part-long (length (l s)) R.room-wide.result (omega (arith, short R.before, R.room-wide.ensures)))
 
 -- the part that is lent again holds the coefficients
-sub-later : tie.Need-overflow-sub-later
+sub-later : tie.Need-slice_bounds-later-count
 sub-later c = search rules
 
-part-later-start : tie.Need-slice-bounds-later-start
+part-later-start : tie.Need-slice_bounds-later-start
 part-later-start c = search rules
 
-part-later-end : tie.Need-slice-bounds-later-end
-part-later-end c = simp length-append (omega (arith, ap length c.before.before.widen.ensures.0))
+part-later-end : tie.Need-slice_bounds-later-end
+part-later-end c = simp length-append (omega (arith, ap length c.widen.ensures.0))
 
 later-requires : tie.Need-later-requires
 later-requires c κs =
-    let W = c.before.before.before in
+    let W = c.before.before in
     let E = W.before.before.before in
     subst (Passed false (s E).args.shape) (sym (part_same (length (l (s E))) _ _ (ap length W.widen.ensures.0) ∙ W.widen.ensures.0)) (taken E)
 
-returns-2 : tie.Need-returns-2
+returns-2 : tie.Need-returns
 returns-2 c =
-    let W = c.before.before.before.before in
+    let W = c.before.before.before in
     let E = W.before.before.before in
     subst (λ (m : List ℤ). c.later.result ≡ later E m) (part_same (length (l (s E))) _ _ (ap length W.widen.ensures.0) ∙ W.widen.ensures.0) c.later.ensures
     ∙ sym (past E) ∙ why-off (s E).args.shape (l (s E)) W.widen.ensures.1 (s E).args.place
 
-pub parts-spec : {M : Type 1} → statement M
-parts-spec =
+pub parts_spec : {M : Type 1} → statement M
+parts_spec =
     tie.close
     (tie.spec
     block-refusal-requires

@@ -36,16 +36,16 @@ four c h = below-8 c.args.h c.requires.0.height h
 eight : (c : tie.Start) → 8 ≤ c.args.h → (min c.args.h 8 ≡ 8) × (c.args.h % 8 ≡ 0)
 eight c h = wide_is c.args.h c.requires.0.height h
 
-mul-apart : tie.Need-overflow-mul-apart
+mul-apart : tie.Need-overflow_mul-apart
 mul-apart c =
     let p : c.args.strip * c.args.h ≤ 8 * 32 = mul-le-mul (strip-few c) (size_in c.args.h c.requires.0.height) in
     omega arith
 
-along-4-requires : tie.Need-along-4-requires
+along-4-requires : tie.Need-along_4-requires
 along-4-requires c κs =
     let s = c.before.before in
     let a = s.args in
-    let f = four s c.before.if1.true in (
+    let f = four s c.before.if-h-lt8.true in (
       subst (λ (k : ℕ). is_kernel k a.w a.wide ≡ true) (ap (λ (h : ℕ). min h 8) f) s.requires.0.kernel,
       (
         record {
@@ -57,29 +57,29 @@ along-4-requires c κs =
       ),
     )
 
-returns : tie.Need-returns
+returns : tie.Need-returns-then-h-lt8
 unfolding rows_sum
 returns c =
     let s = c.before.before.before.before in
     let a = s.args in
-    let f = four s c.before.before.before.if1.true in
-    c.before.along-4.ensures
+    let f = four s c.before.before.before.if-h-lt8.true in
+    c.before.along_4.ensures
     ∙ (λ t. block a.w (sym f t) (λ j l. shifted (half_is s t) a.shift (rows_sum a.w a.wide 4 (a.strip * a.h) a.m.now j l)))
     ∙ block_cong a.w a.h (λ j l. shifted a.half a.shift (rows_sum a.w a.wide 4 (a.strip * a.h) a.m.now j l))
     (λ j y. shifted a.half a.shift (inverse_sum 0 a.w a.wide (λ i. at a.m.now (place_of (min a.h 8) (min a.w 8) (min a.w 8 * a.h) i y)) j))
     (λ j y h g. λ t. shifted a.half a.shift (inverse_sum 0 a.w a.wide (λ i. at a.m.now (sym (four-place (min a.w 8) a.strip a.h i y f s.requires.1.1.0 (omega (arith, g, f))) t)) j))
 
-same_length : tie.Need-same-length
+same_length : tie.Need-shape_of-r-then-h-lt8
 same_length c = ap length (returns c) ∙ block-length c.before.before.before.before.args.w c.before.before.before.before.args.h _ ∙ sym c.before.before.before.before.requires.1.1.1
 
-mul-alongs : tie.Need-overflow-mul-alongs
+mul-alongs : tie.Need-overflow_mul-strip
 mul-alongs c = omega (arith, strip-few c.before)
 
 alongs-requires : tie.Need-alongs-requires
 alongs-requires c κs =
     let s = c.before.before in
     let a = s.args in
-    let e = eight s c.before.if1.false in (
+    let e = eight s c.before.if-h-lt8.false in (
       subst (λ (k : ℕ). is_kernel k a.w a.wide ≡ true) e.0 s.requires.0.kernel,
       (
         e.1,
@@ -96,16 +96,16 @@ alongs-requires c κs =
       ),
     )
 
-returns-2 : tie.Need-returns-2
+returns-2 : tie.Need-returns
 returns-2 c =
     let s = c.before.before.before.before in
     let a = s.args in
-    let e = eight s c.before.before.before.if1.false in
+    let e = eight s c.before.before.before.if-h-lt8.false in
     c.before.alongs.ensures
     ∙ (λ t. block a.w a.h (λ j y. shifted (half_is s t) a.shift (inverse_sum 0 a.w a.wide (λ i. at a.m.now (sym (eight-place (min a.w 8) a.strip a.h i y e.0 s.requires.1.1.0) t)) j)))
 
-same-length-2 : tie.Need-same-length-2
+same-length-2 : tie.Need-shape_of-r
 same-length-2 c = ap length (returns-2 c) ∙ block-length c.before.before.before.before.args.w c.before.before.before.before.args.h _ ∙ sym c.before.before.before.before.requires.1.1.1
 
-pub along-spec : {M : Type 1} → statement M
-along-spec = tie.close (tie.spec mul-apart along-4-requires same_length returns mul-alongs alongs-requires same-length-2 returns-2)
+pub along_spec : {M : Type 1} → statement M
+along_spec = tie.close (tie.spec mul-apart along-4-requires same_length returns mul-alongs alongs-requires same-length-2 returns-2)

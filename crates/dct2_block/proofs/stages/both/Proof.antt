@@ -21,25 +21,25 @@ use Rattle.dct2_block.proofs.Rooms.{front, across-sum}
 use Rattle.dct2_block.proofs.stages.both.Statement.{statement}
 use Rattle.dct2_block.proofs.stages.both.Tie as tie
 
-mul-e : tie.Need-overflow-mul-e
+mul-e : tie.Need-overflow_mul-e
 mul-e c = omega (arith, c.requires.room)
 
-sub-down : tie.Need-overflow-sub-down
+sub-down : tie.Need-slice_bounds-down-count
 sub-down c = omega arith
 
-part-down-start : tie.Need-slice-bounds-down-start
+part-down-start : tie.Need-slice_bounds-down-start
 part-down-start c = omega arith
 
-part-down-end : tie.Need-slice-bounds-down-end
+part-down-end : tie.Need-slice_bounds-down-end
 part-down-end c = omega arith
 
-sub-down-2 : tie.Need-overflow-sub-down-2
+sub-down-2 : tie.Need-slice_bounds-down-count-2
 sub-down-2 c = omega arith
 
-part-down-start-2 : tie.Need-slice-bounds-down-start-2
+part-down-start-2 : tie.Need-slice_bounds-down-start-2
 part-down-start-2 c = omega arith
 
-part-down-end-2 : tie.Need-slice-bounds-down-end-2
+part-down-end-2 : tie.Need-slice_bounds-down-end-2
 part-down-end-2 c = omega (arith, c.before.requires.room)
 
 front_long : (c : tie.Start) → length (take (c.args.columns * c.args.h - 0) c.args.m.now) ≡ c.args.columns * c.args.h
@@ -60,10 +60,10 @@ down-requires c κs =
 
 -- the middle values, and the room that they stand in
 abbrev middles : tie.After-down → List ℤ
-middles c = c.down.new.1.1.1.1.1.1.1.0
+middles c = c.down.new.m
 
 middles-long : (c : tie.After-down) → length (middles c) ≡ c.before.before.before.args.columns * c.before.before.before.args.h
-middles-long c = c.down.auto.1.1.1.1.1.1.1.0 ∙ front_long c.before.before.before
+middles-long c = c.down.auto.m ∙ front_long c.before.before.before
 
 abbrev all : tie.After-down → List ℤ
 all c = let s = c.before.before.before.args in middles c ++ drop (s.columns * s.h - 0) s.m.now
@@ -80,49 +80,49 @@ all-long c =
     let s = c.before.before.before.args in
     length-append (middles c) (drop (s.columns * s.h - 0) s.m.now) ∙ omega (arith, middles-long c, length-drop (s.columns * s.h - 0) s.m.now, c.before.before.before.requires.room)
 
-strip-of-requires : tie.Need-strip-of-requires
+strip-of-requires : tie.Need-strip_of-requires
 strip-of-requires c κs = search rules
 
 half-requires : tie.Need-half-requires
-half-requires c κs = let s = c.before.before.before.before.before.before in (s.requires.some, s.requires.short)
+half-requires c κs = let s = c.before.before.before.before.before in (s.requires.some, s.requires.short)
 
 -- what `half` gave
-rounding : (c : tie.After-half) → Rounded (to_z w32 (of_z w32 c.half.result)) c.before.before.before.before.before.before.before.args.shift
+rounding : (c : tie.After-half) → Rounded (to_z w32 (of_z w32 c.half.result)) c.before.before.before.before.before.before.args.shift
 rounding c =
-    let s = c.before.before.before.before.before.before.before in
+    let s = c.before.before.before.before.before.before in
     let p : 2 ^ (s.args.shift - 1) ≤ 524288 = pow_mono {j = 19} (omega (arith, s.requires.short)) in
     record { small = subst (λ (z : ℤ). nat_abs z ≤ 1000000) (sym (half_is c.half.ensures)) (omega arith); short = omega (arith, s.requires.short) }
 
 along-requires : tie.Need-along-requires
 along-requires c κs =
     let H = c.before in
-    let D = H.before.before.before.before in
-    let s = D.before.before.before in (
+    let D = H.before.before.before in
+    let s = D.before.before in (
       record { height = s.requires.across.height; kernel = s.requires.across.kernel; there = λ x y a b. subst (λ (n : ℕ). place_of (min s.args.h 8) (min s.args.w 8) (min s.args.w 8 * s.args.h) x y < n) (sym (all-long D)) (s.requires.across.there x y a b) },
-      (rounding H, (H.before.strip-of.ensures, s.requires.out)),
+      (rounding H, (H.before.strip_of.ensures, s.requires.out)),
     )
 
-sub-touched : tie.Need-overflow-sub-touched
+sub-touched : tie.Need-slice_bounds-touched-count
 sub-touched c = omega arith
 
-part-touched-start : tie.Need-slice-bounds-touched-start
+part-touched-start : tie.Need-slice_bounds-touched-start
 part-touched-start c = omega arith
 
-part-touched-end : tie.Need-slice-bounds-touched-end
-part-touched-end c = let D = c.before.before.before.before.before.before.before.before in omega (arith, all-long D, D.before.before.before.requires.room)
+part-touched-end : tie.Need-slice_bounds-touched-end
+part-touched-end c = let D = c.before.before.before.before.before.before in omega (arith, all-long D, D.before.before.before.requires.room)
 
 touched-requires : tie.Need-touched-requires
 touched-requires c κs = search rules
 
-same_length : tie.Need-same-length
-same_length c = all-long c.before.before.before.before.before.before.before.before.before.before
+same_length : tie.Need-shape_of-m
+same_length c = all-long c.before.before.before.before.before.before.before.before
 
 returns : tie.Need-returns
 returns c =
-    let A = c.before.before.before.before in
+    let A = c.before.before.before in
     let H = A.before.before in
-    let D = H.before.before.before.before in
-    let s = D.before.before.before in
+    let D = H.before.before.before in
+    let s = D.before in
     let a = s.args in (
       A.along.ensures
           ∙ block_cong a.w a.h _ _ (λ j y h g. (λ t. shifted (half_is H.half.ensures t) a.shift (across-sum s.requires.read a.m.now s.requires.zeros (middles-long D) (filled D) a.wide s.requires.across.kernel j y g t))),
@@ -132,12 +132,12 @@ returns c =
           (c.touched.ensures f p (omega (arith, ap length same, middles-long D, front s.requires.read x y h g))),
     )
 
-same-length-2 : tie.Need-same-length-2
+same-length-2 : tie.Need-shape_of-r
 same-length-2 c =
-    let s = c.before.before.before.before.before.before.before.before.before.before.before.before.before in
+    let s = c.before.before.before.before.before.before.before.before.before.before.before in
     ap length (returns c).0 ∙ block-length s.args.w s.args.h _ ∙ sym s.requires.out
 
-pub both-spec : {M : Type 1} → statement M
-both-spec =
+pub both_spec : {M : Type 1} → statement M
+both_spec =
     tie.close
     (tie.spec mul-e sub-down part-down-start part-down-end sub-down-2 part-down-start-2 part-down-end-2 down-requires strip-of-requires half-requires along-requires sub-touched part-touched-start part-touched-end touched-requires same_length same-length-2 returns)

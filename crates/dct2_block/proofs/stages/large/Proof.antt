@@ -8,17 +8,17 @@ use Rattle.dct2_block.proofs.Fitting.{fits_work}
 use Rattle.dct2_block.proofs.stages.large.Statement.{statement}
 use Rattle.dct2_block.proofs.stages.large.Tie as tie
 
-slice-aggregate-both : tie.Need-slice-aggregate-both
+slice-aggregate-both : tie.Need-slice_bounds-both-end
 slice-aggregate-both c = refl
 
 both-requires : tie.Need-both-requires
 both-requires c κs = fits_work c.before.before.requires _ refl (zeros-at 1024)
 
-same_length : tie.Need-same-length
-same_length c = c.before.before.both.auto.1.1.1.1.1.1.1.1.1.1.0
+same_length : tie.Need-shape_of-r
+same_length c = c.before.before.both.auto.r
 
 returns : tie.Need-returns
 returns c = c.before.before.both.ensures
 
-pub large-spec : {M : Type 1} → statement M
-large-spec = tie.close (tie.spec slice-aggregate-both both-requires same_length returns)
+pub large_spec : {M : Type 1} → statement M
+large_spec = tie.close (tie.spec slice-aggregate-both both-requires same_length returns)

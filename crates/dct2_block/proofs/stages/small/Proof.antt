@@ -8,14 +8,14 @@ use Rattle.dct2_block.proofs.Fitting.{fits_work}
 use Rattle.dct2_block.proofs.stages.small.Statement.{statement}
 use Rattle.dct2_block.proofs.stages.small.Tie as tie
 
-slice-aggregate-both : tie.Need-slice-aggregate-both
+slice-aggregate-both : tie.Need-slice_bounds-both-end
 slice-aggregate-both c = refl
 
 both-requires : tie.Need-both-requires
 both-requires c κs = fits_work c.before.before.requires _ refl (zeros-at 256)
 
-same_length : tie.Need-same-length
-same_length c = c.before.before.both.auto.1.1.1.1.1.1.1.1.1.1.0
+same_length : tie.Need-shape_of-r
+same_length c = c.before.before.both.auto.r
 
 returns : tie.Need-returns
 returns c = c.before.before.both.ensures

@@ -8,17 +8,17 @@ use Rattle.dct2_block.proofs.Fitting.{fits_work}
 use Rattle.dct2_block.proofs.stages.tiny.Statement.{statement}
 use Rattle.dct2_block.proofs.stages.tiny.Tie as tie
 
-slice-aggregate-both : tie.Need-slice-aggregate-both
+slice-aggregate-both : tie.Need-slice_bounds-both-end
 slice-aggregate-both c = refl
 
 both-requires : tie.Need-both-requires
 both-requires c κs = fits_work c.before.before.requires _ refl (zeros-at 64)
 
-same_length : tie.Need-same-length
-same_length c = c.before.before.both.auto.1.1.1.1.1.1.1.1.1.1.0
+same_length : tie.Need-shape_of-r
+same_length c = c.before.before.both.auto.r
 
 returns : tie.Need-returns
 returns c = c.before.before.both.ensures
 
-pub tiny-spec : {M : Type 1} → statement M
-tiny-spec = tie.close (tie.spec slice-aggregate-both both-requires same_length returns)
+pub tiny_spec : {M : Type 1} → statement M
+tiny_spec = tie.close (tie.spec slice-aggregate-both both-requires same_length returns)

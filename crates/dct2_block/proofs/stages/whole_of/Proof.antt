@@ -5,17 +5,17 @@ use borrow.Author.Tests.{lt-ltb, le-ltb}
 use Rattle.dct2_block.proofs.stages.whole_of.Statement.{statement}
 use Rattle.dct2_block.proofs.stages.whole_of.Tie as tie
 
-returns : tie.Need-returns
-returns c = rw (lt-ltb _ _ c.if1.true) refl
+returns : tie.Need-returns-then-w-lt8
+returns c = rw (lt-ltb _ _ c.if-w-lt8.true) refl
 
-add-result : tie.Need-overflow-add-result
+add-result : tie.Need-overflow_add-result
 add-result c = omega (arith, c.before.requires)
 
-mul-result : tie.Need-overflow-mul-result
+mul-result : tie.Need-overflow_mul-result
 mul-result c = omega (arith, c.before.requires)
 
-returns-2 : tie.Need-returns-2
-returns-2 c = rw (le-ltb _ _ c.if1.false) refl
+returns-2 : tie.Need-returns
+returns-2 c = rw (le-ltb _ _ c.if-w-lt8.false) refl
 
-pub whole-of-spec : {M : Type 1} → statement M
-whole-of-spec = tie.close (tie.spec returns add-result mul-result returns-2)
+pub whole_of_spec : {M : Type 1} → statement M
+whole_of_spec = tie.close (tie.spec returns add-result mul-result returns-2)

@@ -8,15 +8,15 @@ use Rattle.meaning.specs.Plan.{short_range}
 use Rattle.dct2_block.proofs.touched.at_end.Statement.{statement}
 use Rattle.dct2_block.proofs.touched.at_end.Tie as tie
 
-returns : tie.Need-returns
+returns : tie.Need-returns-then-v-eq32767
 returns c e = absurd (true≢false e)
 
-returns-2 : tie.Need-returns-2
+returns-2 : tie.Need-returns-then-v-eqminus32768
 returns-2 c e = absurd (true≢false e)
 
-returns-3 : tie.Need-returns-3
+returns-3 : tie.Need-returns
 unfolding short_range
-returns-3 c e = (λ q. c.if2.false (ap (of_z w16) q), λ q. c.before.if1.false (ap (of_z w16) q))
+returns-3 c e = (λ q. c.if-v-eqminus32768.false (ap (of_z w16) q), λ q. c.before.if-v-eq32767.false (ap (of_z w16) q))
 
-pub at-end-spec : {M : Type 1} → statement M
-at-end-spec = tie.close (tie.spec returns returns-2 returns-3)
+pub at_end_spec : {M : Type 1} → statement M
+at_end_spec = tie.close (tie.spec returns returns-2 returns-3)

@@ -18,17 +18,17 @@ of-fewer : (n : ℕ) → is_size n ≡ true → n ≤ 16 → (is_kernel 8 n 4 �
 unfolding is_kernel
 of-fewer = size-cases (λ n. n ≤ 16 → (is_kernel 8 n 4 ≡ true) × (is_kernel 8 n n ≡ true)) (λ h. (refl, refl)) (λ h. (refl, refl)) (λ h. (refl, refl)) (λ h. absurd (omega arith))
 
-returns : tie.Need-returns
-returns c = let s = c.before.before in ((of-32 s.args.n s.requires.0 c.before.if1.true).0, c.if2.true)
+returns : tie.Need-returns-then-k-le8
+returns c = let s = c.before.before in ((of-32 s.args.n s.requires.0 c.before.if-n-gt16.true).0, c.if-k-le8.true)
 
-returns-2 : tie.Need-returns-2
-returns-2 c = let s = c.before.before in ((of-32 s.args.n s.requires.0 c.before.if1.true).1, omega (arith, s.requires.1, size_in s.args.n s.requires.0))
+returns-2 : tie.Need-returns-then-n-gt16
+returns-2 c = let s = c.before.before in ((of-32 s.args.n s.requires.0 c.before.if-n-gt16.true).1, omega (arith, s.requires.1, size_in s.args.n s.requires.0))
 
-returns-3 : tie.Need-returns-3
-returns-3 c = let s = c.before.before in ((of-fewer s.args.n s.requires.0 c.before.if1.false).0, c.if3.true)
+returns-3 : tie.Need-returns-then-k-le4
+returns-3 c = let s = c.before.before in ((of-fewer s.args.n s.requires.0 c.before.if-n-gt16.false).0, c.if-k-le4.true)
 
-returns-4 : tie.Need-returns-4
-returns-4 c = let s = c.before.before in ((of-fewer s.args.n s.requires.0 c.before.if1.false).1, s.requires.1)
+returns-4 : tie.Need-returns
+returns-4 c = let s = c.before.before in ((of-fewer s.args.n s.requires.0 c.before.if-n-gt16.false).1, s.requires.1)
 
-pub live-of-8-spec : {M : Type 1} → statement M
-live-of-8-spec = tie.close (tie.spec returns returns-2 returns-3 returns-4)
+pub live_of_8_spec : {M : Type 1} → statement M
+live_of_8_spec = tie.close (tie.spec returns returns-2 returns-3 returns-4)

@@ -48,12 +48,7 @@ slice-aggregate-butterfly c = search rules
 
 butterfly-requires : tie.Need-butterfly-requires
 butterfly-requires c κs =
-    let L = c.before.before.before.before in
-    let T = L.before.before.before.before in
-    let D = T.before.before in
-    let E = D.before.before.before in
-    let S = E.before in
-    (step_given S.requires.0 8 refl S.requires.1.1 E.inverse_16.ensures T.odd_32-t.ensures D.deal.ensures L.line.ensures, S.requires.1.0)
+    (step_given c.requires.0 8 refl c.requires.1.1 c.inverse_16.ensures c.odd_32-t.ensures c.deal.ensures c.line.ensures, c.requires.1.0)
 
 same_length : tie.Need-shape_of-o
 same_length c = search rules
@@ -63,12 +58,7 @@ same-length-2 c = search rules
 
 returns : tie.Need-returns
 returns c =
-    let L = c.before.before.before.before.before.before in
-    let T = L.before.before.before.before in
-    let D = T.before.before in
-    let E = D.before.before.before in
-    let S = E.before in
-    step S.requires.0 8 refl S.requires.1.1 E.inverse_16.ensures T.odd_32-t.ensures D.deal.ensures L.line.ensures halves-32 c.before.butterfly.ensures
+    step c.requires.0 8 refl c.requires.1.1 c.inverse_16.ensures c.odd_32-t.ensures c.deal.ensures c.line.ensures halves-32 c.butterfly.ensures
 
 pub inverse_32_spec : {M : Type 1} → statement M
 inverse_32_spec =

@@ -16,96 +16,96 @@ use Rattle.forward_block.proofs.TwoStages.{row_put, zip-given, column-put, block
 use Rattle.forward_block.proofs.stages.worked.Statement.{statement}
 use Rattle.forward_block.proofs.stages.worked.Tie as tie
 
-cast-w : tie.Need-overflow-cast-w
+cast-w : tie.Need-overflow_cast-w
 cast-w c = search rules
 
-cast-h : tie.Need-overflow-cast-h
+cast-h : tie.Need-overflow_cast-h
 cast-h c = search rules
 
-kept-columns-requires : tie.Need-kept-columns-requires
+kept-columns-requires : tie.Need-kept_columns-columns-requires
 kept-columns-requires c κs = search rules
 
-kept-rows-requires : tie.Need-kept-rows-requires
+kept-rows-requires : tie.Need-kept_rows-rows-requires
 kept-rows-requires c κs = search rules
 
-row-shift-requires : tie.Need-row-shift-requires
+row-shift-requires : tie.Need-row_shift-p-requires
 row-shift-requires c κs = search rules
 
-column-shift-requires : tie.Need-column-shift-requires
+column-shift-requires : tie.Need-column_shift-q-requires
 column-shift-requires c κs = search rules
 
-mul-stage : tie.Need-overflow-mul-stage
-mul-stage c = let s = c.before.before.before.before.before.before.before in omega (arith, size_in s.args.shape.width s.requires.0.taken.width)
+mul-stage : tie.Need-overflow_mul-w
+mul-stage c = let s = c.before.before.before.before.before.before in omega (arith, size_in s.args.shape.width s.requires.0.taken.width)
 
 stage-requires : tie.Need-stage-requires
 stage-requires c κs =
-    let s = c.before.before.before.before.before.before.before.before in
-    (s.requires.0.taken.width, rw (c.before.before.before.row-shift.ensures, c.before.before.before.before.before.kept-columns.ensures) (row_put s.requires.0 s.requires.1.0 (length s.args.coefficients.now) s.requires.1.1))
+    let s = c.before.before.before.before.before.before.before in
+    (s.requires.0.taken.width, rw (c.row_shift-p.ensures, c.kept_columns-columns.ensures) (row_put s.requires.0 s.requires.1.0 (length s.args.coefficients.now) s.requires.1.1))
 
 -- what stands between the stages
-first : (c : tie.After-stage) → let s = c.before.before.before.before.before.before.before.before.before.args in let w = s.shape.width in
-    Stage s.shape.columns s.shape.columns s.shape.height (line_value (w / 2) s.residuals.now w 2 s.along.now (2 * w) (row_shift s.shape)) c.stage.new.1.1.1.1.1.1.1.1.1.1.0 s.coefficients.now
-first c = rw (c.before.before.before.before.row-shift.ensures, c.before.before.before.before.before.before.kept-columns.ensures) at c.stage.ensures
+first : (c : tie.After-stage) → let s = c.before.before.before.before.before.before.before.before.args in let w = s.shape.width in
+    Stage s.shape.columns s.shape.columns s.shape.height (line_value (w / 2) s.residuals.now w 2 s.along.now (2 * w) (row_shift s.shape)) c.stage.new.out s.coefficients.now
+first c = rw (c.row_shift-p.ensures, c.kept_columns-columns.ensures) at c.stage.ensures
 
 zip-requires : tie.Need-zip-requires
 zip-requires c κs =
-    let s = c.before.before.before.before.before.before.before.before.before.before.before.before in
-    rw c.before.before.before.before.before.before.before.before.before.kept-columns.ensures (zip-given s.requires.0 s.requires.1.0 s.requires.1.1 (first c.before.before.before) refl)
+    let s = c.before.before.before.before.before.before.before.before.before.before in
+    rw c.kept_columns-columns.ensures (zip-given s.requires.0 s.requires.1.0 s.requires.1.1 (first c.before.before) refl)
 
-zipped : (c : tie.After-zip) → let s = c.before.before.before.before.before.before.before.before.before.before.before.before.before.args in
-    Laid s.shape.columns (s.shape.height / 2) 2 (2 * s.shape.columns) (λ i x. at c.before.before.before.before.stage.new.1.1.1.1.1.1.1.1.1.1.0 (x + i * s.shape.columns)) c.zip.new.1.1.1.1.0
-zipped c = rw c.before.before.before.before.before.before.before.before.before.before.kept-columns.ensures at c.zip.ensures
+zipped : (c : tie.After-zip) → let s = c.before.before.before.before.before.before.before.before.before.before.before.args in
+    Laid s.shape.columns (s.shape.height / 2) 2 (2 * s.shape.columns) (λ i x. at c.stage.new.out (x + i * s.shape.columns)) c.zip.new.z
+zipped c = rw c.kept_columns-columns.ensures at c.zip.ensures
 
-few-rows : (c : tie.After-kept-rows) → c.kept-rows.result ≤ 32
-few-rows c = let s = c.before.before.before.before in omega (arith, c.kept-rows.ensures, (rows-kept s.args.shape s.requires.0.taken).within, size_in s.args.shape.height s.requires.0.taken.height)
+few-rows : (c : tie.After-kept_rows-rows) → c.kept_rows-rows.result ≤ 32
+few-rows c = let s = c.before.before.before.before in omega (arith, c.kept_rows-rows.ensures, (rows-kept s.args.shape s.requires.0.taken).within, size_in s.args.shape.height s.requires.0.taken.height)
 
-few-columns : (c : tie.After-kept-columns) → c.kept-columns.result ≤ 32
-few-columns c = let s = c.before.before.before in omega (arith, c.kept-columns.ensures, (columns-kept s.args.shape s.requires.0.taken).within, size_in s.args.shape.width s.requires.0.taken.width)
+few-columns : (c : tie.After-kept_columns-columns) → c.kept_columns-columns.result ≤ 32
+few-columns c = let s = c.before.before.before in omega (arith, c.kept_columns-columns.ensures, (columns-kept s.args.shape s.requires.0.taken).within, size_in s.args.shape.width s.requires.0.taken.width)
 
-mul-clear-beyond : tie.Need-overflow-mul-clear-beyond
-mul-clear-beyond c = omega (arith, mul-le-mul (few-rows c.before.before.before.before.before.before.before.before.before.before) (few-columns c.before.before.before.before.before.before.before.before.before.before.before))
+mul-clear-beyond : tie.Need-overflow_mul-rows
+mul-clear-beyond c = omega (arith, mul-le-mul (few-rows c.before.before.before.before.before.before.before.before) (few-columns c.before.before.before.before.before.before.before.before.before))
 
-clear-beyond-requires : tie.Need-clear-beyond-requires
+clear-beyond-requires : tie.Need-clear_beyond-requires
 clear-beyond-requires c κs = search rules
 
-long : (c : tie.After-clear-beyond) → let s = c.before.before.before.before.before.before.before.before.before.before.before.before.before.before.before.before.args in length c.clear-beyond.new.1.0 ≡ s.shape.width * s.shape.height
-long c = c.clear-beyond.ensures.0 ∙ (first c.before.before.before.before.before.before.before).long ∙ c.before.before.before.before.before.before.before.before.before.before.before.before.before.before.before.before.requires.1.1
+long : (c : tie.After-clear_beyond) → let s = c.before.before.before.before.before.before.before.before.before.before.before.before.before.before.args in length c.clear_beyond.new.out ≡ s.shape.width * s.shape.height
+long c = c.clear_beyond.ensures.0 ∙ (first c.before.before.before.before.before.before).long ∙ c.before.before.before.before.before.before.before.before.before.before.before.before.before.before.requires.1.1
 
-mul-stage-2 : tie.Need-overflow-mul-stage-2
-mul-stage-2 c = let s = c.before.before.before.before.before.before.before.before.before.before.before.before.before.before.before.before.before in omega (arith, size_in s.args.shape.height s.requires.0.taken.height)
+mul-stage-2 : tie.Need-overflow_mul-h
+mul-stage-2 c = let s = c.before.before.before.before.before.before.before.before.before.before.before.before.before.before.before in omega (arith, size_in s.args.shape.height s.requires.0.taken.height)
 
-mul-stage-3 : tie.Need-overflow-mul-stage-3
-mul-stage-3 c = omega (arith, few-columns c.before.before.before.before.before.before.before.before.before.before.before.before.before.before.before)
+mul-stage-3 : tie.Need-overflow_mul-columns
+mul-stage-3 c = omega (arith, few-columns c.before.before.before.before.before.before.before.before.before.before.before.before)
 
 stage-requires-2 : tie.Need-stage-requires-2
 stage-requires-2 c κs =
-    let s = c.before.before.before.before.before.before.before.before.before.before.before.before.before.before.before.before.before.before.before in (
+    let s = c.before.before.before.before.before.before.before.before.before.before.before.before.before.before.before.before in (
       s.requires.0.taken.height,
-      rw (c.before.before.before.before.before.before.before.before.before.before.before.before.before.column-shift.ensures, c.before.before.before.before.before.before.before.before.before.before.before.before.before.before.before.before.kept-columns.ensures, c.before.before.before.before.before.before.before.before.before.before.before.before.before.before.before.kept-rows.ensures)
-          (column-put s.requires.0 s.requires.1.0 s.requires.1.1 (first c.before.before.before.before.before.before.before.before.before.before) (zipped c.before.before.before.before.before.before) _ (long c.before.before.before)),
+      rw (c.column_shift-q.ensures, c.kept_columns-columns.ensures, c.kept_rows-rows.ensures)
+          (column-put s.requires.0 s.requires.1.0 s.requires.1.1 (first c.before.before.before.before.before.before.before.before) (zipped c.before.before.before.before.before) _ (long c.before.before)),
     )
 
-same_length : tie.Need-same-length
+same_length : tie.Need-shape_of-along
 same_length c = search rules
 
-same-length-2 : tie.Need-same-length-2
+same-length-2 : tie.Need-shape_of-coefficients
 same-length-2 c = search rules
 
 -- where there are other places than the kept ones, they were cleared
-cleared : (c : tie.After-clear-beyond) → let s = c.before.before.before.before.before.before.before.before.before.before.before.before.before.before.before.before.args in s.shape.rows * s.shape.columns < length c.clear-beyond.new.1.0 → (k : ℕ) → k < length c.clear-beyond.new.1.0 → at c.clear-beyond.new.1.0 k ≡ pos 0
+cleared : (c : tie.After-clear_beyond) → let s = c.before.before.before.before.before.before.before.before.before.before.before.before.before.before.args in s.shape.rows * s.shape.columns < length c.clear_beyond.new.out → (k : ℕ) → k < length c.clear_beyond.new.out → at c.clear_beyond.new.out k ≡ pos 0
 cleared c =
-    let e = c.clear-beyond.ensures in
-    rw (sym e.0) at (rw (c.before.before.before.before.before.before.before.before.before.before.before.before.before.kept-columns.ensures, c.before.before.before.before.before.before.before.before.before.before.before.before.kept-rows.ensures) at e.1)
+    let e = c.clear_beyond.ensures in
+    rw (sym e.0) at (rw (c.kept_columns-columns.ensures, c.kept_rows-rows.ensures) at e.1)
 
 returns : tie.Need-returns
 returns c =
-    let s = c.before.before.before.before.before.before.before.before.before.before.before.before.before.before.before.before.before.before.before.before.before in
+    let s = c.before.before.before.before.before.before.before.before.before.before.before.before.before.before.before.before.before.before in
     let K = c.before.before.before.before.before in
-    block-done s.requires.0 s.requires.1.0 s.requires.1.1 (first c.before.before.before.before.before.before.before.before.before.before.before.before) (zipped c.before.before.before.before.before.before.before.before) (long K) (cleared K)
-    (rw (c.before.before.before.before.before.before.before.before.before.before.before.before.before.before.before.column-shift.ensures, c.before.before.before.before.before.before.before.before.before.before.before.before.before.before.before.before.before.before.kept-columns.ensures, c.before.before.before.before.before.before.before.before.before.before.before.before.before.before.before.before.before.kept-rows.ensures) at c.before.stage2.ensures)
+    block-done s.requires.0 s.requires.1.0 s.requires.1.1 (first c.before.before.before.before.before.before.before.before.before.before) (zipped c.before.before.before.before.before.before.before) (long c.before.before.before.before) (cleared c.before.before.before.before)
+    (rw (c.column_shift-q.ensures, c.kept_columns-columns.ensures, c.kept_rows-rows.ensures) at c.before.stage-2.ensures)
 
-pub worked-spec : {M : Type 1} → statement M
-worked-spec =
+pub worked_spec : {M : Type 1} → statement M
+worked_spec =
     tie.close
     (tie.spec
     cast-w

@@ -15,17 +15,17 @@ a-is c = to_z-of_z w16 c.args.a c.ranges.a
 b-is : (c : tie.Start) → to_z w16 (of_z w16 c.args.b) ≡ c.args.b
 b-is c = to_z-of_z w16 c.args.b c.ranges.b
 
-returns : tie.Need-returns
+returns : tie.Need-returns-then-a-b
 returns c =
     let s = c.before in
-    let l = lt-le (to_z w16 (of_z w16 s.args.a)) (to_z w16 (of_z w16 s.args.b)) c.if1.true in
+    let l = lt-le (to_z w16 (of_z w16 s.args.a)) (to_z w16 (of_z w16 s.args.b)) c.if-a-b.true in
     (subst (λ (z : ℤ). z ≤ℤ to_z w16 (of_z w16 s.args.b)) (a-is s) l, subst (λ (z : ℤ). z ≤ℤ to_z w16 (of_z w16 s.args.b)) (b-is s) (le_same (to_z w16 (of_z w16 s.args.b))))
 
-returns-2 : tie.Need-returns-2
+returns-2 : tie.Need-returns-else-a-b
 returns-2 c =
     let s = c.before in
-    let l = not-lt-le (to_z w16 (of_z w16 s.args.a)) (to_z w16 (of_z w16 s.args.b)) c.if1.false in
+    let l = not-lt-le (to_z w16 (of_z w16 s.args.a)) (to_z w16 (of_z w16 s.args.b)) c.if-a-b.false in
     (subst (λ (z : ℤ). z ≤ℤ to_z w16 (of_z w16 s.args.a)) (a-is s) (le_same (to_z w16 (of_z w16 s.args.a))), subst (λ (z : ℤ). z ≤ℤ to_z w16 (of_z w16 s.args.a)) (b-is s) l)
 
-pub larger-spec : {M : Type 1} → statement M
-larger-spec = tie.close (tie.spec returns returns-2)
+pub larger_spec : {M : Type 1} → statement M
+larger_spec = tie.close (tie.spec returns returns-2)

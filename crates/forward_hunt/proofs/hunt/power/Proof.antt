@@ -7,7 +7,7 @@ use lib.Pow.{pow_mono}
 use Rattle.forward_hunt.proofs.hunt.power.Statement.{statement}
 use Rattle.forward_hunt.proofs.hunt.power.Tie as tie
 
-shl-result : tie.Need-overflow-shl-result
+shl-result : tie.Need-overflow_shl-result
 shl-result c = search rules
 
 returns : tie.Need-returns
@@ -17,5 +17,5 @@ returns c =
     let h : 2 ^ n < 4294967296 = omega arith in
     rw one-mul (mod-eq_of_lt h)
 
-pub power-spec : {M : Type 1} → statement M
-power-spec = tie.close (tie.spec shl-result returns)
+pub power_spec : {M : Type 1} → statement M
+power_spec = tie.close (tie.spec shl-result returns)

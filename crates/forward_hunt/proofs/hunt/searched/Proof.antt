@@ -12,10 +12,10 @@ use Rattle.layout.proofs.Hunting.{Hunt, hunt-in, hunt-start, hunt-next, hunt-dow
 use Rattle.forward_hunt.proofs.hunt.searched.Statement.{statement}
 use Rattle.forward_hunt.proofs.hunt.searched.Tie as tie
 
-abbrev invariant-loop : tie.invariant-loop
+abbrev invariant-loop : tie.invariant-loop-x
 invariant-loop shape residuals w h place₀ y x₀ place x = Hunt (too_large shape) w h residuals place x y
 
-abbrev decreases-loop : tie.decreases-loop
+abbrev decreases-loop : tie.decreases-loop-x
 decreases-loop shape residuals w h place₀ y x₀ place x = w - x
 
 abbrev invariant-hunt : tie.invariant-hunt
@@ -28,60 +28,60 @@ abbrev start : tie.At-hunt invariant-loop decreases-loop invariant-hunt decrease
 start H = H.before.before.before
 
 -- in a turn the place is in the slice
-inside : (c : tie.In-loop invariant-loop decreases-loop invariant-hunt decreases-hunt) → let H = c.before.before.before in let s = (start H).args in
-    c.before.loop.x + H.hunt.y * s.shape.width < length s.residuals.now
-inside c = let s = start c.before.before.before in hunt-in s.args.residuals.now s.pre.1 c.loop-test.true c.before.before.hunt-test.true
+inside : (c : tie.In-loop-x invariant-loop decreases-loop invariant-hunt decreases-hunt) → let H = c.before.before.before in let s = (start H).args in
+    c.before.loop-x.x + H.hunt.y * s.shape.width < length s.residuals.now
+inside c = let s = start c.before.before.before in hunt-in s.args.residuals.now s.requires.1 c.loop-x-test.true c.before.before.hunt-test.true
 
 -- what `too_large` said is the test of the contract at this place
-told : (c : tie.After-too-large invariant-loop decreases-loop invariant-hunt decreases-hunt) → let L = c.before.before.before in let s = (start L.before.before).args in
-    let k = L.loop.x + L.before.before.hunt.y * s.shape.width in too_large s.shape k (at s.residuals.now k) ≡ c.too_large.result
+told : (c : tie.After-too_large invariant-loop decreases-loop invariant-hunt decreases-hunt) → let L = c.before.before.before in let s = (start L.before.before).args in
+    let k = L.loop-x.x + L.before.before.hunt.y * s.shape.width in too_large s.shape k (at s.residuals.now k) ≡ c.too_large.result
 told c =
     let L = c.before.before.before in
     let s = (start L.before.before).args in
-    let k = L.loop.x + L.before.before.hunt.y * s.shape.width in
-    sym (c.too_large.ensures ∙ ap (too_large s.shape k) (to_z-of_z w16 (at s.residuals.now k) (record { sfits = c.before.too-large-arg.given })))
+    let k = L.loop-x.x + L.before.before.hunt.y * s.shape.width in
+    sym (c.too_large.ensures ∙ ap (too_large s.shape k) (to_z-of_z w16 (at s.residuals.now k) (record { sfits = c.before.too_large-arg-1.given })))
 
-cast-w : tie.Need-overflow-cast-w invariant-loop decreases-loop invariant-hunt decreases-hunt
+cast-w : tie.Need-overflow_cast-w invariant-loop decreases-loop invariant-hunt decreases-hunt
 cast-w c = search rules
 
-cast-h : tie.Need-overflow-cast-h invariant-loop decreases-loop invariant-hunt decreases-hunt
+cast-h : tie.Need-overflow_cast-h invariant-loop decreases-loop invariant-hunt decreases-hunt
 cast-h c = search rules
 
 hunt-holds : tie.Need-hunt-init invariant-loop decreases-loop invariant-hunt decreases-hunt
 hunt-holds c = hunt-start c.before.before.requires.1
 
-loop-holds : tie.Need-loop-init invariant-loop decreases-loop invariant-hunt decreases-hunt
+loop-holds : tie.Need-loop-x-init invariant-loop decreases-loop invariant-hunt decreases-hunt
 loop-holds c = c.before.hunt.invariant
 
-mul_at : tie.Need-overflow-mul-at invariant-loop decreases-loop invariant-hunt decreases-hunt
+mul_at : tie.Need-overflow_mul-at invariant-loop decreases-loop invariant-hunt decreases-hunt
 mul_at c = omega (arith, inside c)
 
-add_at : tie.Need-overflow-add-at invariant-loop decreases-loop invariant-hunt decreases-hunt
+add_at : tie.Need-overflow_add-at invariant-loop decreases-loop invariant-hunt decreases-hunt
 add_at c = omega (arith, inside c)
 
-mul-too-large : tie.Need-overflow-mul-too-large invariant-loop decreases-loop invariant-hunt decreases-hunt
+mul-too-large : tie.Need-offset_bounds-residuals-at invariant-loop decreases-loop invariant-hunt decreases-hunt
 mul-too-large c = omega (arith, inside c)
 
 shared-slice-copy-out-too-large :
-    tie.Need-shared-slice-copy-out-too-large invariant-loop decreases-loop invariant-hunt decreases-hunt
+    tie.Need-bounds-residuals-at invariant-loop decreases-loop invariant-hunt decreases-hunt
 shared-slice-copy-out-too-large c = inside c
 
-too-large-requires : tie.Need-too-large-requires invariant-loop decreases-loop invariant-hunt decreases-hunt
+too-large-requires : tie.Need-too_large-requires invariant-loop decreases-loop invariant-hunt decreases-hunt
 too-large-requires c κs = c.before.before.before.before.before.before.before.requires.0
 
-add-x : tie.Need-overflow-add-x invariant-loop decreases-loop invariant-hunt decreases-hunt
+add-x : tie.Need-overflow_add-x invariant-loop decreases-loop invariant-hunt decreases-hunt
 add-x c = search rules
 
-loop-less : tie.Need-loop-smaller invariant-loop decreases-loop invariant-hunt decreases-hunt
+loop-less : tie.Need-loop-x-smaller invariant-loop decreases-loop invariant-hunt decreases-hunt
 loop-less c = search rules
 
-loop-again : tie.Need-loop-preserved invariant-loop decreases-loop invariant-hunt decreases-hunt
+loop-again : tie.Need-loop-x-preserved invariant-loop decreases-loop invariant-hunt decreases-hunt
 loop-again c =
     let I = c.before.before.before in
     let T = I.before.before in
-    hunt-next (start T.before).pre.1 T.hunt-test.true I.before.loop.invariant I.loop-test.true (told c.before ∙ c.if1.false)
+    hunt-next (start T.before).requires.1 T.hunt-test.true I.before.loop-x.invariant I.loop-x-test.true (told c.before ∙ c.if-too_large.false)
 
-add-y : tie.Need-overflow-add-y invariant-loop decreases-loop invariant-hunt decreases-hunt
+add-y : tie.Need-overflow_add-y invariant-loop decreases-loop invariant-hunt decreases-hunt
 add-y c = search rules
 
 hunt-less : tie.Need-hunt-smaller invariant-loop decreases-loop invariant-hunt decreases-hunt
@@ -90,19 +90,19 @@ hunt-less c = search rules
 hunt-again : tie.Need-hunt-preserved invariant-loop decreases-loop invariant-hunt decreases-hunt
 hunt-again c =
     let T = c.before.before in
-    hunt-down (start T.before).pre.1 T.hunt-test.true c.before.loop.invariant c.loop-test.false
+    hunt-down (start T.before).requires.1 T.hunt-test.true c.before.loop-x.invariant c.loop-x-test.false
 
-returns : tie.Need-returns invariant-loop decreases-loop invariant-hunt decreases-hunt
-returns c = hunt-none (start c.before).pre.1 c.hunt-test.false c.before.hunt.invariant
+returns : tie.Need-returns-after-hunt invariant-loop decreases-loop invariant-hunt decreases-hunt
+returns c = hunt-none (start c.before).requires.1 c.hunt-test.false c.before.hunt.invariant
 
-returns-2 : tie.Need-returns-2 invariant-loop decreases-loop invariant-hunt decreases-hunt
+returns-2 : tie.Need-returns-then-too_large invariant-loop decreases-loop invariant-hunt decreases-hunt
 returns-2 c =
     let I = c.before.before.before in
     let T = I.before.before in
-    hunt-here (start T.before).pre.1 T.hunt-test.true I.before.loop.invariant I.loop-test.true (told c.before ∙ c.if1.true)
+    hunt-here (start T.before).requires.1 T.hunt-test.true I.before.loop-x.invariant I.loop-x-test.true (told c.before ∙ c.if-too_large.true)
 
-pub searched-spec : {M : Type 1} → statement M
-searched-spec =
+pub searched_spec : {M : Type 1} → statement M
+searched_spec =
     tie.close
     (tie.spec
     invariant-loop

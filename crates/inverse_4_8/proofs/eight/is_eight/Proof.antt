@@ -12,15 +12,15 @@ use Rattle.inverse_4_8.proofs.eight.is_eight.Tie as tie
 root : (n : ℕ) → is_size n ≡ true → n * n ≡ 64 → n ≡ 8
 root = size-cases (λ n. n * n ≡ 64 → n ≡ 8) (λ e. absurd (omega arith)) (λ e. refl) (λ e. absurd (omega arith)) (λ e. absurd (omega arith))
 
-returns : tie.Need-returns
+returns : tie.Need-returns-then-shape
 returns c e = absurd (false≢true e)
 
-returns-2 : tie.Need-returns-2
+returns-2 : tie.Need-returns
 returns-2 c e =
     let s = c.before.before.args in
-    let q : s.shape.width ≡ s.shape.height = omega (arith, c.if1.false) in
+    let q : s.shape.width ≡ s.shape.height = omega (arith, c.if-shape.false) in
     let k : s.shape.width ≡ 8 = root s.shape.width c.before.before.requires.0 (ap (λ (m : ℕ). s.shape.width * m) q ∙ sym c.before.before.requires.1 ∙ eqb-true _ _ e) in
     record { width = k; height = sym q ∙ k }
 
-pub is-eight-spec : {M : Type 1} → statement M
-is-eight-spec = tie.close (tie.spec returns returns-2)
+pub is_eight_spec : {M : Type 1} → statement M
+is_eight_spec = tie.close (tie.spec returns returns-2)

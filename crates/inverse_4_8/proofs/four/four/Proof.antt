@@ -28,59 +28,59 @@ down-requires c κs = let s = c.before in ((given s).block.taken.vertical, ((giv
 abbrev start : tie.After-down → tie.Start
 start c = c.before.before
 
-first-long : (c : tie.After-down) → length c.down.new.1.1.0 ≡ 16
+first-long : (c : tie.After-down) → length c.down.new.e ≡ 16
 first-long c = ap length c.down.ensures ∙ block-length 4 4 _
 
-first : (c : tie.After-down) → c.down.new.1.1.0 ≡ sums (plan-given (given (start c)))
+first : (c : tie.After-down) → c.down.new.e ≡ sums (plan-given (given (start c)))
 first c =
     let s = start c in
     c.down.ensures ∙ sym (λ i. down_block s.args.shape.vertical ((square s).width i) ((square s).height i) s.args.c.now) ∙ whole-sums (given s)
 
-slice-aggregate-settle : tie.Need-slice-aggregate-settle
+slice-aggregate-settle : tie.Need-slice_bounds-settle-end
 slice-aggregate-settle c = sym (first-long c.before)
 
-slice-aggregate-settle-2 : tie.Need-slice-aggregate-settle-2
+slice-aggregate-settle-2 : tie.Need-slice_bounds-settle-end-2
 slice-aggregate-settle-2 c = search rules
 
-settle-requires : tie.Need-settle-requires
+settle-requires : tie.Need-settle-rails-requires
 settle-requires c κs = let e = first-long c.before.before in (e, omega arith)
 
 -- the middle values, and the rail count
-abbrev downed : tie.After-settle → tie.After-down
+abbrev downed : tie.After-settle-rails → tie.After-down
 downed c = c.before.before.before
 
-settled-long : (c : tie.After-settle) → length c.settle.new.1.0 ≡ 16
-settled-long c = ap length c.settle.ensures.0 ∙ tab-length _ _ ∙ first-long (downed c)
+settled-long : (c : tie.After-settle-rails) → length c.settle-rails.new.m ≡ 16
+settled-long c = ap length c.settle-rails.ensures.0 ∙ tab-length _ _ ∙ first-long (downed c)
 
-cast-along : tie.Need-overflow-cast-along
+cast-along : tie.Need-overflow_cast-shape
 cast-along c = search rules
 
-last-shift-requires : tie.Need-last-shift-requires
+last-shift-requires : tie.Need-last_shift-requires
 last-shift-requires c κs = (given (start (downed c.before.before.before))).block.taken.depth
 
 along-requires : tie.Need-along-requires
 along-requires c κs =
     let S = c.before.before.before.before.before in
     let s = start (downed S) in
-    ((given s).block.taken.horizontal, (c.before.last-shift.ensures.1, (settled-long S, ((given s).block.room ∙ elements s, (square s).width))))
+    ((given s).block.taken.horizontal, (c.before.last_shift.ensures.1, (settled-long S, ((given s).block.room ∙ elements s, (square s).width))))
 
 returns : tie.Need-returns
 returns c =
     let A = c.before in
     let S = A.before.before.before.before.before.before in
     let s = start (downed S) in
-    let m = settled (plan-given (given s)) (first (downed S)) S.settle.ensures in (
-      counted (plan-given (given s)) (first (downed S)) S.settle.ensures,
+    let m = settled (plan-given (given s)) (first (downed S)) S.settle-rails.ensures in (
+      counted (plan-given (given s)) (first (downed S)) S.settle-rails.ensures,
       A.along.ensures
-          ∙ sym (λ i. along_block s.args.shape.horizontal ((square s).width i) ((square s).height i) (sym m i) (sym A.before.before.last-shift.ensures.0 i))
+          ∙ sym (λ i. along_block s.args.shape.horizontal ((square s).width i) ((square s).height i) (sym m i) (sym A.before.before.last_shift.ensures.0 i))
           ∙ whole-block (given s),
     )
 
-same_length : tie.Need-same-length
+same_length : tie.Need-shape_of-r
 same_length c = block-long (plan-given (given (start (downed c.before.before.before.before.before.before.before)))) (returns c).1
 
-pub four-spec : {M : Type 1} → statement M
-four-spec =
+pub four_spec : {M : Type 1} → statement M
+four_spec =
     tie.close
     (tie.spec
     down-requires

@@ -49,53 +49,53 @@ even c = add (by-w2 c) (by-w0 c) tt
 abbrev odd : tie.Start → MV w32
 odd c = add (by-w3 c) (by-w1 c) tt
 
-cast-result : tie.Need-overflow-cast-result
+cast-result : tie.Need-overflow_cast-result
 cast-result c = cast_fits w32 (arg {w = w16} c.ranges.a2) tt
 
-cast-result-2 : tie.Need-overflow-cast-result-2
+cast-result-2 : tie.Need-overflow_cast-result-2
 cast-result-2 c = cast_fits w32 (arg≤ {w = w16} c.ranges.w2 c.requires.1.0) tt
 
-mul-result : tie.Need-overflow-mul-result
+mul-result : tie.Need-overflow_mul-result
 mul-result c = mul-fits (of-a2 c) (of-w2 c) tt
 
-cast-result-3 : tie.Need-overflow-cast-result-3
+cast-result-3 : tie.Need-overflow_cast-result-3
 cast-result-3 c = cast_fits w32 (arg {w = w16} c.ranges.a0) tt
 
-cast-result-4 : tie.Need-overflow-cast-result-4
+cast-result-4 : tie.Need-overflow_cast-result-4
 cast-result-4 c = cast_fits w32 (arg≤ {w = w16} c.ranges.w0 c.requires.0.0) tt
 
-mul-result-2 : tie.Need-overflow-mul-result-2
+mul-result-2 : tie.Need-overflow_mul-result-2
 mul-result-2 c = mul-fits (of-a0 c) (of-w0 c) tt
 
-add-result : tie.Need-overflow-add-result
+add-result : tie.Need-overflow_add-result
 add-result c = add-fits (by-w2 c) (by-w0 c) tt
 
-cast-result-5 : tie.Need-overflow-cast-result-5
+cast-result-5 : tie.Need-overflow_cast-result-5
 cast-result-5 c = cast_fits w32 (arg {w = w16} c.ranges.a3) tt
 
-cast-result-6 : tie.Need-overflow-cast-result-6
+cast-result-6 : tie.Need-overflow_cast-result-6
 cast-result-6 c = cast_fits w32 (arg≤ {w = w16} c.ranges.w3 c.requires.1.1) tt
 
-mul-result-3 : tie.Need-overflow-mul-result-3
+mul-result-3 : tie.Need-overflow_mul-result-3
 mul-result-3 c = mul-fits (of-a3 c) (of-w3 c) tt
 
-cast-result-7 : tie.Need-overflow-cast-result-7
+cast-result-7 : tie.Need-overflow_cast-result-7
 cast-result-7 c = cast_fits w32 (arg {w = w16} c.ranges.a1) tt
 
-cast-result-8 : tie.Need-overflow-cast-result-8
+cast-result-8 : tie.Need-overflow_cast-result-8
 cast-result-8 c = cast_fits w32 (arg≤ {w = w16} c.ranges.w1 c.requires.0.1) tt
 
-mul-result-4 : tie.Need-overflow-mul-result-4
+mul-result-4 : tie.Need-overflow_mul-result-4
 mul-result-4 c = mul-fits (of-a1 c) (of-w1 c) tt
 
-add-result-2 : tie.Need-overflow-add-result-2
+add-result-2 : tie.Need-overflow_add-result-2
 add-result-2 c = add-fits (by-w3 c) (by-w1 c) tt
 
-add-result-3 : tie.Need-overflow-add-result-3
+add-result-3 : tie.Need-overflow_add-result-3
 add-result-3 c = add-fits (even c) (odd c) tt
 
 returns : tie.Need-returns
 returns c = let s = add (even c) (odd c) tt in (val s, subst (λ (z : ℤ). nat_abs z ≤ 11796480) (sym (val s)) s.is.abs)
 
-pub weighed-spec : {M : Type 1} → statement M
-weighed-spec = tie.close (tie.spec cast-result cast-result-2 mul-result cast-result-3 cast-result-4 mul-result-2 add-result cast-result-5 cast-result-6 mul-result-3 cast-result-7 cast-result-8 mul-result-4 add-result-2 add-result-3 returns)
+pub weighed_spec : {M : Type 1} → statement M
+weighed_spec = tie.close (tie.spec cast-result cast-result-2 mul-result cast-result-3 cast-result-4 mul-result-2 add-result cast-result-5 cast-result-6 mul-result-3 cast-result-7 cast-result-8 mul-result-4 add-result-2 add-result-3 returns)

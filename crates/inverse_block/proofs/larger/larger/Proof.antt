@@ -8,88 +8,88 @@ use Rattle.inverse_stage.proofs.Work.{whole, all-rooms}
 use Rattle.inverse_block.proofs.larger.larger.Statement.{statement}
 use Rattle.inverse_block.proofs.larger.larger.Tie as tie
 
-cast-w : tie.Need-overflow-cast-w
+cast-w : tie.Need-overflow_cast-w
 cast-w c = search rules
 
-cast-h : tie.Need-overflow-cast-h
+cast-h : tie.Need-overflow_cast-h
 cast-h c = search rules
 
-is-eight-requires : tie.Need-is-eight-requires
+is-eight-requires : tie.Need-is_eight-requires
 is-eight-requires c κs = let g = c.before.before.requires in (g.block.taken.width, g.block.long)
 
 eight-requires : tie.Need-eight-requires
-eight-requires c κs = (whole c.before.before.before.before.before.before.before.requires, (c.before.before.before.before.is-eight.ensures c.before.before.before.if1.true, sym c.before.if2.true))
+eight-requires c κs = (whole c.before.before.before.before.before.before.before.requires, (c.before.before.before.before.is_eight.ensures c.before.before.before.if-is_eight.true, sym c.before.if-shape-eq1.true))
 
-same_length : tie.Need-same-length
+same_length : tie.Need-shape_of-r-then-shape-eq1
 same_length c = search rules
 
-returns : tie.Need-returns
+returns : tie.Need-returns-then-shape-eq1
 returns c = c.before.eight.ensures
 
-eight-requires-2 : tie.Need-eight-requires-2
-eight-requires-2 c κs = (whole c.before.before.before.before.before.before.before.requires, (c.before.before.before.before.is-eight.ensures c.before.before.before.if1.true, refl))
+eight-requires-2 : tie.Need-eight-requires-then-is_eight
+eight-requires-2 c κs = (whole c.before.before.before.before.before.before.before.requires, (c.before.before.before.before.is_eight.ensures c.before.before.before.if-is_eight.true, refl))
 
-same-length-2 : tie.Need-same-length-2
+same-length-2 : tie.Need-shape_of-r-then-is_eight
 same-length-2 c = search rules
 
-returns-2 : tie.Need-returns-2
-returns-2 c = c.before.eight2.ensures
+returns-2 : tie.Need-returns-then-is_eight
+returns-2 c = c.before.eight-then-is_eight.ensures
 
-mul-if3 : tie.Need-overflow-mul-if3
+mul-if3 : tie.Need-overflow_mul-h
 mul-if3 c = let s = c.before.before.before.before in omega (arith, (all-rooms s.requires).down, mul_comm s.args.rows s.args.shape.height)
 
 large-requires : tie.Need-large-requires
 large-requires c κs = c.before.before.before.before.before.before.requires
 
-same-length-3 : tie.Need-same-length-3
+same-length-3 : tie.Need-shape_of-r-then-h-rows-gt128
 same-length-3 c = search rules
 
-returns-3 : tie.Need-returns-3
+returns-3 : tie.Need-returns-then-h-rows-gt128
 returns-3 c = c.before.large.ensures
 
-mul-if4 : tie.Need-overflow-mul-if4
+mul-if4 : tie.Need-overflow_mul-h-2
 mul-if4 c = let s = c.before.before.before.before.before in omega (arith, (all-rooms s.requires).between)
 
-large-requires-2 : tie.Need-large-requires-2
+large-requires-2 : tie.Need-large-requires-then-h-columns-gt128
 large-requires-2 c κs = c.before.before.before.before.before.before.before.requires
 
-same-length-4 : tie.Need-same-length-4
+same-length-4 : tie.Need-shape_of-r-then-h-columns-gt128
 same-length-4 c = search rules
 
-returns-4 : tie.Need-returns-4
-returns-4 c = c.before.large2.ensures
+returns-4 : tie.Need-returns-then-h-columns-gt128
+returns-4 c = c.before.large-then-h-columns-gt128.ensures
 
-mul-if5 : tie.Need-overflow-mul-if5
+mul-if5 : tie.Need-overflow_mul-w
 mul-if5 c = let s = c.before.before.before.before.before.before in omega (arith, (all-rooms s.requires).along, mul_comm s.args.columns s.args.shape.width)
 
-large-requires-3 : tie.Need-large-requires-3
+large-requires-3 : tie.Need-large-requires-then-w-columns-gt128
 large-requires-3 c κs = c.before.before.before.before.before.before.before.before.requires
 
-same-length-5 : tie.Need-same-length-5
+same-length-5 : tie.Need-shape_of-r-then-w-columns-gt128
 same-length-5 c = search rules
 
-returns-5 : tie.Need-returns-5
-returns-5 c = c.before.large3.ensures
+returns-5 : tie.Need-returns-then-w-columns-gt128
+returns-5 c = c.before.large-then-w-columns-gt128.ensures
 
 small-requires : tie.Need-small-requires
 small-requires c κs =
     let s = c.before.before.before.before.before.before.before.before in (
       s.requires,
       record {
-        down = omega (arith, c.before.before.before.if3.false, mul_comm s.args.rows s.args.shape.height);
-        along = omega (arith, c.before.if5.false, mul_comm s.args.columns s.args.shape.width);
-        between = omega (arith, c.before.before.if4.false);
+        down = omega (arith, c.before.before.before.if-h-rows-gt128.false, mul_comm s.args.rows s.args.shape.height);
+        along = omega (arith, c.before.if-w-columns-gt128.false, mul_comm s.args.columns s.args.shape.width);
+        between = omega (arith, c.before.before.if-h-columns-gt128.false);
       },
     )
 
-same-length-6 : tie.Need-same-length-6
+same-length-6 : tie.Need-shape_of-r
 same-length-6 c = search rules
 
-returns-6 : tie.Need-returns-6
+returns-6 : tie.Need-returns
 returns-6 c = c.before.small.ensures
 
-pub larger-spec : {M : Type 1} → statement M
-larger-spec =
+pub larger_spec : {M : Type 1} → statement M
+larger_spec =
     tie.close
     (tie.spec
     cast-w

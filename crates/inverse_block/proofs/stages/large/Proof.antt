@@ -22,243 +22,243 @@ given s = s.requires
 fits : (s : tie.Start) → Room 1024 (plan_of s.args.shape) s.args.rows s.args.columns
 fits s = all-rooms s.requires
 
-cast-w : tie.Need-overflow-cast-w
+cast-w : tie.Need-overflow_cast-w
 cast-w c = search rules
 
-cast-h : tie.Need-overflow-cast-h
+cast-h : tie.Need-overflow_cast-h
 cast-h c = search rules
 
-mul-elements : tie.Need-overflow-mul-elements
+mul-elements : tie.Need-overflow_mul-elements
 mul-elements c = omega (arith, (fits c.before.before).between)
 
-mul_wide : tie.Need-overflow-mul-wide
+mul_wide : tie.Need-overflow_mul-wide
 mul_wide c = omega (arith, size_in c.before.before.args.columns (given c.before.before).size-columns)
 
-mul-tall : tie.Need-overflow-mul-tall
+mul-tall : tie.Need-overflow_mul-tall
 mul-tall c = omega (arith, size_in c.before.before.args.shape.height (given c.before.before).block.taken.height)
 
-mul-full : tie.Need-overflow-mul-full
+mul-full : tie.Need-overflow_mul-full
 mul-full c = omega (arith, size_in c.before.before.args.shape.width (given c.before.before).block.taken.width)
 
-slice-aggregate-zip : tie.Need-slice-aggregate-zip
+slice-aggregate-zip : tie.Need-slice_bounds-zip-end
 slice-aggregate-zip c = refl
 
 zip-requires : tie.Need-zip-requires
 zip-requires c κs = let s = c.before.before.before in zip-given (given s) (fits s) refl
 
-put-1024-requires : tie.Need-put-1024-requires
+put-1024-requires : tie.Need-put_1024-requires
 put-1024-requires c κs = ((given c.before.before.before.before.before.before).block.taken.height, refl)
 
 -- the lines down the columns
-abbrev start : tie.After-put-1024 → tie.Start
+abbrev start : tie.After-put_1024 → tie.Start
 start c = c.before.before.before.before.before.before.before
 
-abbrev zipped : tie.After-put-1024 → List ℤ
-zipped c = c.before.before.before.zip.new.1.1.1.1.0
+abbrev zipped : tie.After-put_1024 → List ℤ
+zipped c = c.before.before.before.zip.new.z
 
-zipped-long : (c : tie.After-put-1024) → length (zipped c) ≡ 1024
+zipped-long : (c : tie.After-put_1024) → length (zipped c) ≡ 1024
 zipped-long c = let e : 1024 ≡ length (zipped c) = search rules in sym e
 
-tall : (c : tie.After-put-1024) → is_size (start c).args.rows ≡ true
+tall : (c : tie.After-put_1024) → is_size (start c).args.rows ≡ true
 tall c = (given (start c)).size-rows
 
-down : (c : tie.After-put-1024) → Down (plan-given (given (start c))) c.put-1024.new.1.1.1.0 (zipped c)
+down : (c : tie.After-put_1024) → Down (plan-given (given (start c))) c.put_1024.new.u (zipped c)
 down c =
     let s = start c in
     record {
-      weights = room-weights 1024 s.args.shape.vertical s.args.shape.height s.args.rows c.put-1024.ensures.1 (given s).live.low (fits s).down;
+      weights = room-weights 1024 s.args.shape.vertical s.args.shape.height s.args.rows c.put_1024.ensures.1 (given s).live.low (fits s).down;
       zipped = c.before.before.before.zip.ensures;
     }
 
-slice-aggregate-lines : tie.Need-slice-aggregate-lines
-slice-aggregate-lines c = sym c.before.before.put-1024.ensures.0
+slice-aggregate-lines : tie.Need-slice_bounds-lines-end
+slice-aggregate-lines c = sym c.before.before.put_1024.ensures.0
 
-slice-aggregate-lines-2 : tie.Need-slice-aggregate-lines-2
+slice-aggregate-lines-2 : tie.Need-slice_bounds-lines-end-then-rows-le4
 slice-aggregate-lines-2 c = search rules
 
 lines-requires : tie.Need-lines-requires
-lines-requires c κs = let I = c.before.before.before in down-asks (down I.before) 2 (four (tall I.before) I.if1.true)
+lines-requires c κs = let I = c.before.before.before in down-asks (down I.before) 2 (four (tall I.before) I.if-rows-le4.true)
 
-slice-aggregate-lines-3 : tie.Need-slice-aggregate-lines-3
-slice-aggregate-lines-3 c = sym c.before.before.before.put-1024.ensures.0
+slice-aggregate-lines-3 : tie.Need-slice_bounds-lines-end-then-rows-le8
+slice-aggregate-lines-3 c = sym c.before.before.before.put_1024.ensures.0
 
-slice-aggregate-lines-4 : tie.Need-slice-aggregate-lines-4
+slice-aggregate-lines-4 : tie.Need-slice_bounds-lines-end-then-rows-le8-2
 slice-aggregate-lines-4 c = search rules
 
-lines-requires-2 : tie.Need-lines-requires-2
-lines-requires-2 c κs = let I = c.before.before.before in down-asks (down I.before.before) 4 (eight (tall I.before.before) I.before.if1.false I.if2.true)
+lines-requires-2 : tie.Need-lines-requires-then-rows-le8
+lines-requires-2 c κs = let I = c.before.before.before in down-asks (down I.before.before) 4 (eight (tall I.before.before) I.before.if-rows-le4.false I.if-rows-le8.true)
 
-slice-aggregate-lines-5 : tie.Need-slice-aggregate-lines-5
-slice-aggregate-lines-5 c = sym c.before.before.before.before.put-1024.ensures.0
+slice-aggregate-lines-5 : tie.Need-slice_bounds-lines-end-then-rows-le16
+slice-aggregate-lines-5 c = sym c.before.before.before.before.put_1024.ensures.0
 
-slice-aggregate-lines-6 : tie.Need-slice-aggregate-lines-6
+slice-aggregate-lines-6 : tie.Need-slice_bounds-lines-end-then-rows-le16-2
 slice-aggregate-lines-6 c = search rules
 
-lines-requires-3 : tie.Need-lines-requires-3
-lines-requires-3 c κs = let I = c.before.before.before in down-asks (down I.before.before.before) 8 (sixteen (tall I.before.before.before) I.before.if2.false I.if3.true)
+lines-requires-3 : tie.Need-lines-requires-then-rows-le16
+lines-requires-3 c κs = let I = c.before.before.before in down-asks (down I.before.before.before) 8 (sixteen (tall I.before.before.before) I.before.if-rows-le8.false I.if-rows-le16.true)
 
-slice-aggregate-lines-7 : tie.Need-slice-aggregate-lines-7
-slice-aggregate-lines-7 c = sym c.before.before.before.before.put-1024.ensures.0
+slice-aggregate-lines-7 : tie.Need-slice_bounds-lines-end-else-rows-le16
+slice-aggregate-lines-7 c = sym c.before.before.before.before.put_1024.ensures.0
 
-slice-aggregate-lines-8 : tie.Need-slice-aggregate-lines-8
+slice-aggregate-lines-8 : tie.Need-slice_bounds-lines-end-else-rows-le16-2
 slice-aggregate-lines-8 c = search rules
 
-lines-requires-4 : tie.Need-lines-requires-4
-lines-requires-4 c κs = let I = c.before.before.before in down-asks (down I.before.before.before) 16 (thirty_two (tall I.before.before.before) I.if3.false)
+lines-requires-4 : tie.Need-lines-requires-else-rows-le16
+lines-requires-4 c κs = let I = c.before.before.before in down-asks (down I.before.before.before) 16 (thirty_two (tall I.before.before.before) I.if-rows-le16.false)
 
 -- what stands in r after the first stage
-first : (c : tie.Joined1) → First (plan-given (given (start c.before))) c.if1.r
+first : (c : tie.Joined-rows-le4) → First (plan-given (given (start c.before))) c.if-rows-le4.r
 first c =
     let d = down c.before in
     let s = tall c.before in
     ⊎_elim
-    (λ t. down-leaves d 2 (four s t.0.taken) (t.6 ∙ t.4.ensures))
+    (λ t. down-leaves d 2 (four s t.if-rows-le4.true) (t.r-is ∙ t.lines.ensures))
     (⊎_elim
-    (λ t. down-leaves d 4 (eight s t.0.left t.1.taken) (t.7 ∙ t.5.ensures))
+    (λ t. down-leaves d 4 (eight s t.if-rows-le4.false t.if-rows-le8.true) (t.r-is ∙ t.lines-then-rows-le8.ensures))
     (⊎_elim
-    (λ t. down-leaves d 8 (sixteen s t.1.left t.2.taken) (t.8 ∙ t.6.ensures))
-    (λ t. down-leaves d 16 (thirty_two s t.2.left) (t.8 ∙ t.6.ensures))))
-    c.if1.branch
+    (λ t. down-leaves d 8 (sixteen s t.if-rows-le8.false t.if-rows-le16.true) (t.r-is ∙ t.lines-then-rows-le16.ensures))
+    (λ t. down-leaves d 16 (thirty_two s t.if-rows-le16.false) (t.r-is ∙ t.lines-else-rows-le16.ensures))))
+    c.if-rows-le4.branch-raw
 
-sub-settle : tie.Need-overflow-sub-settle
+sub-settle : tie.Need-slice_bounds-settle-count
 sub-settle c = omega arith
 
-part-settle-start : tie.Need-slice-bounds-settle-start
+part-settle-start : tie.Need-slice_bounds-settle-start
 part-settle-start c = omega arith
 
-part-settle-end : tie.Need-slice-bounds-settle-end
-part-settle-end c = first-room (plan-given (given (start c.before.before))) (first c.before)
+part-settle-end : tie.Need-slice_bounds-settle-end
+part-settle-end c = first-room (plan-given (given (start c.before))) (first c)
 
-sub-settle-2 : tie.Need-overflow-sub-settle-2
+sub-settle-2 : tie.Need-slice_bounds-settle-count-2
 sub-settle-2 c = omega arith
 
-part-z-start : tie.Need-slice-bounds-z-start
+part-z-start : tie.Need-slice_bounds-z-start
 part-z-start c = omega arith
 
-part-z-end : tie.Need-slice-bounds-z-end
-part-z-end c = let W = c.before.before.before in omega (arith, (fits (start W)).between, zipped-long W)
+part-z-end : tie.Need-slice_bounds-z-end
+part-z-end c = let W = c.before.before in omega (arith, (fits (start W)).between, zipped-long W)
 
-settle-requires : tie.Need-settle-requires
+settle-requires : tie.Need-settle-rails-requires
 settle-requires c κs =
     let J = c.before.before.before in
     let W = J.before in
-    settle-given (plan-given (given (start W))) (first J) (zipped W) (fits (start W)) (zipped-long W) (omega arith)
+    settle-given (plan-given (given (start J))) (first c.before.before) (zipped J) (fits (start J)) (zipped-long J) (omega arith)
 
-abbrev joined : tie.After-settle → tie.Joined1
-joined c = c.before.before.before.before
+abbrev joined : tie.After-settle-rails → tie.Joined-rows-le4
+joined c = c.before.before.before
 
-abbrev origin : tie.After-settle → tie.Start
+abbrev origin : tie.After-settle-rails → tie.Start
 origin c = start (joined c).before
 
-last-shift-requires : tie.Need-last-shift-requires
+last-shift-requires : tie.Need-last_shift-last-requires
 last-shift-requires c κs = (given (origin c.before)).block.taken.depth
 
-half-requires : tie.Need-half-requires
-half-requires c κs = c.last-shift.ensures.1
+half-requires : tie.Need-half-half-requires
+half-requires c κs = c.last_shift-last.ensures.1
 
-put-1024-requires-2 : tie.Need-put-1024-requires-2
-put-1024-requires-2 c κs = let S = c.before.before.before.before in ((given (origin S)).block.taken.width, (joined S).before.put-1024.ensures.0)
+put-1024-requires-2 : tie.Need-put_1024-requires-2
+put-1024-requires-2 c κs = let S = c.before.before.before.before in ((given (origin S)).block.taken.width, (joined S).before.put_1024.ensures.0)
 
 -- the lines along the rows
-abbrev middle : tie.After-put-10242 → tie.After-settle
+abbrev middle : tie.After-put_1024-2 → tie.After-settle-rails
 middle c = c.before.before.before.before.before
 
-wide : (c : tie.After-put-10242) → is_size (origin (middle c)).args.columns ≡ true
+wide : (c : tie.After-put_1024-2) → is_size (origin (middle c)).args.columns ≡ true
 wide c = (given (origin (middle c))).size-columns
 
-along : (c : tie.After-put-10242) → let S = middle c in
-    Along (plan-given (given (origin S))) 1024 (joined S).if1.r S.settle.last.1.0 (zipped (joined S).before) c.put-10242.new.1.1.1.0 c.before.before.half.result c.before.before.before.last-shift.result
+along : (c : tie.After-put_1024-2) → let S = middle c in
+    Along (plan-given (given (origin S))) 1024 (joined S).if-rows-le4.r S.settle-rails.new.m (zipped (joined S).before) c.put_1024-2.new.u c.before.before.half-half.result c.before.before.before.last_shift-last.result
 along c =
     let S = middle c in
     let J = joined S in
     record {
       fits = fits (origin S);
       first = first J;
-      settled = settled (plan-given (given (origin S))) (first_part (plan-given (given (origin S))) (first J)) S.settle.ensures;
+      settled = settled (plan-given (given (origin S))) (first_part (plan-given (given (origin S))) (first J)) S.settle-rails.ensures;
       long = zipped-long J.before;
-      weights = room-weights 1024 (origin S).args.shape.horizontal (origin S).args.shape.width (origin S).args.columns c.put-10242.ensures.1 (given (origin S)).live.narrow (fits (origin S)).along;
-      rounding = c.before.before.half.ensures;
-      shift = c.before.before.before.last-shift.ensures.0;
+      weights = room-weights 1024 (origin S).args.shape.horizontal (origin S).args.shape.width (origin S).args.columns c.put_1024-2.ensures.1 (given (origin S)).live.narrow (fits (origin S)).along;
+      rounding = c.before.before.half-half.ensures;
+      shift = c.before.before.before.last_shift-last.ensures.0;
     }
 
-slice-aggregate-lines-9 : tie.Need-slice-aggregate-lines-9
+slice-aggregate-lines-9 : tie.Need-slice_bounds-lines-end-then-columns-le4
 slice-aggregate-lines-9 c = held-long (along c.before.before)
 
-slice-aggregate-lines-10 : tie.Need-slice-aggregate-lines-10
-slice-aggregate-lines-10 c = sym c.before.before.before.put-10242.ensures.0
+slice-aggregate-lines-10 : tie.Need-slice_bounds-lines-end-then-columns-le4-2
+slice-aggregate-lines-10 c = sym c.before.before.before.put_1024-2.ensures.0
 
-lines-requires-5 : tie.Need-lines-requires-5
-lines-requires-5 c κs = let I = c.before.before.before in along-asks (along I.before) 2 (four (wide I.before) I.if4.true)
+lines-requires-5 : tie.Need-lines-requires-then-columns-le4
+lines-requires-5 c κs = let I = c.before.before.before in along-asks (along I.before) 2 (four (wide I.before) I.if-columns-le4.true)
 
-slice-aggregate-lines-11 : tie.Need-slice-aggregate-lines-11
+slice-aggregate-lines-11 : tie.Need-slice_bounds-lines-end-then-columns-le8
 slice-aggregate-lines-11 c = held-long (along c.before.before.before)
 
-slice-aggregate-lines-12 : tie.Need-slice-aggregate-lines-12
-slice-aggregate-lines-12 c = sym c.before.before.before.before.put-10242.ensures.0
+slice-aggregate-lines-12 : tie.Need-slice_bounds-lines-end-then-columns-le8-2
+slice-aggregate-lines-12 c = sym c.before.before.before.before.put_1024-2.ensures.0
 
-lines-requires-6 : tie.Need-lines-requires-6
-lines-requires-6 c κs = let I = c.before.before.before in along-asks (along I.before.before) 4 (eight (wide I.before.before) I.before.if4.false I.if5.true)
+lines-requires-6 : tie.Need-lines-requires-then-columns-le8
+lines-requires-6 c κs = let I = c.before.before.before in along-asks (along I.before.before) 4 (eight (wide I.before.before) I.before.if-columns-le4.false I.if-columns-le8.true)
 
-slice-aggregate-lines-13 : tie.Need-slice-aggregate-lines-13
+slice-aggregate-lines-13 : tie.Need-slice_bounds-lines-end-then-columns-le16
 slice-aggregate-lines-13 c = held-long (along c.before.before.before.before)
 
-slice-aggregate-lines-14 : tie.Need-slice-aggregate-lines-14
-slice-aggregate-lines-14 c = sym c.before.before.before.before.before.put-10242.ensures.0
+slice-aggregate-lines-14 : tie.Need-slice_bounds-lines-end-then-columns-le16-2
+slice-aggregate-lines-14 c = sym c.before.before.before.before.before.put_1024-2.ensures.0
 
-lines-requires-7 : tie.Need-lines-requires-7
-lines-requires-7 c κs = let I = c.before.before.before in along-asks (along I.before.before.before) 8 (sixteen (wide I.before.before.before) I.before.if5.false I.if6.true)
+lines-requires-7 : tie.Need-lines-requires-then-columns-le16
+lines-requires-7 c κs = let I = c.before.before.before in along-asks (along I.before.before.before) 8 (sixteen (wide I.before.before.before) I.before.if-columns-le8.false I.if-columns-le16.true)
 
-slice-aggregate-lines-15 : tie.Need-slice-aggregate-lines-15
+slice-aggregate-lines-15 : tie.Need-slice_bounds-lines-end-else-columns-le16
 slice-aggregate-lines-15 c = held-long (along c.before.before.before.before)
 
-slice-aggregate-lines-16 : tie.Need-slice-aggregate-lines-16
-slice-aggregate-lines-16 c = sym c.before.before.before.before.before.put-10242.ensures.0
+slice-aggregate-lines-16 : tie.Need-slice_bounds-lines-end-else-columns-le16-2
+slice-aggregate-lines-16 c = sym c.before.before.before.before.before.put_1024-2.ensures.0
 
-lines-requires-8 : tie.Need-lines-requires-8
-lines-requires-8 c κs = let I = c.before.before.before in along-asks (along I.before.before.before) 16 (thirty_two (wide I.before.before.before) I.if6.false)
+lines-requires-8 : tie.Need-lines-requires-else-columns-le16
+lines-requires-8 c κs = let I = c.before.before.before in along-asks (along I.before.before.before) 16 (thirty_two (wide I.before.before.before) I.if-columns-le16.false)
 
 -- what is handed back
-rails-are : (c : tie.After-settle) → c.settle.result ≡ rails (plan_of (origin c).args.shape) (origin c).args.c.now
-rails-are c = counted (plan-given (given (origin c))) (first_part (plan-given (given (origin c))) (first (joined c))) c.settle.ensures
+rails-are : (c : tie.After-settle-rails) → c.settle-rails.result ≡ rails (plan_of (origin c).args.shape) (origin c).args.c.now
+rails-are c = counted (plan-given (given (origin c))) (first_part (plan-given (given (origin c))) (first (joined c))) c.settle-rails.ensures
 
-returns : tie.Need-returns
+returns : tie.Need-returns-then-columns-le4
 returns c =
     let I = c.before.before.before.before.before in
     let W = I.before in
-    (rails-are (middle W), along-leaves (along W) 2 (four (wide W) I.if4.true) c.before.lines5.ensures)
+    (rails-are (middle W), along-leaves (along W) 2 (four (wide W) I.if-columns-le4.true) c.before.lines-then-columns-le4.ensures)
 
-same_length : tie.Need-same-length
+same_length : tie.Need-shape_of-r-then-columns-le4
 same_length c = block-long (plan-given (given (origin (middle c.before.before.before.before.before.before)))) (returns c).1
 
-returns-2 : tie.Need-returns-2
+returns-2 : tie.Need-returns-then-columns-le8
 returns-2 c =
     let I = c.before.before.before.before.before in
     let W = I.before.before in
-    (rails-are (middle W), along-leaves (along W) 4 (eight (wide W) I.before.if4.false I.if5.true) c.before.lines6.ensures)
+    (rails-are (middle W), along-leaves (along W) 4 (eight (wide W) I.before.if-columns-le4.false I.if-columns-le8.true) c.before.lines-then-columns-le8.ensures)
 
-same-length-2 : tie.Need-same-length-2
+same-length-2 : tie.Need-shape_of-r-then-columns-le8
 same-length-2 c = block-long (plan-given (given (origin (middle c.before.before.before.before.before.before.before)))) (returns-2 c).1
 
-returns-3 : tie.Need-returns-3
+returns-3 : tie.Need-returns-then-columns-le16
 returns-3 c =
     let I = c.before.before.before.before.before in
     let W = I.before.before.before in
-    (rails-are (middle W), along-leaves (along W) 8 (sixteen (wide W) I.before.if5.false I.if6.true) c.before.lines7.ensures)
+    (rails-are (middle W), along-leaves (along W) 8 (sixteen (wide W) I.before.if-columns-le8.false I.if-columns-le16.true) c.before.lines-then-columns-le16.ensures)
 
-same-length-3 : tie.Need-same-length-3
+same-length-3 : tie.Need-shape_of-r-then-columns-le16
 same-length-3 c = block-long (plan-given (given (origin (middle c.before.before.before.before.before.before.before.before)))) (returns-3 c).1
 
-returns-4 : tie.Need-returns-4
+returns-4 : tie.Need-returns-else-columns-le16
 returns-4 c =
     let I = c.before.before.before.before.before in
     let W = I.before.before.before in
-    (rails-are (middle W), along-leaves (along W) 16 (thirty_two (wide W) I.if6.false) c.before.lines8.ensures)
+    (rails-are (middle W), along-leaves (along W) 16 (thirty_two (wide W) I.if-columns-le16.false) c.before.lines-else-columns-le16.ensures)
 
-same-length-4 : tie.Need-same-length-4
+same-length-4 : tie.Need-shape_of-r-else-columns-le16
 same-length-4 c = block-long (plan-given (given (origin (middle c.before.before.before.before.before.before.before.before)))) (returns-4 c).1
 
-pub large-spec : {M : Type 1} → statement M
-large-spec =
+pub large_spec : {M : Type 1} → statement M
+large_spec =
     tie.close
     (tie.spec
     cast-w

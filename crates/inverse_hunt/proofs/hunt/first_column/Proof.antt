@@ -3,11 +3,11 @@ use borrow.Author.Tests.{lt-ltb, le-ltb}
 use Rattle.inverse_hunt.proofs.hunt.first_column.Statement.{statement}
 use Rattle.inverse_hunt.proofs.hunt.first_column.Tie as tie
 
-returns : tie.Need-returns
-returns c = let s = c.before.args in rw (lt-ltb s.y s.rows c.if1.true)
+returns : tie.Need-returns-then-y-rows
+returns c = let s = c.before.args in rw (lt-ltb s.y s.rows c.if-y-rows.true)
 
-returns-2 : tie.Need-returns-2
-returns-2 c = let s = c.before.args in rw (le-ltb s.y s.rows c.if1.false)
+returns-2 : tie.Need-returns-else-y-rows
+returns-2 c = let s = c.before.args in rw (le-ltb s.y s.rows c.if-y-rows.false)
 
-pub first-column-spec : {M : Type 1} → statement M
-first-column-spec = tie.close (tie.spec returns returns-2)
+pub first_column_spec : {M : Type 1} → statement M
+first_column_spec = tie.close (tie.spec returns returns-2)

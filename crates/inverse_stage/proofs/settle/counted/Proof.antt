@@ -1,7 +1,6 @@
 -- `settle::counted` meets its contract: those before x are counted. Assumes nothing.
 use borrow.Author.Rules.{rules}
 use native.Mathlib.Omega.{arith}
-use mathlib.Core.Logic.{⊎_elim}
 use mathlib.Core.Path.{◌≡◌, ap, ◌∙◌}
 use Prim.Native.Nat.{ℕ, ◌+◌, ◌-◌, ◌≤◌}
 use lib.ListN.{length}
@@ -9,66 +8,64 @@ use Rattle.meaning.specs.Inverse.{count}
 use Rattle.inverse_stage.specs.Settled.{rails_of}
 use Rattle.inverse_stage.proofs.Railing.{rails-none, rails-next, rails-in}
 use Rattle.inverse_stage.proofs.settle.counted.Statement.{statement}
+use Rattle.inverse_stage.proofs.settle.counted.Lts.{then-rail, else-rail}
 use Rattle.inverse_stage.proofs.settle.counted.Tie as tie
 
-abbrev invariant-loop : tie.invariant-loop
+abbrev invariant-loop : tie.invariant-loop-x
 invariant-loop e m n₀ x₀ n x = (x ≤ length e) × (n ≡ rails_of x e m)
 
-abbrev decreases-loop : tie.decreases-loop
+abbrev decreases-loop : tie.decreases-loop-x
 decreases-loop e m n₀ x₀ n x = length e - x
 
-loop-holds : tie.Need-loop-init invariant-loop decreases-loop
+loop-holds : tie.Need-loop-x-init invariant-loop decreases-loop
 loop-holds c = (omega arith, rails-none c.args.e.now c.args.m.now)
 
-mul-rail : tie.Need-overflow-mul-rail invariant-loop decreases-loop
+mul-rail : tie.Need-offset_bounds-e-x invariant-loop decreases-loop
 mul-rail c = search rules
 
-shared-slice-copy-out-rail : tie.Need-shared-slice-copy-out-rail invariant-loop decreases-loop
+shared-slice-copy-out-rail : tie.Need-bounds-e-x invariant-loop decreases-loop
 shared-slice-copy-out-rail c = search rules
 
-mul-rail-2 : tie.Need-overflow-mul-rail-2 invariant-loop decreases-loop
+mul-rail-2 : tie.Need-offset_bounds-m-x invariant-loop decreases-loop
 mul-rail-2 c = search rules
 
-shared-slice-copy-out-rail-2 : tie.Need-shared-slice-copy-out-rail-2 invariant-loop decreases-loop
+shared-slice-copy-out-rail-2 : tie.Need-bounds-m-x invariant-loop decreases-loop
 shared-slice-copy-out-rail-2 c = search rules
 
 rail-requires : tie.Need-rail-requires invariant-loop decreases-loop
 rail-requires c κs = search rules
 
-add-n : tie.Need-overflow-add-n invariant-loop decreases-loop
+add-n : tie.Need-overflow_add-n invariant-loop decreases-loop
 add-n c =
     let L = c.before.before.before.before.before in
     let s = L.before in
-    omega (arith, L.loop.invariant.0, L.loop.invariant.1, rails-in s.args.e.now s.args.m.now L.loop.x, s.requires.1)
+    omega (arith, L.loop-x.invariant.0, L.loop-x.invariant.1, rails-in s.args.e.now s.args.m.now L.loop-x.x, s.requires.1)
 
-add-x : tie.Need-overflow-add-x invariant-loop decreases-loop
+add-x : tie.Need-overflow_add-x invariant-loop decreases-loop
 add-x c = search rules
 
-loop-less : tie.Need-loop-smaller invariant-loop decreases-loop
+loop-less : tie.Need-loop-x-smaller invariant-loop decreases-loop
 loop-less c = search rules
 
 -- one more, by what `rail` said
 next : (c : tie.After-rail invariant-loop decreases-loop) → let L = c.before.before.before.before in let s = L.before.args in
-    rails_of (L.loop.x + 1) s.e.now s.m.now ≡ rails_of L.loop.x s.e.now s.m.now + count c.rail.result
-next c = rails-next _ _ _ (record { sfits = c.before.before.rail-arg.given }) (record { sfits = c.before.rail-arg2.given }) c.rail.ensures
+    rails_of (L.loop-x.x + 1) s.e.now s.m.now ≡ rails_of L.loop-x.x s.e.now s.m.now + count c.rail.result
+next c = rails-next _ _ _ (record { sfits = c.before.before.rail-arg-1.given }) (record { sfits = c.before.rail-arg-in-loop-x-1.given }) c.rail.ensures
 
-loop-again : tie.Need-loop-preserved invariant-loop decreases-loop
+loop-again : tie.Need-loop-x-preserved invariant-loop decreases-loop
 loop-again c =
     let R = c.before in
     let L = R.before.before.before.before in (
       omega arith,
-      ⊎_elim
-          (λ t. omega (arith, t.1, L.loop.invariant.1, next R, ap count t.0.taken))
-          (λ t. omega (arith, t.1, L.loop.invariant.1, next R, ap count t.0.left))
-          c.if1.branch,
+      elim c.if-rail.branch [ then-rail w ↦ omega (arith, w.n-is, L.loop-x.invariant.1, next R, ap count w.if-rail.true) | else-rail w ↦ omega (arith, w.n-is, L.loop-x.invariant.1, next R, ap count w.if-rail.false) ],
     )
 
 returns : tie.Need-returns invariant-loop decreases-loop
 returns c =
     let L = c.before in
     let s = L.before.args in
-    let e : L.loop.x ≡ length s.e.now = omega (arith, L.loop.invariant.0, c.loop-test.false) in
-    L.loop.invariant.1 ∙ ap (λ (x : ℕ). rails_of x s.e.now s.m.now) e
+    let e : L.loop-x.x ≡ length s.e.now = omega (arith, L.loop-x.invariant.0, c.loop-x-test.false) in
+    L.loop-x.invariant.1 ∙ ap (λ (x : ℕ). rails_of x s.e.now s.m.now) e
 
 pub counted_spec : {M : Type 1} → statement M
 counted_spec =

@@ -7,26 +7,26 @@ use Rattle.inverse_stage.proofs.settle.settle.Tie as tie
 clipped-requires : tie.Need-clipped-requires
 clipped-requires c κs = search rules
 
-any-rail-requires : tie.Need-any-rail-requires
+any-rail-requires : tie.Need-any_rail-requires
 any-rail-requires c κs = search rules
 
 counted-requires : tie.Need-counted-requires
 counted-requires c κs = search rules
 
-same_length : tie.Need-same-length
+same_length : tie.Need-shape_of-m-then-any_rail
 same_length c = search rules
 
-returns : tie.Need-returns
+returns : tie.Need-returns-then-any_rail
 returns c = search rules
 
-same-length-2 : tie.Need-same-length-2
+same-length-2 : tie.Need-shape_of-m-else-any_rail
 same-length-2 c = search rules
 
-returns-2 : tie.Need-returns-2
-returns-2 c = (c.before.before.before.before.clipped.ensures, sym (c.before.any-rail.ensures c.if1.false))
+returns-2 : tie.Need-returns-else-any_rail
+returns-2 c = (c.clipped.ensures, sym (c.before.any_rail.ensures c.if-any_rail.false))
 
-pub settle-spec : {M : Type 1} → statement M
-settle-spec =
+pub settle_spec : {M : Type 1} → statement M
+settle_spec =
     tie.close
     (tie.spec
     clipped-requires

@@ -9,11 +9,11 @@ use Rattle.inverse_stage.proofs.shift.last_shift.Tie as tie
 depth : (s : tie.Start) → (8 ≤ s.args.shape.depth) × (s.args.shape.depth ≤ 12)
 depth s = depth-cases s.args.shape.depth s.requires
 
-sub-result : tie.Need-overflow-sub-result
+sub-result : tie.Need-overflow_sub-result
 sub-result c = omega (arith, depth c.before)
 
 returns : tie.Need-returns
 returns c = let d = depth c.before in (refl, (omega arith, omega arith))
 
-pub last-shift-spec : {M : Type 1} → statement M
-last-shift-spec = tie.close (tie.spec sub-result returns)
+pub last_shift_spec : {M : Type 1} → statement M
+last_shift_spec = tie.close (tie.spec sub-result returns)

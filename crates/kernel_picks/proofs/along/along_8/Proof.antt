@@ -18,7 +18,7 @@ first-along-8-requires : tie.Need-first_along_8-requires
 first-along-8-requires c κs = (c.before.before.requires.0, (subst (λ (k : ℕ). Rowed c.before.before.args.wide 8 k (to_z w32 (of_z w32 c.before.before.args.half)) c.before.before.args.shift c.before.before.args.m.now) c.before.if-apart-eq64.true (subst (λ (z : ℤ). Rowed c.before.before.args.wide 8 c.before.before.args.apart z c.before.before.args.shift c.before.before.args.m.now) (sym (half_is c.before.before)) c.before.before.requires.1.0), c.before.before.requires.1.1))
 
 same_length : tie.Need-shape_of-r-then-apart-eq64
-same_length c = c.before.first_along_8.auto.1.1.1.1.1.1.0
+same_length c = c.before.first_along_8.auto.r
 
 returns : tie.Need-returns-then-apart-eq64
 returns c = c.before.first_along_8.ensures ∙ (λ t. block c.before.before.before.before.args.w 8 (λ j l. shifted (half_is c.before.before.before.before t) c.before.before.before.before.args.shift (rows_sum c.before.before.before.before.args.w c.before.before.before.before.args.wide 8 (sym c.before.before.before.if-apart-eq64.true t) c.before.before.before.before.args.m.now j l)))
@@ -27,7 +27,7 @@ next-along-8-requires : tie.Need-next_along_8-requires
 next-along-8-requires c κs = (c.before.before.requires.0, (subst (λ (z : ℤ). Rowed c.before.before.args.wide 8 c.before.before.args.apart z c.before.before.args.shift c.before.before.args.m.now) (sym (half_is c.before.before)) c.before.before.requires.1.0, c.before.before.requires.1.1))
 
 same-length-2 : tie.Need-shape_of-r
-same-length-2 c = c.before.next_along_8.auto.1.1.1.1.1.1.1.0
+same-length-2 c = c.before.next_along_8.auto.r
 
 returns-2 : tie.Need-returns
 returns-2 c = c.before.next_along_8.ensures ∙ (λ t. block c.before.before.before.before.args.w 8 (λ j l. shifted (half_is c.before.before.before.before t) c.before.before.before.before.args.shift (rows_sum c.before.before.before.before.args.w c.before.before.before.before.args.wide 8 c.before.before.before.before.args.apart c.before.before.before.before.args.m.now j l)))

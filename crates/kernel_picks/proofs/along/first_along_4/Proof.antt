@@ -20,7 +20,7 @@ along-8-8-4-requires c κs =
     rows-so p.0 p.1 (half_is c.before.before) c.before.before.requires.1.0 c.before.before.requires.1.1.0
 
 same_length : tie.Need-shape_of-r-then-pick-eq16
-same_length c = c.before.along_8_8_4.auto.1.1.1.1.1.0
+same_length c = c.before.along_8_8_4.auto.r
 
 returns : tie.Need-returns-then-pick-eq16
 returns c =
@@ -33,7 +33,7 @@ along-16-16-4-requires c κs =
     rows-so p.0 p.1 (half_is c.before.before) c.before.before.requires.1.0 c.before.before.requires.1.1.0
 
 same-length-2 : tie.Need-shape_of-r
-same-length-2 c = c.before.along_16_16_4.auto.1.1.1.1.1.0
+same-length-2 c = c.before.along_16_16_4.auto.r
 
 returns-2 : tie.Need-returns
 returns-2 c =

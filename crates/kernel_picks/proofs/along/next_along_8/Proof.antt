@@ -20,7 +20,7 @@ along-4-4-8-requires c κs =
     let g = rows-so p.0 p.1 (half_is c.before.before) c.before.before.requires.1.0 c.before.before.requires.1.1.0 in (g.0, (g.1, c.before.before.requires.1.1.1))
 
 same_length : tie.Need-shape_of-r-then-pick-eq8
-same_length c = c.before.along_4_4_8.auto.1.1.1.1.1.0
+same_length c = c.before.along_4_4_8.auto.r
 
 returns : tie.Need-returns-then-pick-eq8
 returns c =
@@ -33,7 +33,7 @@ along-8-4-8-requires c κs =
     rows-so p.0 p.1 (half_is c.before.before.before) c.before.before.before.requires.1.0 c.before.before.before.requires.1.1.0
 
 same-length-2 : tie.Need-shape_of-r-then-pick-eq12
-same-length-2 c = c.before.along_8_4_8.auto.1.1.1.1.1.0
+same-length-2 c = c.before.along_8_4_8.auto.r
 
 returns-2 : tie.Need-returns-then-pick-eq12
 returns-2 c =
@@ -46,7 +46,7 @@ along-8-8-8-requires c κs =
     rows-so p.0 p.1 (half_is c.before.before.before.before) c.before.before.before.before.requires.1.0 c.before.before.before.before.requires.1.1.0
 
 same-length-3 : tie.Need-shape_of-r-then-pick-eq16
-same-length-3 c = c.before.along_8_8_8.auto.1.1.1.1.1.0
+same-length-3 c = c.before.along_8_8_8.auto.r
 
 returns-3 : tie.Need-returns-then-pick-eq16
 returns-3 c =
@@ -59,7 +59,7 @@ along-16-4-8-requires c κs =
     rows-so p.0 p.1 (half_is c.before.before.before.before.before) c.before.before.before.before.before.requires.1.0 c.before.before.before.before.before.requires.1.1.0
 
 same-length-4 : tie.Need-shape_of-r-then-pick-eq20
-same-length-4 c = c.before.along_16_4_8.auto.1.1.1.1.1.0
+same-length-4 c = c.before.along_16_4_8.auto.r
 
 returns-4 : tie.Need-returns-then-pick-eq20
 returns-4 c =
@@ -72,7 +72,7 @@ along-16-16-8-requires c κs =
     rows-so p.0 p.1 (half_is c.before.before.before.before.before.before) c.before.before.before.before.before.before.requires.1.0 c.before.before.before.before.before.before.requires.1.1.0
 
 same-length-5 : tie.Need-shape_of-r-then-pick-eq32
-same-length-5 c = c.before.along_16_16_8.auto.1.1.1.1.1.0
+same-length-5 c = c.before.along_16_16_8.auto.r
 
 returns-5 : tie.Need-returns-then-pick-eq32
 returns-5 c =
@@ -85,7 +85,7 @@ along-32-8-8-requires c κs =
     rows-so p.0 p.1 (half_is c.before.before.before.before.before.before.before) c.before.before.before.before.before.before.before.requires.1.0 c.before.before.before.before.before.before.before.requires.1.1.0
 
 same-length-6 : tie.Need-shape_of-r-then-pick-eq40
-same-length-6 c = c.before.along_32_8_8.auto.1.1.1.1.1.0
+same-length-6 c = c.before.along_32_8_8.auto.r
 
 returns-6 : tie.Need-returns-then-pick-eq40
 returns-6 c =
@@ -98,7 +98,7 @@ along-32-32-8-requires c κs =
     rows-so p.0 p.1 (half_is c.before.before.before.before.before.before.before) c.before.before.before.before.before.before.before.requires.1.0 c.before.before.before.before.before.before.before.requires.1.1.0
 
 same-length-7 : tie.Need-shape_of-r
-same-length-7 c = c.before.along_32_32_8.auto.1.1.1.1.1.0
+same-length-7 c = c.before.along_32_32_8.auto.r
 
 returns-7 : tie.Need-returns
 returns-7 c =

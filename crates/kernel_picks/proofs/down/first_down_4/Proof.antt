@@ -13,7 +13,7 @@ down-8-8-4-requires c κs =
     strip-so p.0 p.1 c.before.before.requires.1
 
 same_length : tie.Need-shape_of-m-then-pick-eq16
-same_length c = c.before.down_8_8_4.auto.1.1.1.1.1.0
+same_length c = c.before.down_8_8_4.auto.m
 
 returns : tie.Need-returns-then-pick-eq16
 returns c =
@@ -26,7 +26,7 @@ down-16-16-4-requires c κs =
     strip-so p.0 p.1 c.before.before.requires.1
 
 same-length-2 : tie.Need-shape_of-m
-same-length-2 c = c.before.down_16_16_4.auto.1.1.1.1.1.0
+same-length-2 c = c.before.down_16_16_4.auto.m
 
 returns-2 : tie.Need-returns
 returns-2 c =

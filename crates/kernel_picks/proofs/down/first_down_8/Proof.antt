@@ -14,7 +14,7 @@ down-4-4-8-requires c κs =
     let g = strip-so p.0 p.1 c.before.before.requires.1 in (g.0, (g.1, refl))
 
 same_length : tie.Need-shape_of-m-then-pick-eq8
-same_length c = c.before.down_4_4_8.auto.1.1.1.1.1.0
+same_length c = c.before.down_4_4_8.auto.m
 
 returns : tie.Need-returns-then-pick-eq8
 returns c =
@@ -27,7 +27,7 @@ down-8-4-8-requires c κs =
     strip-so p.0 p.1 c.before.before.before.requires.1
 
 same-length-2 : tie.Need-shape_of-m-then-pick-eq12
-same-length-2 c = c.before.down_8_4_8.auto.1.1.1.1.1.0
+same-length-2 c = c.before.down_8_4_8.auto.m
 
 returns-2 : tie.Need-returns-then-pick-eq12
 returns-2 c =
@@ -40,7 +40,7 @@ down-8-8-8-requires c κs =
     strip-so p.0 p.1 c.before.before.before.before.requires.1
 
 same-length-3 : tie.Need-shape_of-m-then-pick-eq16
-same-length-3 c = c.before.down_8_8_8.auto.1.1.1.1.1.0
+same-length-3 c = c.before.down_8_8_8.auto.m
 
 returns-3 : tie.Need-returns-then-pick-eq16
 returns-3 c =
@@ -53,7 +53,7 @@ down-16-4-8-requires c κs =
     strip-so p.0 p.1 c.before.before.before.before.before.requires.1
 
 same-length-4 : tie.Need-shape_of-m-then-pick-eq20
-same-length-4 c = c.before.down_16_4_8.auto.1.1.1.1.1.0
+same-length-4 c = c.before.down_16_4_8.auto.m
 
 returns-4 : tie.Need-returns-then-pick-eq20
 returns-4 c =
@@ -66,7 +66,7 @@ down-16-16-8-requires c κs =
     strip-so p.0 p.1 c.before.before.before.before.before.before.requires.1
 
 same-length-5 : tie.Need-shape_of-m-then-pick-eq32
-same-length-5 c = c.before.down_16_16_8.auto.1.1.1.1.1.0
+same-length-5 c = c.before.down_16_16_8.auto.m
 
 returns-5 : tie.Need-returns-then-pick-eq32
 returns-5 c =
@@ -79,7 +79,7 @@ down-32-8-8-requires c κs =
     strip-so p.0 p.1 c.before.before.before.before.before.before.before.requires.1
 
 same-length-6 : tie.Need-shape_of-m-then-pick-eq40
-same-length-6 c = c.before.down_32_8_8.auto.1.1.1.1.1.0
+same-length-6 c = c.before.down_32_8_8.auto.m
 
 returns-6 : tie.Need-returns-then-pick-eq40
 returns-6 c =
@@ -92,7 +92,7 @@ down-32-32-8-requires c κs =
     strip-so p.0 p.1 c.before.before.before.before.before.before.before.requires.1
 
 same-length-7 : tie.Need-shape_of-m
-same-length-7 c = c.before.down_32_32_8.auto.1.1.1.1.1.0
+same-length-7 c = c.before.down_32_32_8.auto.m
 
 returns-7 : tie.Need-returns
 returns-7 c =

@@ -1,6 +1,5 @@
 -- `any` meets its contract: where nothing was found, there is nothing before i. Assumes nothing.
 use native.Mathlib.Omega.{arith}
-use mathlib.Core.Logic.{⊎_elim}
 use mathlib.Core.Path.{◌≡◌, sym, ap, ◌∙◌, subst}
 use mathlib.Core.Bool.{false, true≢false}
 use Prim.Native.Nat.{ℕ, ◌-◌, ◌≤◌}
@@ -11,6 +10,7 @@ use Rattle.algebra.specs.Lists.{at}
 use Rattle.layout.specs.Live.{Clear}
 use Rattle.layout.proofs.Looking.{clear-more}
 use Rattle.layout.proofs.live.any.Statement.{statement}
+use Rattle.layout.proofs.live.any.Lts.{then-c-i-ne0, else-c-i-ne0}
 use Rattle.layout.proofs.live.any.Tie as tie
 
 abbrev invariant-loop : tie.invariant-loop-i
@@ -43,7 +43,10 @@ loop-again c =
       omega arith,
       (
         omega arith,
-        λ e. ⊎_elim (λ t. absurd (true≢false (sym t.1 ∙ e))) (λ t. clear-more l L.before.args.a L.loop-i.i (L.loop-i.invariant.1.1 (sym t.1 ∙ e)) (sym v ∙ ap (to_z w16) t.0.false)) c.if-c-i-ne0.branch,
+        λ e. elim c.if-c-i-ne0.branch [
+          then-c-i-ne0 w ↦ absurd (true≢false (sym w.found-is ∙ e))
+        | else-c-i-ne0 w ↦ clear-more l L.before.args.a L.loop-i.i (L.loop-i.invariant.1.1 (sym w.found-is ∙ e)) (sym v ∙ ap (to_z w16) w.if-c-i-ne0.false)
+        ],
       ),
     )
 

@@ -12,65 +12,65 @@ use Rattle.lfnst.proofs.Reading.{Ordered, in-corner, reads}
 use Rattle.lfnst.proofs.corner.short_in_order.Statement.{statement}
 use Rattle.lfnst.proofs.corner.short_in_order.Tie as tie
 
-abbrev invariant-loop : tie.invariant-loop
+abbrev invariant-loop : tie.invariant-loop-i
 invariant-loop corner u₀ order i₀ u i = (i ≤ 16) × (Filled 0 i u u₀ (input (λ x y. at corner (x + 4 * y))) × Ordered order)
 
-abbrev decreases-loop : tie.decreases-loop
+abbrev decreases-loop : tie.decreases-loop-i
 decreases-loop corner u₀ order i₀ u i = 16 - i
 
-loop-holds : tie.Need-loop-init invariant-loop decreases-loop
+loop-holds : tie.Need-loop-i-init invariant-loop decreases-loop
 unfolding order
 loop-holds c = (omega arith, (fill_none 0 _ _, record { right = tt }))
 
-mul-u : tie.Need-overflow-mul-u invariant-loop decreases-loop
-mul-u c = omega (arith, c.loop-test.true)
+mul-u : tie.Need-offset_bounds-order-i invariant-loop decreases-loop
+mul-u c = omega (arith, c.loop-i-test.true)
 
-array-read-u : tie.Need-array-read-u invariant-loop decreases-loop
-array-read-u c = omega (arith, c.loop-test.true)
+array-read-u : tie.Need-bounds-order-i invariant-loop decreases-loop
+array-read-u c = omega (arith, c.loop-i-test.true)
 
-mul-u-2 : tie.Need-overflow-mul-u-2 invariant-loop decreases-loop
-mul-u-2 c = omega (arith, in-corner c.before.loop.invariant.1.1 c.before.loop.i c.loop-test.true)
+mul-u-2 : tie.Need-offset_bounds-corner-order invariant-loop decreases-loop
+mul-u-2 c = omega (arith, in-corner c.before.loop-i.invariant.1.1 c.before.loop-i.i c.loop-i-test.true)
 
-element-copy-out-u : tie.Need-element-copy-out-u invariant-loop decreases-loop
-element-copy-out-u c = omega (arith, in-corner c.before.loop.invariant.1.1 c.before.loop.i c.loop-test.true)
+element-copy-out-u : tie.Need-bounds-corner-order invariant-loop decreases-loop
+element-copy-out-u c = omega (arith, in-corner c.before.loop-i.invariant.1.1 c.before.loop-i.i c.loop-i-test.true)
 
-cast-u : tie.Need-overflow-cast-u invariant-loop decreases-loop
+cast-u : tie.Need-overflow_cast-u invariant-loop decreases-loop
 cast-u c =
     let L = c.before.before in
-    cast-fits! (arg (record { sfits = c.u.given })) (L.before.requires.1.1 _ (in-corner L.loop.invariant.1.1 L.loop.i c.before.loop-test.true))
+    cast-fits! (arg (record { sfits = c.u-1.given })) (L.before.requires.1.1 _ (in-corner L.loop-i.invariant.1.1 L.loop-i.i c.before.loop-i-test.true))
 
-mul-t16 : tie.Need-overflow-mul-t16 invariant-loop decreases-loop
+mul-t16 : tie.Need-offset_bounds-u-i invariant-loop decreases-loop
 mul-t16 c = search rules
 
-element-set-from-u : tie.Need-element-set-from-u invariant-loop decreases-loop
+element-set-from-u : tie.Need-bounds-u-i invariant-loop decreases-loop
 element-set-from-u c = search rules
 
-add-i : tie.Need-overflow-add-i invariant-loop decreases-loop
+add-i : tie.Need-overflow_add-i invariant-loop decreases-loop
 add-i c = search rules
 
-loop-less : tie.Need-loop-smaller invariant-loop decreases-loop
+loop-less : tie.Need-loop-i-smaller invariant-loop decreases-loop
 loop-less c = search rules
 
-loop-again : tie.Need-loop-preserved invariant-loop decreases-loop
+loop-again : tie.Need-loop-i-preserved invariant-loop decreases-loop
 loop-again c =
     let I = c.before in
     let L = I.before in
     let s = L.before in (
       omega arith,
       (
-        fill-first _ (omega (arith, s.requires.1.0, I.loop-test.true)) L.loop.invariant.1.0
-            ((cast_v! (arg (record { sfits = c.u.given })) (s.requires.1.1 _ (in-corner L.loop.invariant.1.1 L.loop.i I.loop-test.true))).val ∙ reads L.loop.invariant.1.1 L.loop.i I.loop-test.true s.args.corner.now),
-        L.loop.invariant.1.1,
+        fill-first _ (omega (arith, s.requires.1.0, I.loop-i-test.true)) L.loop-i.invariant.1.0
+            ((cast_v! (arg (record { sfits = c.u-1.given })) (s.requires.1.1 _ (in-corner L.loop-i.invariant.1.1 L.loop-i.i I.loop-i-test.true))).val ∙ reads L.loop-i.invariant.1.1 L.loop-i.i I.loop-i-test.true s.args.corner.now),
+        L.loop-i.invariant.1.1,
       ),
     )
 
 returns : tie.Need-returns invariant-loop decreases-loop
 returns c =
     let L = c.before in
-    filled-to L.before.requires.1.0 L.loop.invariant.0 c.loop-test.false L.loop.invariant.1.0
+    filled-to L.before.requires.1.0 L.loop-i.invariant.0 c.loop-i-test.false L.loop-i.invariant.1.0
 
-pub short-in-order-spec : {M : Type 1} → statement M
-short-in-order-spec =
+pub short_in_order_spec : {M : Type 1} → statement M
+short_in_order_spec =
     tie.close
     (tie.spec
     invariant-loop

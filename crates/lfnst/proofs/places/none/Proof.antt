@@ -9,40 +9,40 @@ use Rattle.kernel_steps.proofs.Writing.{wrote_none, wrote_at}
 use Rattle.lfnst.proofs.places.none.Statement.{statement}
 use Rattle.lfnst.proofs.places.none.Tie as tie
 
-mul-numbers : tie.Need-overflow-mul-numbers
+mul-numbers : tie.Need-offset_bounds-numbers-p
 mul-numbers c = search rules
 
-slice-set-of-numbers : tie.Need-slice-set-of-numbers
+slice-set-of-numbers : tie.Need-slice_set_of-numbers
 slice-set-of-numbers c = search rules
 
-add-numbers : tie.Need-overflow-add-numbers
+add-numbers : tie.Need-overflow_add-numbers
 add-numbers c = search rules
 
-mul-numbers-2 : tie.Need-overflow-mul-numbers-2
+mul-numbers-2 : tie.Need-offset_bounds-numbers-p-2
 mul-numbers-2 c = search rules
 
-slice-set-of-numbers-2 : tie.Need-slice-set-of-numbers-2
+slice-set-of-numbers-2 : tie.Need-slice_set_of-numbers-2
 slice-set-of-numbers-2 c = simp length-set (omega (arith, c.requires))
 
-add-numbers-2 : tie.Need-overflow-add-numbers-2
+add-numbers-2 : tie.Need-overflow_add-numbers-2
 add-numbers-2 c = search rules
 
-mul-numbers-3 : tie.Need-overflow-mul-numbers-3
+mul-numbers-3 : tie.Need-offset_bounds-numbers-p-3
 mul-numbers-3 c = search rules
 
-slice-set-of-numbers-3 : tie.Need-slice-set-of-numbers-3
+slice-set-of-numbers-3 : tie.Need-slice_set_of-numbers-3
 slice-set-of-numbers-3 c = simp length-set (omega (arith, c.requires))
 
-add-numbers-3 : tie.Need-overflow-add-numbers-3
+add-numbers-3 : tie.Need-overflow_add-numbers-3
 add-numbers-3 c = search rules
 
-mul-numbers-4 : tie.Need-overflow-mul-numbers-4
+mul-numbers-4 : tie.Need-offset_bounds-numbers-p-4
 mul-numbers-4 c = search rules
 
-slice-set-of-numbers-4 : tie.Need-slice-set-of-numbers-4
+slice-set-of-numbers-4 : tie.Need-slice_set_of-numbers-4
 slice-set-of-numbers-4 c = simp length-set (omega (arith, c.requires))
 
-same_length : tie.Need-same-length
+same_length : tie.Need-shape_of-numbers
 same_length c = search rules
 
 returns : tie.Need-returns

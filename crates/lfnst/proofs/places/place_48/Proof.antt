@@ -14,50 +14,50 @@ use Rattle.lfnst.proofs.Placing.{next_row, placed}
 use Rattle.lfnst.proofs.places.place_48.Statement.{statement}
 use Rattle.lfnst.proofs.places.place_48.Tie as tie
 
-abbrev invariant-loop : tie.invariant-loop
+abbrev invariant-loop : tie.invariant-loop-y
 invariant-loop transposed w v numbers₀ y₀ numbers y = (y ≤ 8) × Spread 8 y 0 w (standing true transposed (at v)) numbers numbers₀
 
-abbrev decreases-loop : tie.decreases-loop
+abbrev decreases-loop : tie.decreases-loop-y
 decreases-loop transposed w v numbers₀ y₀ numbers y = 8 - y
 
 -- the row is one of the first 8
-room : (c : tie.In-loop invariant-loop decreases-loop) → c.before.loop.y * c.before.before.args.w ≤ 7 * c.before.before.args.w
+room : (c : tie.In-loop-y invariant-loop decreases-loop) → c.before.loop-y.y * c.before.before.args.w ≤ 7 * c.before.before.args.w
 room c =
-    let l : c.before.loop.y ≤ 7 = omega (arith, c.loop-test.true) in
+    let l : c.before.loop-y.y ≤ 7 = omega (arith, c.loop-y-test.true) in
     mul-le-mul_right c.before.before.args.w l
 
-loop-holds : tie.Need-loop-init invariant-loop decreases-loop
+loop-holds : tie.Need-loop-y-init invariant-loop decreases-loop
 loop-holds c = (omega arith, spread_none _ _ _ _ _)
 
-mul-row-48 : tie.Need-overflow-mul-row-48 invariant-loop decreases-loop
+mul-row-48 : tie.Need-overflow_mul-y invariant-loop decreases-loop
 mul-row-48 c = omega (arith, room c.before)
 
-row-48-requires : tie.Need-row-48-requires invariant-loop decreases-loop
-row-48-requires c κs = let s = c.before.before.before in (c.before.loop-test.true, (s.requires.0, omega (arith, room c.before, c.before.before.loop.invariant.1.long, s.requires.1)))
+row-48-requires : tie.Need-row_48-requires invariant-loop decreases-loop
+row-48-requires c κs = let s = c.before.before.before in (c.before.loop-y-test.true, (s.requires.0, omega (arith, room c.before, c.before.before.loop-y.invariant.1.long, s.requires.1)))
 
-add-y : tie.Need-overflow-add-y invariant-loop decreases-loop
+add-y : tie.Need-overflow_add-y invariant-loop decreases-loop
 add-y c = search rules
 
-loop-less : tie.Need-loop-smaller invariant-loop decreases-loop
+loop-less : tie.Need-loop-y-smaller invariant-loop decreases-loop
 loop-less c = search rules
 
-loop-again : tie.Need-loop-preserved invariant-loop decreases-loop
+loop-again : tie.Need-loop-y-preserved invariant-loop decreases-loop
 loop-again c =
     let R = c.before in
     let L = R.before.before.before in
     let s = L.before in
-    (omega arith, next_row s.requires.1.0 L.loop.invariant.1 R.row-48.ensures)
+    (omega arith, next_row s.requires.1.0 L.loop-y.invariant.1 R.row_48.ensures)
 
-same_length : tie.Need-same-length invariant-loop decreases-loop
-same_length c = c.before.loop.invariant.1.long
+same_length : tie.Need-shape_of-numbers invariant-loop decreases-loop
+same_length c = c.before.loop-y.invariant.1.long
 
 returns : tie.Need-returns invariant-loop decreases-loop
 returns c =
     let L = c.before in
-    placed (spread-to 8 (omega (arith, L.loop.invariant.0, c.loop-test.false)) L.loop.invariant.1)
+    placed (spread-to 8 (omega (arith, L.loop-y.invariant.0, c.loop-y-test.false)) L.loop-y.invariant.1)
 
-pub place-48-spec : {M : Type 1} → statement M
-place-48-spec =
+pub place_48_spec : {M : Type 1} → statement M
+place_48_spec =
     tie.close
     (tie.spec
     invariant-loop

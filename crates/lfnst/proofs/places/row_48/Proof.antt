@@ -10,19 +10,19 @@ turned-requires c κs = c.before.before.requires
 straight-requires : tie.Need-straight-requires
 straight-requires c κs = c.before.before.requires
 
-same_length : tie.Need-same-length
+same_length : tie.Need-shape_of-numbers-then-transposed
 same_length c = c.before.turned.ensures.long
 
-returns : tie.Need-returns
-returns c = rw c.before.before.before.if1.true c.before.turned.ensures
+returns : tie.Need-returns-then-transposed
+returns c = rw c.before.before.before.if-transposed.true c.before.turned.ensures
 
-same-length-2 : tie.Need-same-length-2
+same-length-2 : tie.Need-shape_of-numbers-else-transposed
 same-length-2 c = c.before.straight.ensures.long
 
-returns-2 : tie.Need-returns-2
-returns-2 c = rw c.before.before.before.if1.false c.before.straight.ensures
+returns-2 : tie.Need-returns-else-transposed
+returns-2 c = rw c.before.before.before.if-transposed.false c.before.straight.ensures
 
-pub row-48-spec : {M : Type 1} → statement M
-row-48-spec =
+pub row_48_spec : {M : Type 1} → statement M
+row_48_spec =
     tie.close
     (tie.spec turned-requires straight-requires same_length returns same-length-2 returns-2)

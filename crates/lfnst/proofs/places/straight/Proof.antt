@@ -6,76 +6,76 @@ use Rattle.lfnst.proofs.Placing.{halves, above-left, above-right, below_left, be
 use Rattle.lfnst.proofs.places.straight.Statement.{statement}
 use Rattle.lfnst.proofs.places.straight.Tie as tie
 
-mul-four : tie.Need-overflow-mul-four
+mul-four : tie.Need-overflow_mul-y
 mul-four c = search rules
 
 four-requires : tie.Need-four-requires
-four-requires c κs = let s = c.before.before in (omega (arith, c.before.if1.true), (s.requires.1.0, omega (arith, s.requires.1.1)))
+four-requires c κs = let s = c.before.before in (omega (arith, c.before.if-y-lt4.true), (s.requires.1.0, omega (arith, s.requires.1.1)))
 
-mul-four-2 : tie.Need-overflow-mul-four-2
+mul-four-2 : tie.Need-overflow_mul-y-then-y-lt4
 mul-four-2 c = search rules
 
-add-four : tie.Need-overflow-add-four
+add-four : tie.Need-overflow_add-y
 add-four c = search rules
 
-add-four-2 : tie.Need-overflow-add-four-2
+add-four-2 : tie.Need-overflow_add-p
 add-four-2 c = search rules
 
-four-requires-2 : tie.Need-four-requires-2
+four-requires-2 : tie.Need-four-requires-then-y-lt4
 four-requires-2 c κs =
     let F = c.before.before in
     let T = F.before.before in
     let s = T.before in
-    (omega (arith, T.if1.true), (s.requires.1.0, omega (arith, F.four.ensures.long, s.requires.1.1)))
+    (omega (arith, T.if-y-lt4.true), (s.requires.1.0, omega (arith, F.four.ensures.long, s.requires.1.1)))
 
-mul-four-3 : tie.Need-overflow-mul-four-3
+mul-four-3 : tie.Need-overflow_mul-y-else-y-lt4
 mul-four-3 c = search rules
 
-add-four-3 : tie.Need-overflow-add-four-3
+add-four-3 : tie.Need-overflow_add-y-else-y-lt4
 add-four-3 c = search rules
 
-four-requires-3 : tie.Need-four-requires-3
+four-requires-3 : tie.Need-four-requires-else-y-lt4
 four-requires-3 c κs = let s = c.before.before in (omega (arith, s.requires.0), (s.requires.1.0, omega (arith, s.requires.1.1)))
 
-add_none : tie.Need-overflow-add-none
+add_none : tie.Need-overflow_add-p-else-y-lt4
 add_none c = search rules
 
 none-requires : tie.Need-none-requires
 none-requires c κs =
     let F = c.before.before in
     let s = F.before.before.before in
-    omega (arith, F.four3.ensures.long, s.requires.1.1)
+    omega (arith, F.four-else-y-lt4.ensures.long, s.requires.1.1)
 
-same_length : tie.Need-same-length
+same_length : tie.Need-shape_of-numbers-then-y-lt4
 same_length c =
     let G = c.before in
-    G.four2.ensures.long ∙ G.before.before.before.four.ensures.long
+    G.four-then-y-lt4.ensures.long ∙ G.before.before.before.four.ensures.long
 
-returns : tie.Need-returns
+returns : tie.Need-returns-then-y-lt4
 returns c =
     let G = c.before in
     let F = G.before.before.before in
     let T = F.before.before in
     let s = T.before in
-    let l = T.if1.true in
-    halves F.four.ensures G.four2.ensures (above-left s.args.v.now s.args.y l) (above-right s.args.v.now s.args.y l)
+    let l = T.if-y-lt4.true in
+    halves F.four.ensures G.four-then-y-lt4.ensures (above-left s.args.v.now s.args.y l) (above-right s.args.v.now s.args.y l)
 
-same-length-2 : tie.Need-same-length-2
+same-length-2 : tie.Need-shape_of-numbers-else-y-lt4
 same-length-2 c =
     let G = c.before in
-    G.none.ensures.long ∙ G.before.before.before.four3.ensures.long
+    G.none.ensures.long ∙ G.before.before.before.four-else-y-lt4.ensures.long
 
-returns-2 : tie.Need-returns-2
+returns-2 : tie.Need-returns-else-y-lt4
 returns-2 c =
     let G = c.before in
     let F = G.before.before.before in
     let T = F.before.before in
     let s = T.before in
-    let l = T.if1.false in
-    halves F.four3.ensures G.none.ensures (below_left s.args.v.now s.args.y l s.requires.0) (below_right s.args.v.now s.args.y l s.requires.0)
+    let l = T.if-y-lt4.false in
+    halves F.four-else-y-lt4.ensures G.none.ensures (below_left s.args.v.now s.args.y l s.requires.0) (below_right s.args.v.now s.args.y l s.requires.0)
 
-pub straight-spec : {M : Type 1} → statement M
-straight-spec =
+pub straight_spec : {M : Type 1} → statement M
+straight_spec =
     tie.close
     (tie.spec
     mul-four

@@ -12,16 +12,16 @@ use Rattle.lfnst.proofs.sums.long_48.Tie as tie
 put-requires : tie.Need-put-requires
 put-requires c κs = c.before.requires.0
 
-slice-aggregate-long-sums : tie.Need-slice-aggregate-long-sums
+slice-aggregate-long-sums : tie.Need-slice_bounds-long_sums-end
 slice-aggregate-long-sums c = search rules
 
 -- what the sums are given
-given : (c : tie.After-put) → let s = c.before.before in GivenSums 48 s.args.pairs c.put.new.1.0 s.args.u.now s.args.v.now
+given : (c : tie.After-put) → let s = c.before.before in GivenSums 48 s.args.pairs c.put.new.t s.args.u.now s.args.v.now
 given c =
     let p = c.before.before.requires in
     given-sums true p.0 p.1.0 p.1.1.0 p.1.1.1.0 c.put.ensures.1 p.1.1.1.1
 
-long-sums-requires : tie.Need-long-sums-requires
+long-sums-requires : tie.Need-long_sums-requires
 long-sums-requires c κs =
     given c.before.before
 
@@ -29,9 +29,9 @@ finish-requires : tie.Need-finish-requires
 finish-requires c κs =
     let S = c.before.before in
     let P = S.before.before.before in
-    (small-sums (given P) S.long-sums.ensures, P.before.before.requires.1.1.0)
+    (small-sums (given P) S.long_sums.ensures, P.before.before.requires.1.1.0)
 
-same_length : tie.Need-same-length
+same_length : tie.Need-shape_of-v
 same_length c = search rules
 
 returns : tie.Need-returns
@@ -41,10 +41,10 @@ returns c =
     let P = S.before.before.before in
     let s = P.before.before in
     let p = s.requires in
-    wrote-again (middle (range_of s.args.reach)) S.long-sums.ensures F.finish.ensures
+    wrote-again (middle (range_of s.args.reach)) S.long_sums.ensures F.finish.ensures
     (line-entries true p.0 p.1.0 p.1.1.0 p.1.1.1.0 P.put.ensures.1)
 
-pub long-48-spec : {M : Type 1} → statement M
-long-48-spec =
+pub long_48_spec : {M : Type 1} → statement M
+long_48_spec =
     tie.close
     (tie.spec put-requires slice-aggregate-long-sums long-sums-requires finish-requires same_length returns)

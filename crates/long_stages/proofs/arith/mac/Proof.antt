@@ -18,16 +18,16 @@ w c = cast w64 (arg {w = w16} c.ranges.w) tt
 abbrev v : tie.Start → MV w64
 v c = cast w64 (arg {w = w32} c.ranges.v) tt
 
-cast-result : tie.Need-overflow-cast-result
+cast-result : tie.Need-overflow_cast-result
 cast-result c = cast_fits w64 (arg {w = w16} c.ranges.w) tt
 
-cast-result-2 : tie.Need-overflow-cast-result-2
+cast-result-2 : tie.Need-overflow_cast-result-2
 cast-result-2 c = cast_fits w64 (arg {w = w32} c.ranges.v) tt
 
-mul-result : tie.Need-overflow-mul-result
+mul-result : tie.Need-overflow_mul-result
 mul-result c = mul-fits (w c) (v c) tt
 
-add-result : tie.Need-overflow-add-result
+add-result : tie.Need-overflow_add-result
 add-result c = add-fits (a c) (mul (w c) (v c) tt) tt
 
 returns : tie.Need-returns
@@ -37,5 +37,5 @@ returns c =
     let m : nat_abs (s.w *ℤ s.v) ≤ 70368744177664 = (mul (w c) (v c) tt).is.abs in
     (e, subst (λ (z : ℤ). nat_abs z ≤ nat_abs s.a + 70368744177664) (sym e) (omega (arith, abs-add s.a (s.w *ℤ s.v), m)))
 
-pub mac-spec : {M : Type 1} → statement M
-mac-spec = tie.close (tie.spec cast-result cast-result-2 mul-result add-result returns)
+pub mac_spec : {M : Type 1} → statement M
+mac_spec = tie.close (tie.spec cast-result cast-result-2 mul-result add-result returns)

@@ -26,28 +26,28 @@ made c =
 abbrev added : tie.Start → MV w64
 added c = record { n = (1 * 2 ^ (c.args.s - 1)) % 18446744073709551616; z = pos (2 ^ (c.args.s - 1)); size = 2147483648; is = record { val = made c; abs = half c } }
 
-sub-result : tie.Need-overflow-sub-result
+sub-result : tie.Need-overflow_sub-result
 sub-result c = search rules
 
-cast-result : tie.Need-overflow-cast-result
+cast-result : tie.Need-overflow_cast-result
 cast-result c = search rules
 
-shl-result : tie.Need-overflow-shl-result
+shl-result : tie.Need-overflow_shl-result
 shl-result c = search rules
 
-add-result : tie.Need-overflow-add-result
+add-result : tie.Need-overflow_add-result
 add-result c = add-fits (arg≤ c.ranges.z c.requires.0) (added c) tt
 
-cast-result-2 : tie.Need-overflow-cast-result-2
+cast-result-2 : tie.Need-overflow_cast-result-2
 cast-result-2 c = search rules
 
-shr-result : tie.Need-overflow-shr-result
+shr-result : tie.Need-overflow_shr-result
 shr-result c = search rules
 
 returns : tie.Need-returns
 returns c = val (shr (add (arg≤ c.ranges.z c.requires.0) (added c) tt) (2 ^ c.args.s) tt)
 
-pub nearest-spec : {M : Type 1} → statement M
-nearest-spec =
+pub nearest_spec : {M : Type 1} → statement M
+nearest_spec =
     tie.close
     (tie.spec sub-result cast-result shl-result add-result cast-result-2 shr-result returns)

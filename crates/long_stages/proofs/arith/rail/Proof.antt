@@ -16,19 +16,19 @@ use Rattle.long_stages.proofs.arith.rail.Tie as tie
 wider : (c : tie.Start) → to_z w64 (of_z w64 (to_z w32 (of_z w32 c.args.after))) ≡ c.args.after
 wider c = val (cast w64 (arg c.ranges.after) tt)
 
-cast-if1 : tie.Need-overflow-cast-if1
+cast-if1 : tie.Need-overflow_cast-after
 cast-if1 c = cast_fits w64 (arg c.ranges.after) tt
 
-returns : tie.Need-returns
+returns : tie.Need-returns-then-after-before
 returns c =
     let s = c.before in
-    let e : s.args.after ≡ s.args.before = sym (wider s) ∙ ap (to_z w64) c.if1.true ∙ to_z-of_z w64 s.args.before s.ranges.before in
+    let e : s.args.after ≡ s.args.before = sym (wider s) ∙ ap (to_z w64) c.if-after-before.true ∙ to_z-of_z w64 s.args.before s.ranges.before in
     sym (none-counts (eq_z s.args.after s.args.before) (eq→eq_z s.args.after s.args.before e))
 
-returns-2 : tie.Need-returns-2
+returns-2 : tie.Need-returns-else-after-before
 returns-2 c =
     let s = c.before in
-    ap (λ (b : Bool). count (not b)) (sym (eq_z-no s.args.after s.args.before (λ e. c.if1.false (ap (of_z w64) (to_z-of_z w32 s.args.after s.ranges.after ∙ e)))))
+    ap (λ (b : Bool). count (not b)) (sym (eq_z-no s.args.after s.args.before (λ e. c.if-after-before.false (ap (of_z w64) (to_z-of_z w32 s.args.after s.ranges.after ∙ e)))))
 
-pub rail-spec : {M : Type 1} → statement M
-rail-spec = tie.close (tie.spec cast-if1 returns returns-2)
+pub rail_spec : {M : Type 1} → statement M
+rail_spec = tie.close (tie.spec cast-if1 returns returns-2)

@@ -19,60 +19,60 @@ use Rattle.long_stages.proofs.hunt.first_beyond.Tie as tie
 abbrev test : ℕ → ℕ → ℤ → Bool
 test reach k z = beyond (range_of reach) z
 
-abbrev invariant-loop : tie.invariant-loop
+abbrev invariant-loop : tie.invariant-loop-k
 invariant-loop reach c k₀ k = (k ≤ length c) × (first_at (test reach) 0 c ≡ first_at (test reach) k (drop k c))
 
-abbrev decreases-loop : tie.decreases-loop
+abbrev decreases-loop : tie.decreases-loop-k
 decreases-loop reach c k₀ k = length c - k
 
-loop-holds : tie.Need-loop-init invariant-loop decreases-loop
+loop-holds : tie.Need-loop-k-init invariant-loop decreases-loop
 loop-holds c = (omega arith, refl)
 
-mul-is-beyond : tie.Need-overflow-mul-is-beyond invariant-loop decreases-loop
+mul-is-beyond : tie.Need-offset_bounds-c-k invariant-loop decreases-loop
 mul-is-beyond c = search rules
 
-shared-slice-copy-out-is-beyond : tie.Need-shared-slice-copy-out-is-beyond invariant-loop decreases-loop
+shared-slice-copy-out-is-beyond : tie.Need-bounds-c-k invariant-loop decreases-loop
 shared-slice-copy-out-is-beyond c = search rules
 
-is-beyond-requires : tie.Need-is-beyond-requires invariant-loop decreases-loop
+is-beyond-requires : tie.Need-is_beyond-requires invariant-loop decreases-loop
 is-beyond-requires c κs = c.before.before.before.requires
 
 -- what `is_beyond` said is the test at this place
-told : (c : tie.After-is-beyond invariant-loop decreases-loop) → let L = c.before.before.before in let s = L.before.args in
-    test s.reach L.loop.k (at s.c.now L.loop.k) ≡ c.is-beyond.result
+told : (c : tie.After-is_beyond invariant-loop decreases-loop) → let L = c.before.before.before in let s = L.before.args in
+    test s.reach L.loop-k.k (at s.c.now L.loop-k.k) ≡ c.is_beyond.result
 told c =
     let L = c.before.before.before in
     let s = L.before.args in
-    sym (c.is-beyond.ensures ∙ ap (beyond (range_of s.reach)) (to_z-of_z w32 (at s.c.now L.loop.k) (record { sfits = c.before.is-beyond-arg.given })))
+    sym (c.is_beyond.ensures ∙ ap (beyond (range_of s.reach)) (to_z-of_z w32 (at s.c.now L.loop-k.k) (record { sfits = c.before.is_beyond-arg-1.given })))
 
-returns : tie.Need-returns invariant-loop decreases-loop
+returns : tie.Need-returns-then-is_beyond invariant-loop decreases-loop
 returns c =
     let I = c.before.before.before in
     let L = I.before in
     let s = L.before.args in
-    sym (L.loop.invariant.1 ∙ first-here (test s.reach) s.c.now L.loop.k I.loop-test.true (told c.before ∙ c.if1.true))
+    sym (L.loop-k.invariant.1 ∙ first-here (test s.reach) s.c.now L.loop-k.k I.loop-k-test.true (told c.before ∙ c.if-is_beyond.true))
 
-add-k : tie.Need-overflow-add-k invariant-loop decreases-loop
+add-k : tie.Need-overflow_add-k invariant-loop decreases-loop
 add-k c = search rules
 
-loop-less : tie.Need-loop-smaller invariant-loop decreases-loop
+loop-less : tie.Need-loop-k-smaller invariant-loop decreases-loop
 loop-less c = search rules
 
-loop-again : tie.Need-loop-preserved invariant-loop decreases-loop
+loop-again : tie.Need-loop-k-preserved invariant-loop decreases-loop
 loop-again c =
     let I = c.before.before.before in
     let L = I.before in
     let s = L.before.args in
-    (omega arith, L.loop.invariant.1 ∙ first_on (test s.reach) s.c.now L.loop.k I.loop-test.true (told c.before ∙ c.if1.false))
+    (omega arith, L.loop-k.invariant.1 ∙ first_on (test s.reach) s.c.now L.loop-k.k I.loop-k-test.true (told c.before ∙ c.if-is_beyond.false))
 
-returns-2 : tie.Need-returns-2 invariant-loop decreases-loop
+returns-2 : tie.Need-returns invariant-loop decreases-loop
 returns-2 c =
     let L = c.before in
     let s = L.before.args in
-    sym (L.loop.invariant.1 ∙ first-none (test s.reach) s.c.now L.loop.k (omega arith))
+    sym (L.loop-k.invariant.1 ∙ first-none (test s.reach) s.c.now L.loop-k.k (omega arith))
 
-pub first-beyond-spec : {M : Type 1} → statement M
-first-beyond-spec =
+pub first_beyond_spec : {M : Type 1} → statement M
+first_beyond_spec =
     tie.close
     (tie.spec
     invariant-loop

@@ -13,10 +13,10 @@ use Rattle.layout.proofs.Hunting.{Hunt, hunt-in, hunt-start, hunt-next, hunt-dow
 use Rattle.long_stages.proofs.hunt.first_outside.Statement.{statement}
 use Rattle.long_stages.proofs.hunt.first_outside.Tie as tie
 
-abbrev invariant-loop : tie.invariant-loop
+abbrev invariant-loop : tie.invariant-loop-x
 invariant-loop c w h columns rows place₀ y x₀ place x = Hunt (outside_of w columns rows) w h c place x y
 
-abbrev decreases-loop : tie.decreases-loop
+abbrev decreases-loop : tie.decreases-loop-x
 decreases-loop c w h columns rows place₀ y x₀ place x = w - x
 
 abbrev invariant-hunt : tie.invariant-hunt
@@ -29,39 +29,39 @@ abbrev start : tie.At-hunt invariant-loop decreases-loop invariant-hunt decrease
 start H = H.before.before.before.before.before
 
 -- in a turn the place is in the slice
-within : (c : tie.In-loop invariant-loop decreases-loop invariant-hunt decreases-hunt) → let H = c.before.before.before in let s = start H in
-    c.before.loop.x + H.hunt.y * s.args.shape.width < length s.args.c.now
-within c = let s = start c.before.before.before in hunt-in s.args.c.now s.pre c.loop-test.true c.before.before.hunt-test.true
+within : (c : tie.In-loop-x invariant-loop decreases-loop invariant-hunt decreases-hunt) → let H = c.before.before.before in let s = start H in
+    c.before.loop-x.x + H.hunt.y * s.args.shape.width < length s.args.c.now
+within c = let s = start c.before.before.before in hunt-in s.args.c.now s.requires c.loop-x-test.true c.before.before.hunt-test.true
 
-cast-w : tie.Need-overflow-cast-w invariant-loop decreases-loop invariant-hunt decreases-hunt
+cast-w : tie.Need-overflow_cast-w invariant-loop decreases-loop invariant-hunt decreases-hunt
 cast-w c = search rules
 
-cast-h : tie.Need-overflow-cast-h invariant-loop decreases-loop invariant-hunt decreases-hunt
+cast-h : tie.Need-overflow_cast-h invariant-loop decreases-loop invariant-hunt decreases-hunt
 cast-h c = search rules
 
-cast-columns : tie.Need-overflow-cast-columns invariant-loop decreases-loop invariant-hunt decreases-hunt
+cast-columns : tie.Need-overflow_cast-columns invariant-loop decreases-loop invariant-hunt decreases-hunt
 cast-columns c = search rules
 
-cast-rows : tie.Need-overflow-cast-rows invariant-loop decreases-loop invariant-hunt decreases-hunt
+cast-rows : tie.Need-overflow_cast-rows invariant-loop decreases-loop invariant-hunt decreases-hunt
 cast-rows c = search rules
 
 hunt-holds : tie.Need-hunt-init invariant-loop decreases-loop invariant-hunt decreases-hunt
 hunt-holds c = hunt-start c.before.before.before.before.requires
 
-loop-holds : tie.Need-loop-init invariant-loop decreases-loop invariant-hunt decreases-hunt
+loop-holds : tie.Need-loop-x-init invariant-loop decreases-loop invariant-hunt decreases-hunt
 loop-holds c = c.before.hunt.invariant
 
-mul_at : tie.Need-overflow-mul-at invariant-loop decreases-loop invariant-hunt decreases-hunt
+mul_at : tie.Need-overflow_mul-at invariant-loop decreases-loop invariant-hunt decreases-hunt
 mul_at c = omega (arith, within c)
 
-add_at : tie.Need-overflow-add-at invariant-loop decreases-loop invariant-hunt decreases-hunt
+add_at : tie.Need-overflow_add-at invariant-loop decreases-loop invariant-hunt decreases-hunt
 add_at c = omega (arith, within c)
 
-mul-outside : tie.Need-overflow-mul-outside invariant-loop decreases-loop invariant-hunt decreases-hunt
+mul-outside : tie.Need-offset_bounds-c-at invariant-loop decreases-loop invariant-hunt decreases-hunt
 mul-outside c = omega (arith, within c)
 
 shared-slice-copy-out-outside :
-    tie.Need-shared-slice-copy-out-outside invariant-loop decreases-loop invariant-hunt decreases-hunt
+    tie.Need-bounds-c-at invariant-loop decreases-loop invariant-hunt decreases-hunt
 shared-slice-copy-out-outside c = within c
 
 outside-requires : tie.Need-outside-requires invariant-loop decreases-loop invariant-hunt decreases-hunt
@@ -69,29 +69,29 @@ outside-requires c κs = search rules
 
 -- what `outside` said is the test at this place
 told : (c : tie.After-outside invariant-loop decreases-loop invariant-hunt decreases-hunt) → let L = c.before.before.before in let H = L.before.before in
-    let s = start H in let k = L.loop.x + H.hunt.y * s.args.shape.width in
+    let s = start H in let k = L.loop-x.x + H.hunt.y * s.args.shape.width in
     outside_of s.args.shape.width s.args.shape.columns s.args.shape.rows k (at s.args.c.now k) ≡ c.outside.result
 told c =
     let L = c.before.before.before in
     let H = L.before.before in
     let s = start H in
-    let k = L.loop.x + H.hunt.y * s.args.shape.width in
-    outside-at s.args.shape.width _ _ L.loop.x H.hunt.y (at s.args.c.now k) c.before.before.loop-test.true
-    ∙ sym (c.outside.ensures ∙ ap (outside_at _ _ L.loop.x H.hunt.y) (to_z-of_z w32 (at s.args.c.now k) (record { sfits = c.before.outside-arg.given })))
+    let k = L.loop-x.x + H.hunt.y * s.args.shape.width in
+    outside-at s.args.shape.width _ _ L.loop-x.x H.hunt.y (at s.args.c.now k) c.before.before.loop-x-test.true
+    ∙ sym (c.outside.ensures ∙ ap (outside_at _ _ L.loop-x.x H.hunt.y) (to_z-of_z w32 (at s.args.c.now k) (record { sfits = c.before.outside-arg-1.given })))
 
-add-x : tie.Need-overflow-add-x invariant-loop decreases-loop invariant-hunt decreases-hunt
+add-x : tie.Need-overflow_add-x invariant-loop decreases-loop invariant-hunt decreases-hunt
 add-x c = search rules
 
-loop-less : tie.Need-loop-smaller invariant-loop decreases-loop invariant-hunt decreases-hunt
+loop-less : tie.Need-loop-x-smaller invariant-loop decreases-loop invariant-hunt decreases-hunt
 loop-less c = search rules
 
-loop-again : tie.Need-loop-preserved invariant-loop decreases-loop invariant-hunt decreases-hunt
+loop-again : tie.Need-loop-x-preserved invariant-loop decreases-loop invariant-hunt decreases-hunt
 loop-again c =
     let I = c.before.before.before in
     let T = I.before.before in
-    hunt-next (start T.before).pre T.hunt-test.true I.before.loop.invariant I.loop-test.true (told c.before ∙ c.if1.false)
+    hunt-next (start T.before).requires T.hunt-test.true I.before.loop-x.invariant I.loop-x-test.true (told c.before ∙ c.if-outside.false)
 
-add-y : tie.Need-overflow-add-y invariant-loop decreases-loop invariant-hunt decreases-hunt
+add-y : tie.Need-overflow_add-y invariant-loop decreases-loop invariant-hunt decreases-hunt
 add-y c = search rules
 
 hunt-less : tie.Need-hunt-smaller invariant-loop decreases-loop invariant-hunt decreases-hunt
@@ -100,19 +100,19 @@ hunt-less c = search rules
 hunt-again : tie.Need-hunt-preserved invariant-loop decreases-loop invariant-hunt decreases-hunt
 hunt-again c =
     let T = c.before.before in
-    hunt-down (start T.before).pre T.hunt-test.true c.before.loop.invariant c.loop-test.false
+    hunt-down (start T.before).requires T.hunt-test.true c.before.loop-x.invariant c.loop-x-test.false
 
-returns : tie.Need-returns invariant-loop decreases-loop invariant-hunt decreases-hunt
-returns c = hunt-none (start c.before).pre c.hunt-test.false c.before.hunt.invariant
+returns : tie.Need-returns-after-hunt invariant-loop decreases-loop invariant-hunt decreases-hunt
+returns c = hunt-none (start c.before).requires c.hunt-test.false c.before.hunt.invariant
 
-returns-2 : tie.Need-returns-2 invariant-loop decreases-loop invariant-hunt decreases-hunt
+returns-2 : tie.Need-returns-then-outside invariant-loop decreases-loop invariant-hunt decreases-hunt
 returns-2 c =
     let I = c.before.before.before in
     let T = I.before.before in
-    hunt-here (start T.before).pre T.hunt-test.true I.before.loop.invariant I.loop-test.true (told c.before ∙ c.if1.true)
+    hunt-here (start T.before).requires T.hunt-test.true I.before.loop-x.invariant I.loop-x-test.true (told c.before ∙ c.if-outside.true)
 
-pub first-outside-spec : {M : Type 1} → statement M
-first-outside-spec =
+pub first_outside_spec : {M : Type 1} → statement M
+first_outside_spec =
     tie.close
     (tie.spec
     invariant-loop

@@ -10,25 +10,25 @@ use Rattle.meaning.specs.Long.{beyond}
 use Rattle.long_stages.proofs.hunt.is_beyond.Statement.{statement}
 use Rattle.long_stages.proofs.hunt.is_beyond.Tie as tie
 
-low-end-requires : tie.Need-low-end-requires
+low-end-requires : tie.Need-low_end-requires
 low-end-requires c κs = c.requires
 
-high-end-requires : tie.Need-high-end-requires
+high-end-requires : tie.Need-high_end-requires
 high-end-requires c κs = c.before.requires
 
-low : (c : tie.After-low-end) → to_z w32 (of_z w32 c.low-end.result) ≡ negsuc (2 ^ c.before.args.reach - 1)
-low c = to_z-of_z w32 c.low-end.result (search rules) ∙ c.low-end.ensures
+low : (c : tie.After-low_end) → to_z w32 (of_z w32 c.low_end.result) ≡ negsuc (2 ^ c.before.args.reach - 1)
+low c = to_z-of_z w32 c.low_end.result (search rules) ∙ c.low_end.ensures
 
-high : (c : tie.After-high-end) → to_z w32 (of_z w32 c.high-end.result) ≡ pos (2 ^ c.before.before.args.reach - 1)
-high c = to_z-of_z w32 c.high-end.result (search rules) ∙ c.high-end.ensures
+high : (c : tie.After-high_end) → to_z w32 (of_z w32 c.high_end.result) ≡ pos (2 ^ c.before.before.args.reach - 1)
+high c = to_z-of_z w32 c.high_end.result (search rules) ∙ c.high_end.ensures
 
-past-ends-requires : tie.Need-past-ends-requires
+past-ends-requires : tie.Need-past_ends-requires
 past-ends-requires c κs = search rules
 
 returns : tie.Need-returns
 returns c =
     let s = c.before.before.before in
-    c.past-ends.ensures ∙ (λ i. beyond (record { low = low c.before.before i; high = high c.before i }) (to_z-of_z w32 s.args.n s.ranges.n i))
+    c.past_ends.ensures ∙ (λ i. beyond (record { low = low c.before.before i; high = high c.before i }) (to_z-of_z w32 s.args.n s.ranges.n i))
 
-pub is-beyond-spec : {M : Type 1} → statement M
-is-beyond-spec = tie.close (tie.spec low-end-requires high-end-requires past-ends-requires returns)
+pub is_beyond_spec : {M : Type 1} → statement M
+is_beyond_spec = tie.close (tie.spec low-end-requires high-end-requires past-ends-requires returns)

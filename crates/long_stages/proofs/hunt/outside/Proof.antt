@@ -11,22 +11,22 @@ use Rattle.algebra.proofs.Order.{abs-zero}
 use Rattle.long_stages.proofs.hunt.outside.Statement.{statement}
 use Rattle.long_stages.proofs.hunt.outside.Tie as tie
 
-some : (c : tie.Else1) → eqb (nat_abs c.before.args.n) 0 ≡ false
-some c = ne_eqb (nat_abs c.before.args.n) 0 (λ e. c.if1.false (ap (of_z w32) (abs-zero c.before.args.n e)))
+some : (c : tie.Else-n-eq0) → eqb (nat_abs c.before.args.n) 0 ≡ false
+some c = ne_eqb (nat_abs c.before.args.n) 0 (λ e. c.if-n-eq0.false (ap (of_z w32) (abs-zero c.before.args.n e)))
 
-returns : tie.Need-returns
+returns : tie.Need-returns-then-n-eq0
 returns c =
     let s = c.before in
-    rw (sym (to_z-of_z w32 s.args.n s.ranges.n) ∙ ap (to_z w32) c.if1.true)
+    rw (sym (to_z-of_z w32 s.args.n s.ranges.n) ∙ ap (to_z w32) c.if-n-eq0.true)
 
-returns-2 : tie.Need-returns-2
-returns-2 c = rw (some c.before, le-ltb _ _ c.if2.true)
+returns-2 : tie.Need-returns-then-columns-x
+returns-2 c = rw (some c.before, le-ltb _ _ c.if-columns-x.true)
 
-returns-3 : tie.Need-returns-3
-returns-3 c = rw (some c.before.before, lt-ltb _ _ c.before.if2.false, le-ltb _ _ c.if3.true)
+returns-3 : tie.Need-returns-then-rows-y
+returns-3 c = rw (some c.before.before, lt-ltb _ _ c.before.if-columns-x.false, le-ltb _ _ c.if-rows-y.true)
 
-returns-4 : tie.Need-returns-4
-returns-4 c = rw (some c.before.before, lt-ltb _ _ c.before.if2.false, lt-ltb _ _ c.if3.false)
+returns-4 : tie.Need-returns-else-rows-y
+returns-4 c = rw (some c.before.before, lt-ltb _ _ c.before.if-columns-x.false, lt-ltb _ _ c.if-rows-y.false)
 
-pub outside-spec : {M : Type 1} → statement M
-outside-spec = tie.close (tie.spec returns returns-2 returns-3 returns-4)
+pub outside_spec : {M : Type 1} → statement M
+outside_spec = tie.close (tie.spec returns returns-2 returns-3 returns-4)

@@ -15,53 +15,53 @@ use Rattle.algebra.proofs.Table.{last}
 use Rattle.long_stages.proofs.live.any.Statement.{statement}
 use Rattle.long_stages.proofs.live.any.Tie as tie
 
-abbrev invariant-loop : tie.invariant-loop
+abbrev invariant-loop : tie.invariant-loop-i
 invariant-loop c x w rows i₀ i = (i ≤ rows) × ((k : ℕ) → k < i → at c (x + k * w) ≡ pos 0)
 
-abbrev decreases-loop : tie.decreases-loop
+abbrev decreases-loop : tie.decreases-loop-i
 decreases-loop c x w rows i₀ i = rows - i
 
-within : (c : tie.In-loop invariant-loop decreases-loop) → let s = c.before.before.args in s.x + c.before.loop.i * s.w < length s.c.now
+within : (c : tie.In-loop-i invariant-loop decreases-loop) → let s = c.before.before.args in s.x + c.before.loop-i.i * s.w < length s.c.now
 within c =
     let s = c.before.before in
-    omega (arith, s.requires.1, place_in {x = s.args.x} {y = c.before.loop.i} {w = s.args.w} {h = s.args.rows} s.requires.0 c.loop-test.true)
+    omega (arith, s.requires.1, place_in {x = s.args.x} {y = c.before.loop-i.i} {w = s.args.w} {h = s.args.rows} s.requires.0 c.loop-i-test.true)
 
-loop-holds : tie.Need-loop-init invariant-loop decreases-loop
+loop-holds : tie.Need-loop-i-init invariant-loop decreases-loop
 loop-holds c = (omega arith, λ k h. absurd (omega arith))
 
-mul-if1 : tie.Need-overflow-mul-if1 invariant-loop decreases-loop
+mul-if1 : tie.Need-overflow_mul-i invariant-loop decreases-loop
 mul-if1 c = omega (arith, within c)
 
-add-if1 : tie.Need-overflow-add-if1 invariant-loop decreases-loop
+add-if1 : tie.Need-overflow_add-x invariant-loop decreases-loop
 add-if1 c = omega (arith, within c)
 
-mul-if1-2 : tie.Need-overflow-mul-if1-2 invariant-loop decreases-loop
+mul-if1-2 : tie.Need-offset_bounds-c-x invariant-loop decreases-loop
 mul-if1-2 c = omega (arith, within c)
 
-shared-slice-copy-out-if1 : tie.Need-shared-slice-copy-out-if1 invariant-loop decreases-loop
+shared-slice-copy-out-if1 : tie.Need-bounds-c-x invariant-loop decreases-loop
 shared-slice-copy-out-if1 c = within c
 
-returns : tie.Need-returns invariant-loop decreases-loop
+returns : tie.Need-returns-then-c-x-ne0 invariant-loop decreases-loop
 returns c e = absurd (true≢false e)
 
-add-i : tie.Need-overflow-add-i invariant-loop decreases-loop
+add-i : tie.Need-overflow_add-i invariant-loop decreases-loop
 add-i c = search rules
 
-loop-less : tie.Need-loop-smaller invariant-loop decreases-loop
+loop-less : tie.Need-loop-i-smaller invariant-loop decreases-loop
 loop-less c = search rules
 
-loop-again : tie.Need-loop-preserved invariant-loop decreases-loop
+loop-again : tie.Need-loop-i-preserved invariant-loop decreases-loop
 loop-again c =
     let L = c.before.before.before in
     let s = L.before.args in
-    let z = at s.c.now (s.x + L.loop.i * s.w) in
-    let v : to_z w32 (of_z w32 z) ≡ z = to_z-of_z w32 z (record { sfits = c.before.if12.given }) in
-    (omega arith, λ k h. last (λ (k : ℕ). at s.c.now (s.x + k * s.w) ≡ pos 0) L.loop.i k (omega arith) (sym v ∙ ap (to_z w32) c.if1.false) (L.loop.invariant.1 k))
+    let z = at s.c.now (s.x + L.loop-i.i * s.w) in
+    let v : to_z w32 (of_z w32 z) ≡ z = to_z-of_z w32 z (record { sfits = c.before.t11-1.given }) in
+    (omega arith, λ k h. last (λ (k : ℕ). at s.c.now (s.x + k * s.w) ≡ pos 0) L.loop-i.i k (omega arith) (sym v ∙ ap (to_z w32) c.if-c-x-ne0.false) (L.loop-i.invariant.1 k))
 
-returns-2 : tie.Need-returns-2 invariant-loop decreases-loop
+returns-2 : tie.Need-returns invariant-loop decreases-loop
 returns-2 c e k h =
     let L = c.before in
-    L.loop.invariant.1 k (omega (arith, c.loop-test.false))
+    L.loop-i.invariant.1 k (omega (arith, c.loop-i-test.false))
 
 pub any_spec : {M : Type 1} → statement M
 any_spec =

@@ -30,19 +30,19 @@ reached c =
     let s = c.before.args in
     ceil c.used.result (2 * s.w) (s.h / 2) (omega (arith, wide c.before)) (omega (arith, c.used.ensures.0, by-pairs c.before))
 
-mul-two : tie.Need-overflow-mul-two
+mul-two : tie.Need-overflow_mul-two
 mul-two c = omega (arith, wide c)
 
 used-requires : tie.Need-used-requires
 used-requires c κs = search rules
 
-sub-result : tie.Need-overflow-sub-result
+sub-result : tie.Need-overflow_sub-result
 sub-result c = omega (arith, wide c.before)
 
-add-result : tie.Need-overflow-add-result
+add-result : tie.Need-overflow_add-result
 add-result c = omega (arith, wide c.before, elements c.before, c.used.ensures.0)
 
-div-result : tie.Need-nonzero-div-result
+div-result : tie.Need-nonzero_div-result
 div-result c = omega (arith, wide c.before)
 
 returns : tie.Need-returns
@@ -52,6 +52,6 @@ returns c =
     let both = reached c in
     (omega (arith, both.0, size-even s.h c.before.requires.1.0), λ k h g. c.used.ensures.1 k (omega (arith, both.1, twice r s.w)) (omega (arith, c.before.requires.1.1)))
 
-pub row-pairs-spec : {M : Type 1} → statement M
-row-pairs-spec =
+pub row_pairs_spec : {M : Type 1} → statement M
+row_pairs_spec =
     tie.close (tie.spec mul-two used-requires sub-result add-result div-result returns)

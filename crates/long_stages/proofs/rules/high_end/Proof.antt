@@ -19,17 +19,17 @@ edge c = edge_of c.args.reach c.requires
 below : (n : ℕ) → 0 < n → pos n -ℤ pos 1 ≡ pos (n - 1)
 below n h = parts-eq (pos n -ℤ pos 1) (pos (n - 1)) (omega (arith, parts_add (pos n) (neg_ℤ (pos 1)), up_neg (pos 1), dn-neg (pos 1)))
 
-cast-result : tie.Need-overflow-cast-result
+cast-result : tie.Need-overflow_cast-result
 cast-result c = search rules
 
-shl-result : tie.Need-overflow-shl-result
+shl-result : tie.Need-overflow_shl-result
 shl-result c = search rules
 
-sub-result : tie.Need-overflow-sub-result
+sub-result : tie.Need-overflow_sub-result
 sub-result c = sub-fits (edge c) (lit w32 1) tt
 
 returns : tie.Need-returns
 returns c = val (sub (edge c) (lit w32 1) tt) ∙ below (2 ^ c.args.reach) (pow_pos c.args.reach)
 
-pub high-end-spec : {M : Type 1} → statement M
-high-end-spec = tie.close (tie.spec cast-result shl-result sub-result returns)
+pub high_end_spec : {M : Type 1} → statement M
+high_end_spec = tie.close (tie.spec cast-result shl-result sub-result returns)

@@ -7,17 +7,17 @@ use Rattle.meaning.proofs.LongRules.{reach-in}
 use Rattle.long_stages.proofs.rules.last_shift.Statement.{statement}
 use Rattle.long_stages.proofs.rules.last_shift.Tie as tie
 
-reach-of-requires : tie.Need-reach-of-requires
+reach-of-requires : tie.Need-reach_of-requires
 reach-of-requires c κs = search rules
 
-add-result : tie.Need-overflow-add-result
+add-result : tie.Need-overflow_add-result
 add-result c = let s = c.before.args in omega (arith, c.reach_of.ensures, reach-in s.extended s.d)
 
-sub-result : tie.Need-overflow-sub-result
+sub-result : tie.Need-overflow_sub-result
 sub-result c = let s = c.before.args in omega (arith, c.reach_of.ensures, reach-in s.extended s.d, c.before.requires)
 
 returns : tie.Need-returns
 returns c = ap (λ (r : ℕ). 5 + r - c.before.args.d) c.reach_of.ensures
 
-pub last-shift-spec : {M : Type 1} → statement M
-last-shift-spec = tie.close (tie.spec reach-of-requires add-result sub-result returns)
+pub last_shift_spec : {M : Type 1} → statement M
+last_shift_spec = tie.close (tie.spec reach-of-requires add-result sub-result returns)

@@ -19,17 +19,17 @@ edge c = edge_of c.args.reach c.requires
 below : (n : ℕ) → 0 < n → pos 0 -ℤ pos n ≡ negsuc (n - 1)
 below n h = parts-eq (pos 0 -ℤ pos n) (negsuc (n - 1)) (omega (arith, parts_add (pos 0) (neg_ℤ (pos n)), up_neg (pos n), dn-neg (pos n)))
 
-cast-result : tie.Need-overflow-cast-result
+cast-result : tie.Need-overflow_cast-result
 cast-result c = search rules
 
-shl-result : tie.Need-overflow-shl-result
+shl-result : tie.Need-overflow_shl-result
 shl-result c = search rules
 
-sub-result : tie.Need-overflow-sub-result
+sub-result : tie.Need-overflow_sub-result
 sub-result c = sub-fits (lit w32 0) (edge c) tt
 
 returns : tie.Need-returns
 returns c = val (sub (lit w32 0) (edge c) tt) ∙ below (2 ^ c.args.reach) (pow_pos c.args.reach)
 
-pub low-end-spec : {M : Type 1} → statement M
-low-end-spec = tie.close (tie.spec cast-result shl-result sub-result returns)
+pub low_end_spec : {M : Type 1} → statement M
+low_end_spec = tie.close (tie.spec cast-result shl-result sub-result returns)

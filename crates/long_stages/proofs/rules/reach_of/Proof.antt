@@ -16,20 +16,20 @@ off : (extended : Bool) (d : ℕ) → extended ≡ false → reach extended d �
 unfolding reach
 off extended d e = rw e
 
-returns : tie.Need-returns
-returns c = let s = c.before.before in omega (arith, on s.args.extended s.args.d c.before.if1.true, c.if2.true)
+returns : tie.Need-returns-then-d-lt9
+returns c = let s = c.before.before in omega (arith, on s.args.extended s.args.d c.before.if-extended.true, c.if-d-lt9.true)
 
-returns-2 : tie.Need-returns-2
-returns-2 c = let s = c.before.before.before in omega (arith, on s.args.extended s.args.d c.before.before.if1.true, c.if3.true)
+returns-2 : tie.Need-returns-then-d-gt14
+returns-2 c = let s = c.before.before.before in omega (arith, on s.args.extended s.args.d c.before.before.if-extended.true, c.if-d-gt14.true)
 
-add-result : tie.Need-overflow-add-result
+add-result : tie.Need-overflow_add-result
 add-result c = search rules
 
-returns-3 : tie.Need-returns-3
-returns-3 c = let s = c.before.before.before in omega (arith, on s.args.extended s.args.d c.before.before.if1.true, c.before.if2.false, c.if3.false)
+returns-3 : tie.Need-returns-then-extended
+returns-3 c = let s = c.before.before.before in omega (arith, on s.args.extended s.args.d c.before.before.if-extended.true, c.before.if-d-lt9.false, c.if-d-gt14.false)
 
-returns-4 : tie.Need-returns-4
-returns-4 c = let s = c.before in sym (off s.args.extended s.args.d c.if1.false)
+returns-4 : tie.Need-returns
+returns-4 c = let s = c.before in sym (off s.args.extended s.args.d c.if-extended.false)
 
-pub reach-of-spec : {M : Type 1} → statement M
-reach-of-spec = tie.close (tie.spec returns returns-2 add-result returns-3 returns-4)
+pub reach_of_spec : {M : Type 1} → statement M
+reach_of_spec = tie.close (tie.spec returns returns-2 add-result returns-3 returns-4)

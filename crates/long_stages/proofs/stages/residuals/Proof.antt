@@ -10,70 +10,70 @@ use Rattle.long_stages.specs.Work.{row_at}
 use Rattle.long_stages.proofs.stages.residuals.Statement.{statement}
 use Rattle.long_stages.proofs.stages.residuals.Tie as tie
 
-abbrev invariant-loop : tie.invariant-loop
+abbrev invariant-loop : tie.invariant-loop-y
 invariant-loop t w h m columns pairs last out₀ y₀ out y = (y ≤ h) × Rows w y (λ x y. nearest last (row_at t w m columns pairs x y)) out out₀
 
-abbrev decreases-loop : tie.decreases-loop
+abbrev decreases-loop : tie.decreases-loop-y
 decreases-loop t w h m columns pairs last out₀ y₀ out y = h - y
 
-long : (c : tie.At-loop invariant-loop decreases-loop) → length c.loop.out ≡ length c.before.args.out.now
-long c = rows_long c.loop.invariant.1 c.loop.invariant.0 c.before.requires.1
+long : (c : tie.At-loop-y invariant-loop decreases-loop) → length c.loop-y.out ≡ length c.before.args.out.now
+long c = rows_long c.loop-y.invariant.1 c.loop-y.invariant.0 c.before.requires.1
 
 -- the stretch of line y is in `out`
-inside : (c : tie.In-loop invariant-loop decreases-loop) → let s = c.before.before.args in c.before.loop.y * s.w + s.w ≤ length s.out.now
-inside c = omega (arith, c.before.before.requires.1, row_in c.before.before.args.w c.loop-test.true)
+inside : (c : tie.In-loop-y invariant-loop decreases-loop) → let s = c.before.before.args in c.before.loop-y.y * s.w + s.w ≤ length s.out.now
+inside c = omega (arith, c.before.before.requires.1, row_in c.before.before.args.w c.loop-y-test.true)
 
-loop-holds : tie.Need-loop-init invariant-loop decreases-loop
+loop-holds : tie.Need-loop-y-init invariant-loop decreases-loop
 loop-holds c = (omega arith, rows_none _ _ _)
 
-mul-o : tie.Need-overflow-mul-o invariant-loop decreases-loop
+mul-o : tie.Need-overflow_mul-o invariant-loop decreases-loop
 mul-o c = omega (arith, inside c)
 
-add-e : tie.Need-overflow-add-e invariant-loop decreases-loop
+add-e : tie.Need-overflow_add-e invariant-loop decreases-loop
 add-e c = omega (arith, inside c)
 
-mul-residual-row : tie.Need-overflow-mul-residual-row invariant-loop decreases-loop
+mul-residual-row : tie.Need-offset_bounds-out-o invariant-loop decreases-loop
 mul-residual-row c = omega (arith, inside c)
 
-sub-residual-row : tie.Need-overflow-sub-residual-row invariant-loop decreases-loop
+sub-residual-row : tie.Need-slice_bounds-residual_row-count invariant-loop decreases-loop
 sub-residual-row c = omega arith
 
-part-residual-row-start : tie.Need-slice-bounds-residual-row-start invariant-loop decreases-loop
+part-residual-row-start : tie.Need-slice_bounds-residual_row-start invariant-loop decreases-loop
 part-residual-row-start c = omega arith
 
-part-residual-row-end : tie.Need-slice-bounds-residual-row-end invariant-loop decreases-loop
+part-residual-row-end : tie.Need-slice_bounds-residual_row-end invariant-loop decreases-loop
 part-residual-row-end c = omega (arith, inside c, long c.before)
 
 -- how long the stretch is
-stretch : (c : tie.In-loop invariant-loop decreases-loop) → let n = c.before.before.args.w in let k = c.before.loop.y * n in length (take (k + n - k) (drop k c.before.loop.out)) ≡ n
+stretch : (c : tie.In-loop-y invariant-loop decreases-loop) → let n = c.before.before.args.w in let k = c.before.loop-y.y * n in length (take (k + n - k) (drop k c.before.loop-y.out)) ≡ n
 stretch c = simp (length-take, length-drop) (omega (arith, inside c, long c.before))
 
-residual-row-requires : tie.Need-residual-row-requires invariant-loop decreases-loop
+residual-row-requires : tie.Need-residual_row-requires invariant-loop decreases-loop
 residual-row-requires c κs =
     let I = c.before in
-    (I.before.before.requires.0, (I.loop-test.true, stretch I))
+    (I.before.before.requires.0, (I.loop-y-test.true, stretch I))
 
-add-y : tie.Need-overflow-add-y invariant-loop decreases-loop
+add-y : tie.Need-overflow_add-y invariant-loop decreases-loop
 add-y c = search rules
 
-loop-less : tie.Need-loop-smaller invariant-loop decreases-loop
+loop-less : tie.Need-loop-y-smaller invariant-loop decreases-loop
 loop-less c = search rules
 
-loop-again : tie.Need-loop-preserved invariant-loop decreases-loop
+loop-again : tie.Need-loop-y-preserved invariant-loop decreases-loop
 loop-again c =
     let L = c.before.before.before.before in
-    (omega arith, rows_next L.loop.invariant.1 c.before.residual-row.ensures)
+    (omega arith, rows_next L.loop-y.invariant.1 c.before.residual_row.ensures)
 
-same_length : tie.Need-same-length invariant-loop decreases-loop
+same_length : tie.Need-shape_of-out invariant-loop decreases-loop
 same_length c = long c.before
 
 returns : tie.Need-returns invariant-loop decreases-loop
 returns c =
     let L = c.before in
-    rows_all L.loop.invariant.1 (omega (arith, L.loop.invariant.0, c.loop-test.false)) L.before.requires.1
+    rows_all L.loop-y.invariant.1 (omega (arith, L.loop-y.invariant.0, c.loop-y-test.false)) L.before.requires.1
 
-pub residuals-spec : {M : Type 1} → statement M
-residuals-spec =
+pub residuals_spec : {M : Type 1} → statement M
+residuals_spec =
     tie.close
     (tie.spec
     invariant-loop

@@ -28,93 +28,93 @@ room s =
     let b : 2 * s.args.columns ≤ 32 = omega (arith, g.live.narrow, wide s.args.extended s.args.shape s.args.rows s.args.columns s.args.c.now s.args.out.now g) in
     mul-le-mul (low s.args.extended s.args.shape s.args.rows s.args.columns s.args.c.now s.args.out.now g) b
 
-cast-w : tie.Need-overflow-cast-w
+cast-w : tie.Need-overflow_cast-w
 cast-w c = search rules
 
-cast-h : tie.Need-overflow-cast-h
+cast-h : tie.Need-overflow_cast-h
 cast-h c = search rules
 
-reach-of-requires : tie.Need-reach-of-requires
+reach-of-requires : tie.Need-reach_of-reach-requires
 reach-of-requires c κs = search rules
 
-last-shift-requires : tie.Need-last-shift-requires
+last-shift-requires : tie.Need-last_shift-last-requires
 last-shift-requires c κs =
     let s = c.before.before.before in
     (long-depth s.args.extended s.args.shape.depth (given s).block.taken.depth).1
 
-put-1024-requires : tie.Need-put-1024-requires
+put-1024-requires : tie.Need-put_1024-requires
 put-1024-requires c κs = ((given c.before.before.before.before.before).block.taken.height, refl)
 
-slice-aggregate-middles : tie.Need-slice-aggregate-middles
-slice-aggregate-middles c = sym c.before.put-1024.ensures.0
+slice-aggregate-middles : tie.Need-slice_bounds-middles-end
+slice-aggregate-middles c = sym c.before.put_1024.ensures.0
 
-mul-middles : tie.Need-overflow-mul-middles
+mul-middles : tie.Need-overflow_mul-columns
 mul-middles c =
     let s = c.before.before.before.before.before.before.before in
     omega (arith, (given s).live.narrow, wide s.args.extended s.args.shape s.args.rows s.args.columns s.args.c.now s.args.out.now (given s))
 
-slice-aggregate-middles-2 : tie.Need-slice-aggregate-middles-2
+slice-aggregate-middles-2 : tie.Need-slice_bounds-middles-end-2
 slice-aggregate-middles-2 c = search rules
 
 -- the weights of the columns
-abbrev down : tie.After-put-1024 → List ℤ
-down c = c.put-1024.new.1.1.1.0
+abbrev down : tie.After-put_1024 → List ℤ
+down c = c.put_1024.new.u
 
-middles-requires : tie.Need-middles-requires
+middles-requires : tie.Need-middles-rails-requires
 middles-requires c κs =
     let W = c.before.before in
     let R = W.before.before.before in
     let s = R.before.before.before in
     let a = s.args in (
-      subst (λ (r : ℕ). Down (down W) a.shape.height a.c.now a.shape.width a.rows (2 * a.columns) r) (sym R.reach_of.ensures)
-          (columns-given a.extended a.shape a.rows a.columns a.c.now a.out.now (given s) (down W) W.put-1024.ensures.1),
+      subst (λ (r : ℕ). Down (down W) a.shape.height a.c.now a.shape.width a.rows (2 * a.columns) r) (sym R.reach_of-reach.ensures)
+          (columns-given a.extended a.shape a.rows a.columns a.c.now a.out.now (given s) (down W) W.put_1024.ensures.1),
       room s,
     )
 
 -- what the first stage has left
-abbrev laid : tie.After-middles → tie.After-put-1024
+abbrev laid : tie.After-middles-rails → tie.After-put_1024
 laid c = c.before.before.before
 
-abbrev start : tie.After-middles → tie.Start
+abbrev start : tie.After-middles-rails → tie.Start
 start c = (laid c).before.before.before.before.before.before
 
-abbrev between : tie.After-middles → List ℤ
-between c = c.middles.new.1.1.1.1.1.1.1.0
+abbrev between : tie.After-middles-rails → List ℤ
+between c = c.middles-rails.new.m
 
-abbrev rest : tie.After-middles → List ℤ
+abbrev rest : tie.After-middles-rails → List ℤ
 rest c = drop ((start c).args.shape.height * (2 * (start c).args.columns)) (replicate 1024 (pos 0))
 
-made : (c : tie.After-middles) → let a = (start c).args in
+made : (c : tie.After-middles-rails) → let a = (start c).args in
     between c ≡ block (2 * a.columns) a.shape.height (λ x y. middle (range_of (reach a.extended a.shape.depth)) (column_at (down (laid c)) a.shape.height a.c.now a.shape.width a.rows x y)) ++ rest c
 made c =
     let a = (start c).args in
-    c.middles.ensures.0
-    ∙ ap (λ (r : ℕ). block (2 * a.columns) a.shape.height (λ x y. middle (range_of r) (column_at (down (laid c)) a.shape.height a.c.now a.shape.width a.rows x y)) ++ rest c) (laid c).before.before.before.reach_of.ensures
+    c.middles-rails.ensures.0
+    ∙ ap (λ (r : ℕ). block (2 * a.columns) a.shape.height (λ x y. middle (range_of r) (column_at (down (laid c)) a.shape.height a.c.now a.shape.width a.rows x y)) ++ rest c) (laid c).before.before.before.reach_of-reach.ensures
 
-counted : (c : tie.After-middles) → let a = (start c).args in c.middles.result ≡ rails (long_plan a.extended a.shape) a.c.now
+counted : (c : tie.After-middles-rails) → let a = (start c).args in c.middles-rails.result ≡ rails (long_plan a.extended a.shape) a.c.now
 counted c =
     let a = (start c).args in
-    c.middles.ensures.1
-    ∙ ap (λ (r : ℕ). sumℕ a.shape.height (λ y. sumℕ (2 * a.columns) (λ x. rail_of r (column_at (down (laid c)) a.shape.height a.c.now a.shape.width a.rows x y)))) (laid c).before.before.before.reach_of.ensures
-    ∙ rails-read a.extended a.shape a.rows a.columns a.c.now a.out.now (given (start c)) (down (laid c)) (laid c).put-1024.ensures.1
+    c.middles-rails.ensures.1
+    ∙ ap (λ (r : ℕ). sumℕ a.shape.height (λ y. sumℕ (2 * a.columns) (λ x. rail_of r (column_at (down (laid c)) a.shape.height a.c.now a.shape.width a.rows x y)))) (laid c).before.before.before.reach_of-reach.ensures
+    ∙ rails-read a.extended a.shape a.rows a.columns a.c.now a.out.now (given (start c)) (down (laid c)) (laid c).put_1024.ensures.1
 
-put-1024-requires-2 : tie.Need-put-1024-requires-2
-put-1024-requires-2 c κs = let M = c.before.before in ((given (start M)).block.taken.width, (laid M).put-1024.ensures.0)
+put-1024-requires-2 : tie.Need-put_1024-requires-2
+put-1024-requires-2 c κs = let M = c.before.before in ((given (start M)).block.taken.width, (laid M).put_1024.ensures.0)
 
-slice-aggregate-residuals : tie.Need-slice-aggregate-residuals
-slice-aggregate-residuals c = sym c.before.put-10242.ensures.0
+slice-aggregate-residuals : tie.Need-slice_bounds-residuals-end
+slice-aggregate-residuals c = sym c.before.put_1024-2.ensures.0
 
-slice-aggregate-residuals-2 : tie.Need-slice-aggregate-residuals-2
+slice-aggregate-residuals-2 : tie.Need-slice_bounds-residuals-end-2
 slice-aggregate-residuals-2 c = search rules
 
-mul-residuals : tie.Need-overflow-mul-residuals
+mul-residuals : tie.Need-overflow_mul-columns-2
 mul-residuals c =
     let s = start c.before.before.before.before.before in
     omega (arith, (given s).live.narrow, wide s.args.extended s.args.shape s.args.rows s.args.columns s.args.c.now s.args.out.now (given s))
 
 -- the weights of the rows, in the same room
-abbrev along : tie.After-put-10242 → List ℤ
-along c = c.put-10242.new.1.1.1.0
+abbrev along : tie.After-put_1024-2 → List ℤ
+along c = c.put_1024-2.new.u
 
 residuals-requires : tie.Need-residuals-requires
 residuals-requires c κs =
@@ -122,12 +122,12 @@ residuals-requires c κs =
     let M = W.before.before.before in
     let s = start M in
     let a = s.args in (
-      subst (λ (last : ℕ). Along (along W) a.shape.width a.shape.height (between M) (2 * a.columns) a.columns last) (sym (laid M).before.before.last-shift.ensures)
-          (rows-given a.extended a.shape a.rows a.columns a.c.now a.out.now (given s) (down (laid M)) (laid M).put-1024.ensures.1 (between M) (rest M) (made M) (along W) W.put-10242.ensures.1),
+      subst (λ (last : ℕ). Along (along W) a.shape.width a.shape.height (between M) (2 * a.columns) a.columns last) (sym (laid M).before.before.last_shift-last.ensures)
+          (rows-given a.extended a.shape a.rows a.columns a.c.now a.out.now (given s) (down (laid M)) (laid M).put_1024.ensures.1 (between M) (rest M) (made M) (along W) W.put_1024-2.ensures.1),
       (given s).block.room ∙ mul_comm a.shape.width a.shape.height,
     )
 
-same_length : tie.Need-same-length
+same_length : tie.Need-shape_of-out
 same_length c = search rules
 
 returns : tie.Need-returns
@@ -138,12 +138,12 @@ returns c =
     let a = s.args in (
       counted M,
       c.before.residuals.ensures
-          ∙ ap (λ (last : ℕ). block a.shape.width a.shape.height (λ x y. nearest last (row_at (along W) a.shape.width (between M) (2 * a.columns) a.columns x y))) (laid M).before.before.last-shift.ensures
-          ∙ block_read a.extended a.shape a.rows a.columns a.c.now a.out.now (given s) (down (laid M)) (laid M).put-1024.ensures.1 (between M) (rest M) (made M) (along W) W.put-10242.ensures.1,
+          ∙ ap (λ (last : ℕ). block a.shape.width a.shape.height (λ x y. nearest last (row_at (along W) a.shape.width (between M) (2 * a.columns) a.columns x y))) (laid M).before.before.last_shift-last.ensures
+          ∙ block_read a.extended a.shape a.rows a.columns a.c.now a.out.now (given s) (down (laid M)) (laid M).put_1024.ensures.1 (between M) (rest M) (made M) (along W) W.put_1024-2.ensures.1,
     )
 
-pub stages-spec : {M : Type 1} → statement M
-stages-spec =
+pub stages_spec : {M : Type 1} → statement M
+stages_spec =
     tie.close
     (tie.spec
     cast-w

@@ -13,30 +13,30 @@ row-requires-2 : tie.Need-row-requires-2
 row-requires-2 c κs = (omega arith, from_row 2 (omega arith) c.before.before.row.ensures.1)
 
 row-requires-3 : tie.Need-row-requires-3
-row-requires-3 c κs = (omega arith, from_row 3 (omega arith) c.before.before.row2.ensures.1)
+row-requires-3 c κs = (omega arith, from_row 3 (omega arith) c.before.before.row-2.ensures.1)
 
 row-requires-4 : tie.Need-row-requires-4
-row-requires-4 c κs = (omega arith, from_row 6 (omega arith) c.before.before.row3.ensures.1)
+row-requires-4 c κs = (omega arith, from_row 6 (omega arith) c.before.before.row-3.ensures.1)
 
 row-requires-5 : tie.Need-row-requires-5
-row-requires-5 c κs = (omega arith, from_row 8 (omega arith) c.before.before.row4.ensures.1)
+row-requires-5 c κs = (omega arith, from_row 8 (omega arith) c.before.before.row-4.ensures.1)
 
 row-requires-6 : tie.Need-row-requires-6
-row-requires-6 c κs = (omega arith, from_row 9 (omega arith) c.before.before.row5.ensures.1)
+row-requires-6 c κs = (omega arith, from_row 9 (omega arith) c.before.before.row-5.ensures.1)
 
 row-requires-7 : tie.Need-row-requires-7
-row-requires-7 c κs = (omega arith, from_row 11 (omega arith) c.before.before.row6.ensures.1)
+row-requires-7 c κs = (omega arith, from_row 11 (omega arith) c.before.before.row-6.ensures.1)
 
 row-requires-8 : tie.Need-row-requires-8
-row-requires-8 c κs = (omega arith, from_row 12 (omega arith) c.before.before.row7.ensures.1)
+row-requires-8 c κs = (omega arith, from_row 12 (omega arith) c.before.before.row-7.ensures.1)
 
 row-requires-9 : tie.Need-row-requires-9
-row-requires-9 c κs = (omega arith, from_row 14 (omega arith) c.before.before.row8.ensures.1)
+row-requires-9 c κs = (omega arith, from_row 14 (omega arith) c.before.before.row-8.ensures.1)
 
 row-requires-10 : tie.Need-row-requires-10
-row-requires-10 c κs = (omega arith, from_row 15 (omega arith) c.before.before.row9.ensures.1)
+row-requires-10 c κs = (omega arith, from_row 15 (omega arith) c.before.before.row-9.ensures.1)
 
-same_length : tie.Need-same-length
+same_length : tie.Need-shape_of-a
 same_length c =
     let c10 = c.before in
     let c9 = c10.before.before.before in
@@ -48,7 +48,7 @@ same_length c =
     let c3 = c4.before.before.before in
     let c2 = c3.before.before.before in
     let c1 = c2.before.before.before in
-    adding-long c1.before.before.requires.0 c10.row10.ensures.1
+    adding-long c1.before.before.requires.0 c10.row-10.ensures.1
 
 returns : tie.Need-returns
 unfolding class_of
@@ -63,7 +63,7 @@ returns c =
     let c3 = c4.before.before.before in
     let c2 = c3.before.before.before in
     let c1 = c2.before.before.before in
-    (class-is tt (row-summed (row-summed (row-summed (row-summed (row-summed (row-summed (row-summed (row-summed (row-summed (row-summed (zero-summed 11 c1.before.before.requires.1) c1.row.ensures.0) c2.row2.ensures.0) c3.row3.ensures.0) c4.row4.ensures.0) c5.row5.ensures.0) c6.row6.ensures.0) c7.row7.ensures.0) c8.row8.ensures.0) c9.row9.ensures.0) c10.row10.ensures.0), sums-small (omega arith) c10.row10.ensures.1)
+    (class-is tt (row-summed (row-summed (row-summed (row-summed (row-summed (row-summed (row-summed (row-summed (row-summed (row-summed (zero-summed 11 c1.before.before.requires.1) c1.row.ensures.0) c2.row-2.ensures.0) c3.row-3.ensures.0) c4.row-4.ensures.0) c5.row-5.ensures.0) c6.row-6.ensures.0) c7.row-7.ensures.0) c8.row-8.ensures.0) c9.row-9.ensures.0) c10.row-10.ensures.0), sums-small (omega arith) c10.row-10.ensures.1)
 
-pub first-16-spec : {M : Type 1} → statement M
-first-16-spec = tie.close (tie.spec row-requires row-requires-2 row-requires-3 row-requires-4 row-requires-5 row-requires-6 row-requires-7 row-requires-8 row-requires-9 row-requires-10 same_length returns)
+pub first_16_spec : {M : Type 1} → statement M
+first_16_spec = tie.close (tie.spec row-requires row-requires-2 row-requires-3 row-requires-4 row-requires-5 row-requires-6 row-requires-7 row-requires-8 row-requires-9 row-requires-10 same_length returns)

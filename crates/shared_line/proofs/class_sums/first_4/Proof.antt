@@ -13,14 +13,14 @@ row-requires-2 : tie.Need-row-requires-2
 row-requires-2 c κs = (omega arith, from_row 2 (omega arith) c.before.before.row.ensures.1)
 
 row-requires-3 : tie.Need-row-requires-3
-row-requires-3 c κs = (omega arith, from_row 3 (omega arith) c.before.before.row2.ensures.1)
+row-requires-3 c κs = (omega arith, from_row 3 (omega arith) c.before.before.row-2.ensures.1)
 
-same_length : tie.Need-same-length
+same_length : tie.Need-shape_of-a
 same_length c =
     let c3 = c.before in
     let c2 = c3.before.before.before in
     let c1 = c2.before.before.before in
-    adding-long c1.before.before.requires.0 c3.row3.ensures.1
+    adding-long c1.before.before.requires.0 c3.row-3.ensures.1
 
 returns : tie.Need-returns
 unfolding class_of
@@ -28,7 +28,7 @@ returns c =
     let c3 = c.before in
     let c2 = c3.before.before.before in
     let c1 = c2.before.before.before in
-    (class-is tt (row-summed (row-summed (row-summed (zero-summed 3 c1.before.before.requires.1) c1.row.ensures.0) c2.row2.ensures.0) c3.row3.ensures.0), sums-small (omega arith) c3.row3.ensures.1)
+    (class-is tt (row-summed (row-summed (row-summed (zero-summed 3 c1.before.before.requires.1) c1.row.ensures.0) c2.row-2.ensures.0) c3.row-3.ensures.0), sums-small (omega arith) c3.row-3.ensures.1)
 
-pub first-4-spec : {M : Type 1} → statement M
-first-4-spec = tie.close (tie.spec row-requires row-requires-2 row-requires-3 same_length returns)
+pub first_4_spec : {M : Type 1} → statement M
+first_4_spec = tie.close (tie.spec row-requires row-requires-2 row-requires-3 same_length returns)

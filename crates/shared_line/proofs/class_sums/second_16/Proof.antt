@@ -13,22 +13,22 @@ row-requires-2 : tie.Need-row-requires-2
 row-requires-2 c κs = (omega arith, from_row 4 (omega arith) c.before.before.row.ensures.1)
 
 row-requires-3 : tie.Need-row-requires-3
-row-requires-3 c κs = (omega arith, from_row 7 (omega arith) c.before.before.row2.ensures.1)
+row-requires-3 c κs = (omega arith, from_row 7 (omega arith) c.before.before.row-2.ensures.1)
 
 row-requires-4 : tie.Need-row-requires-4
-row-requires-4 c κs = (omega arith, from_row 10 (omega arith) c.before.before.row3.ensures.1)
+row-requires-4 c κs = (omega arith, from_row 10 (omega arith) c.before.before.row-3.ensures.1)
 
 row-requires-5 : tie.Need-row-requires-5
-row-requires-5 c κs = (omega arith, from_row 13 (omega arith) c.before.before.row4.ensures.1)
+row-requires-5 c κs = (omega arith, from_row 13 (omega arith) c.before.before.row-4.ensures.1)
 
-same_length : tie.Need-same-length
+same_length : tie.Need-shape_of-a
 same_length c =
     let c5 = c.before in
     let c4 = c5.before.before.before in
     let c3 = c4.before.before.before in
     let c2 = c3.before.before.before in
     let c1 = c2.before.before.before in
-    adding-long c1.before.before.requires.0 c5.row5.ensures.1
+    adding-long c1.before.before.requires.0 c5.row-5.ensures.1
 
 returns : tie.Need-returns
 unfolding class_of
@@ -38,7 +38,7 @@ returns c =
     let c3 = c4.before.before.before in
     let c2 = c3.before.before.before in
     let c1 = c2.before.before.before in
-    (class-is tt (row-summed (row-summed (row-summed (row-summed (row-summed (zero-summed 5 c1.before.before.requires.1) c1.row.ensures.0) c2.row2.ensures.0) c3.row3.ensures.0) c4.row4.ensures.0) c5.row5.ensures.0), sums-small (omega arith) c5.row5.ensures.1)
+    (class-is tt (row-summed (row-summed (row-summed (row-summed (row-summed (zero-summed 5 c1.before.before.requires.1) c1.row.ensures.0) c2.row-2.ensures.0) c3.row-3.ensures.0) c4.row-4.ensures.0) c5.row-5.ensures.0), sums-small (omega arith) c5.row-5.ensures.1)
 
-pub second-16-spec : {M : Type 1} → statement M
-second-16-spec = tie.close (tie.spec row-requires row-requires-2 row-requires-3 row-requires-4 row-requires-5 same_length returns)
+pub second_16_spec : {M : Type 1} → statement M
+second_16_spec = tie.close (tie.spec row-requires row-requires-2 row-requires-3 row-requires-4 row-requires-5 same_length returns)

@@ -9,7 +9,7 @@ use Rattle.shared_line.proofs.class_sums.second_4.Tie as tie
 row-requires : tie.Need-row-requires
 row-requires c κs = (omega arith, from_row 1 (omega arith) c.before.requires.0)
 
-same_length : tie.Need-same-length
+same_length : tie.Need-shape_of-a
 same_length c =
     let c1 = c.before in
     adding-long c1.before.before.requires.0 c1.row.ensures.1
@@ -20,5 +20,5 @@ returns c =
     let c1 = c.before in
     (class-is tt (row-summed (zero-summed 1 c1.before.before.requires.1) c1.row.ensures.0), sums-small (omega arith) c1.row.ensures.1)
 
-pub second-4-spec : {M : Type 1} → statement M
-second-4-spec = tie.close (tie.spec row-requires same_length returns)
+pub second_4_spec : {M : Type 1} → statement M
+second_4_spec = tie.close (tie.spec row-requires same_length returns)

@@ -7,44 +7,44 @@ use Rattle.shared_steps.proofs.TwoKinds.{kind-back, thirty_two}
 use Rattle.shared_line.proofs.inverse.inverse.Statement.{statement}
 use Rattle.shared_line.proofs.inverse.inverse.Tie as tie
 
-inverse-4-requires : tie.Need-inverse-4-requires
-inverse-4-requires c κs = let e = c.before.if1.true in (c.before.before.requires.inputs ∙ e, c.before.before.requires.outputs ∙ e)
+inverse-4-requires : tie.Need-inverse_4-requires
+inverse-4-requires c κs = let e = c.before.if-n-eq4.true in (c.before.before.requires.inputs ∙ e, c.before.before.requires.outputs ∙ e)
 
-inverse-16-requires : tie.Need-inverse-16-requires
-inverse-16-requires c κs = let e = c.before.if2.true in (c.before.before.before.requires.inputs ∙ e, c.before.before.before.requires.outputs ∙ e)
+inverse-16-requires : tie.Need-inverse_16-requires
+inverse-16-requires c κs = let e = c.before.if-n-eq16.true in (c.before.before.before.requires.inputs ∙ e, c.before.before.before.requires.outputs ∙ e)
 
-inverse-32-requires : tie.Need-inverse-32-requires
-inverse-32-requires c κs = let e = thirty_two c.before.before.before.args.n c.before.before.before.requires.size c.before.before.if1.false c.before.if2.false in (c.before.before.before.requires.inputs ∙ e, c.before.before.before.requires.outputs ∙ e)
+inverse-32-requires : tie.Need-inverse_32-requires
+inverse-32-requires c κs = let e = thirty_two c.before.before.before.args.n c.before.before.before.requires.size c.before.before.if-n-eq4.false c.before.if-n-eq16.false in (c.before.before.before.requires.inputs ∙ e, c.before.before.before.requires.outputs ∙ e)
 
-same_length : tie.Need-same-length
+same_length : tie.Need-shape_of-y-then-n-eq4
 same_length c = search rules
 
-returns : tie.Need-returns
+returns : tie.Need-returns-then-n-eq4
 returns c =
     let s = c.before.before.before.before.args in
-    let e = c.before.before.before.if1.true in
-    c.before.inverse-4.ensures ∙ (λ t. inverse_line (kind-back s.kind c.before.before.before.before.requires.known t) (sym e t) (sym e t) (at s.x.now))
+    let e = c.before.before.before.if-n-eq4.true in
+    c.before.inverse_4.ensures ∙ (λ t. inverse_line (kind-back s.kind c.before.before.before.before.requires.known t) (sym e t) (sym e t) (at s.x.now))
 
-same-length-2 : tie.Need-same-length-2
+same-length-2 : tie.Need-shape_of-y-then-n-eq16
 same-length-2 c = search rules
 
-returns-2 : tie.Need-returns-2
+returns-2 : tie.Need-returns-then-n-eq16
 returns-2 c =
     let s = c.before.before.before.before.before.args in
-    let e = c.before.before.before.if2.true in
-    c.before.inverse-16.ensures ∙ (λ t. inverse_line (kind-back s.kind c.before.before.before.before.before.requires.known t) (sym e t) (sym e t) (at s.x.now))
+    let e = c.before.before.before.if-n-eq16.true in
+    c.before.inverse_16.ensures ∙ (λ t. inverse_line (kind-back s.kind c.before.before.before.before.before.requires.known t) (sym e t) (sym e t) (at s.x.now))
 
-same-length-3 : tie.Need-same-length-3
+same-length-3 : tie.Need-shape_of-y-else-n-eq16
 same-length-3 c = search rules
 
-returns-3 : tie.Need-returns-3
+returns-3 : tie.Need-returns-else-n-eq16
 returns-3 c =
     let s = c.before.before.before.before.before.args in
-    let e = thirty_two c.before.before.before.before.before.args.n c.before.before.before.before.before.requires.size c.before.before.before.before.if1.false c.before.before.before.if2.false in
-    c.before.inverse-32.ensures ∙ (λ t. inverse_line (kind-back s.kind c.before.before.before.before.before.requires.known t) (sym e t) (sym e t) (at s.x.now))
+    let e = thirty_two c.before.before.before.before.before.args.n c.before.before.before.before.before.requires.size c.before.before.before.before.if-n-eq4.false c.before.before.before.if-n-eq16.false in
+    c.before.inverse_32.ensures ∙ (λ t. inverse_line (kind-back s.kind c.before.before.before.before.before.requires.known t) (sym e t) (sym e t) (at s.x.now))
 
-pub inverse-spec : {M : Type 1} → statement M
-inverse-spec =
+pub inverse_spec : {M : Type 1} → statement M
+inverse_spec =
     tie.close
     (tie.spec
     inverse-4-requires

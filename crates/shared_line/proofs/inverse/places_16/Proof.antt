@@ -11,14 +11,14 @@ spread-requires c κs = ((omega arith, omega arith), (c.before.requires.0, front
 spread-requires-2 : tie.Need-spread-requires-2
 spread-requires-2 c κs = ((omega arith, omega arith), (c.before.before.before.before.requires.0, c.before.before.spread.ensures))
 
-same_length : tie.Need-same-length
-same_length c = c.before.spread2.ensures.long ∙ sym c.before.before.before.before.before.before.requires.1
+same_length : tie.Need-shape_of-y
+same_length c = c.before.spread-2.ensures.long ∙ sym c.before.before.before.before.before.before.requires.1
 
 returns : tie.Need-returns
-returns c = c.before.spread2.ensures
+returns c = c.before.spread-2.ensures
 
-pub places-16-spec : {M : Type 1} → statement M
-places-16-spec =
+pub places_16_spec : {M : Type 1} → statement M
+places_16_spec =
     tie.close
     (tie.spec
     spread-requires

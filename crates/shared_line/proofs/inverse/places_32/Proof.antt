@@ -12,19 +12,19 @@ spread-requires-2 : tie.Need-spread-requires-2
 spread-requires-2 c κs = ((omega arith, omega arith), (c.before.before.before.before.requires.0, c.before.before.spread.ensures))
 
 spread-requires-3 : tie.Need-spread-requires-3
-spread-requires-3 c κs = ((omega arith, omega arith), (c.before.before.before.before.before.before.before.requires.0, c.before.before.spread2.ensures))
+spread-requires-3 c κs = ((omega arith, omega arith), (c.before.before.before.before.before.before.before.requires.0, c.before.before.spread-2.ensures))
 
 spread-requires-4 : tie.Need-spread-requires-4
-spread-requires-4 c κs = ((omega arith, omega arith), (c.before.before.before.before.before.before.before.before.before.before.requires.0, c.before.before.spread3.ensures))
+spread-requires-4 c κs = ((omega arith, omega arith), (c.before.before.before.before.before.before.before.before.before.before.requires.0, c.before.before.spread-3.ensures))
 
-same_length : tie.Need-same-length
-same_length c = c.before.spread4.ensures.long ∙ sym c.before.before.before.before.before.before.before.before.before.before.before.before.requires.1
+same_length : tie.Need-shape_of-y
+same_length c = c.before.spread-4.ensures.long ∙ sym c.before.before.before.before.before.before.before.before.before.before.before.before.requires.1
 
 returns : tie.Need-returns
-returns c = c.before.spread4.ensures
+returns c = c.before.spread-4.ensures
 
-pub places-32-spec : {M : Type 1} → statement M
-places-32-spec =
+pub places_32_spec : {M : Type 1} → statement M
+places_32_spec =
     tie.close
     (tie.spec
     spread-requires

@@ -14,14 +14,14 @@ put-requires-2 : tie.Need-put-requires-2
 put-requires-2 c κs = (omega arith, c.before.before.put.ensures.1)
 
 put-requires-3 : tie.Need-put-requires-3
-put-requires-3 c κs = (omega arith, c.before.before.put2.ensures.1)
+put-requires-3 c κs = (omega arith, c.before.before.put-2.ensures.1)
 
-same_length : tie.Need-same-length
+same_length : tie.Need-shape_of-y
 same_length c =
     let c3 = c.before in
     let c2 = c3.before.before.before in
     let c1 = c2.before.before.before in
-    c3.put3.ensures.0.long ∙ c2.put2.ensures.0.long ∙ c1.put.ensures.0.long
+    c3.put-3.ensures.0.long ∙ c2.put-2.ensures.0.long ∙ c1.put.ensures.0.long
 
 returns : tie.Need-returns
 unfolding class_of
@@ -29,7 +29,7 @@ returns c =
     let c3 = c.before in
     let c2 = c3.before.before.before in
     let c1 = c2.before.before.before in
-    (by-test (λ i. eqb (class_of 3 3 i) 1) tt (and_then (and_then (put_one c1.put.ensures.0) (put_one c2.put2.ensures.0)) (put_one c3.put3.ensures.0)), c3.put3.ensures.1)
+    (by-test (λ i. eqb (class_of 3 3 i) 1) tt (and_then (and_then (put_one c1.put.ensures.0) (put_one c2.put-2.ensures.0)) (put_one c3.put-3.ensures.0)), c3.put-3.ensures.1)
 
-pub first-4-spec : {M : Type 1} → statement M
-first-4-spec = tie.close (tie.spec put-requires put-requires-2 put-requires-3 same_length returns)
+pub first_4_spec : {M : Type 1} → statement M
+first_4_spec = tie.close (tie.spec put-requires put-requires-2 put-requires-3 same_length returns)

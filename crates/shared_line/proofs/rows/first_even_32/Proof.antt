@@ -15,36 +15,36 @@ put-requires-2 : tie.Need-put-requires-2
 put-requires-2 c κs = (omega arith, c.before.before.put.ensures.1)
 
 put-requires-3 : tie.Need-put-requires-3
-put-requires-3 c κs = (omega arith, c.before.before.put2.ensures.1)
+put-requires-3 c κs = (omega arith, c.before.before.put-2.ensures.1)
 
 put-requires-4 : tie.Need-put-requires-4
-put-requires-4 c κs = (omega arith, c.before.before.put3.ensures.1)
+put-requires-4 c κs = (omega arith, c.before.before.put-3.ensures.1)
 
 put-requires-5 : tie.Need-put-requires-5
-put-requires-5 c κs = (omega arith, c.before.before.put4.ensures.1)
+put-requires-5 c κs = (omega arith, c.before.before.put-4.ensures.1)
 
 put-requires-6 : tie.Need-put-requires-6
-put-requires-6 c κs = (omega arith, c.before.before.put5.ensures.1)
+put-requires-6 c κs = (omega arith, c.before.before.put-5.ensures.1)
 
 put-requires-7 : tie.Need-put-requires-7
-put-requires-7 c κs = (omega arith, c.before.before.put6.ensures.1)
+put-requires-7 c κs = (omega arith, c.before.before.put-6.ensures.1)
 
 put-requires-8 : tie.Need-put-requires-8
-put-requires-8 c κs = (omega arith, c.before.before.put7.ensures.1)
+put-requires-8 c κs = (omega arith, c.before.before.put-7.ensures.1)
 
 put-requires-9 : tie.Need-put-requires-9
-put-requires-9 c κs = (omega arith, c.before.before.put8.ensures.1)
+put-requires-9 c κs = (omega arith, c.before.before.put-8.ensures.1)
 
 put-requires-10 : tie.Need-put-requires-10
-put-requires-10 c κs = (omega arith, c.before.before.put9.ensures.1)
+put-requires-10 c κs = (omega arith, c.before.before.put-9.ensures.1)
 
 put-requires-11 : tie.Need-put-requires-11
-put-requires-11 c κs = (omega arith, c.before.before.put10.ensures.1)
+put-requires-11 c κs = (omega arith, c.before.before.put-10.ensures.1)
 
 put-requires-12 : tie.Need-put-requires-12
-put-requires-12 c κs = (omega arith, c.before.before.put11.ensures.1)
+put-requires-12 c κs = (omega arith, c.before.before.put-11.ensures.1)
 
-same_length : tie.Need-same-length
+same_length : tie.Need-shape_of-y
 same_length c =
     let c12 = c.before in
     let c11 = c12.before.before.before in
@@ -58,7 +58,7 @@ same_length c =
     let c3 = c4.before.before.before in
     let c2 = c3.before.before.before in
     let c1 = c2.before.before.before in
-    c12.put12.ensures.0.long ∙ c11.put11.ensures.0.long ∙ c10.put10.ensures.0.long ∙ c9.put9.ensures.0.long ∙ c8.put8.ensures.0.long ∙ c7.put7.ensures.0.long ∙ c6.put6.ensures.0.long ∙ c5.put5.ensures.0.long ∙ c4.put4.ensures.0.long ∙ c3.put3.ensures.0.long ∙ c2.put2.ensures.0.long ∙ c1.put.ensures.0.long
+    c12.put-12.ensures.0.long ∙ c11.put-11.ensures.0.long ∙ c10.put-10.ensures.0.long ∙ c9.put-9.ensures.0.long ∙ c8.put-8.ensures.0.long ∙ c7.put-7.ensures.0.long ∙ c6.put-6.ensures.0.long ∙ c5.put-5.ensures.0.long ∙ c4.put-4.ensures.0.long ∙ c3.put-3.ensures.0.long ∙ c2.put-2.ensures.0.long ∙ c1.put.ensures.0.long
 
 returns : tie.Need-returns
 unfolding class_of
@@ -75,7 +75,7 @@ returns c =
     let c3 = c4.before.before.before in
     let c2 = c3.before.before.before in
     let c1 = c2.before.before.before in
-    (by-test (λ i. eqb (class_of 5 13 i) 1 && not (is_odd i)) tt (and_then (and_then (and_then (and_then (and_then (and_then (and_then (and_then (and_then (and_then (and_then (put_one c1.put.ensures.0) (put_one c2.put2.ensures.0)) (put_one c3.put3.ensures.0)) (put_one c4.put4.ensures.0)) (put_one c5.put5.ensures.0)) (put_one c6.put6.ensures.0)) (put_one c7.put7.ensures.0)) (put_one c8.put8.ensures.0)) (put_one c9.put9.ensures.0)) (put_one c10.put10.ensures.0)) (put_one c11.put11.ensures.0)) (put_one c12.put12.ensures.0)), c12.put12.ensures.1)
+    (by-test (λ i. eqb (class_of 5 13 i) 1 && not (is_odd i)) tt (and_then (and_then (and_then (and_then (and_then (and_then (and_then (and_then (and_then (and_then (and_then (put_one c1.put.ensures.0) (put_one c2.put-2.ensures.0)) (put_one c3.put-3.ensures.0)) (put_one c4.put-4.ensures.0)) (put_one c5.put-5.ensures.0)) (put_one c6.put-6.ensures.0)) (put_one c7.put-7.ensures.0)) (put_one c8.put-8.ensures.0)) (put_one c9.put-9.ensures.0)) (put_one c10.put-10.ensures.0)) (put_one c11.put-11.ensures.0)) (put_one c12.put-12.ensures.0)), c12.put-12.ensures.1)
 
-pub first-even-32-spec : {M : Type 1} → statement M
-first-even-32-spec = tie.close (tie.spec put-requires put-requires-2 put-requires-3 put-requires-4 put-requires-5 put-requires-6 put-requires-7 put-requires-8 put-requires-9 put-requires-10 put-requires-11 put-requires-12 same_length returns)
+pub first_even_32_spec : {M : Type 1} → statement M
+first_even_32_spec = tie.close (tie.spec put-requires put-requires-2 put-requires-3 put-requires-4 put-requires-5 put-requires-6 put-requires-7 put-requires-8 put-requires-9 put-requires-10 put-requires-11 put-requires-12 same_length returns)

@@ -14,18 +14,18 @@ put-requires-2 : tie.Need-put-requires-2
 put-requires-2 c κs = (omega arith, c.before.before.put.ensures.1)
 
 put-requires-3 : tie.Need-put-requires-3
-put-requires-3 c κs = (omega arith, c.before.before.put2.ensures.1)
+put-requires-3 c κs = (omega arith, c.before.before.put-2.ensures.1)
 
 put-requires-4 : tie.Need-put-requires-4
-put-requires-4 c κs = (omega arith, c.before.before.put3.ensures.1)
+put-requires-4 c κs = (omega arith, c.before.before.put-3.ensures.1)
 
 put-requires-5 : tie.Need-put-requires-5
-put-requires-5 c κs = (omega arith, c.before.before.put4.ensures.1)
+put-requires-5 c κs = (omega arith, c.before.before.put-4.ensures.1)
 
 put-requires-6 : tie.Need-put-requires-6
-put-requires-6 c κs = (omega arith, c.before.before.put5.ensures.1)
+put-requires-6 c κs = (omega arith, c.before.before.put-5.ensures.1)
 
-same_length : tie.Need-same-length
+same_length : tie.Need-shape_of-y
 same_length c =
     let c6 = c.before in
     let c5 = c6.before.before.before in
@@ -33,7 +33,7 @@ same_length c =
     let c3 = c4.before.before.before in
     let c2 = c3.before.before.before in
     let c1 = c2.before.before.before in
-    c6.put6.ensures.0.long ∙ c5.put5.ensures.0.long ∙ c4.put4.ensures.0.long ∙ c3.put3.ensures.0.long ∙ c2.put2.ensures.0.long ∙ c1.put.ensures.0.long
+    c6.put-6.ensures.0.long ∙ c5.put-5.ensures.0.long ∙ c4.put-4.ensures.0.long ∙ c3.put-3.ensures.0.long ∙ c2.put-2.ensures.0.long ∙ c1.put.ensures.0.long
 
 returns : tie.Need-returns
 unfolding class_of
@@ -44,7 +44,7 @@ returns c =
     let c3 = c4.before.before.before in
     let c2 = c3.before.before.before in
     let c1 = c2.before.before.before in
-    (by-test (λ i. eqb (class_of 5 13 i) 2) tt (and_then (and_then (and_then (and_then (and_then (put_one c1.put.ensures.0) (put_one c2.put2.ensures.0)) (put_one c3.put3.ensures.0)) (put_one c4.put4.ensures.0)) (put_one c5.put5.ensures.0)) (put_one c6.put6.ensures.0)), c6.put6.ensures.1)
+    (by-test (λ i. eqb (class_of 5 13 i) 2) tt (and_then (and_then (and_then (and_then (and_then (put_one c1.put.ensures.0) (put_one c2.put-2.ensures.0)) (put_one c3.put-3.ensures.0)) (put_one c4.put-4.ensures.0)) (put_one c5.put-5.ensures.0)) (put_one c6.put-6.ensures.0)), c6.put-6.ensures.1)
 
-pub second-32-spec : {M : Type 1} → statement M
-second-32-spec = tie.close (tie.spec put-requires put-requires-2 put-requires-3 put-requires-4 put-requires-5 put-requires-6 same_length returns)
+pub second_32_spec : {M : Type 1} → statement M
+second_32_spec = tie.close (tie.spec put-requires put-requires-2 put-requires-3 put-requires-4 put-requires-5 put-requires-6 same_length returns)

@@ -9,7 +9,7 @@ use Rattle.shared_line.proofs.rows.third_16.Tie as tie
 put-requires : tie.Need-put-requires
 put-requires c κs = (omega arith, c.before.requires)
 
-same_length : tie.Need-same-length
+same_length : tie.Need-shape_of-y
 same_length c =
     let c1 = c.before in
     c1.put.ensures.0.long
@@ -20,5 +20,5 @@ returns c =
     let c1 = c.before in
     (by-test (λ i. eqb (class_of 3 11 i) 3) tt (put_one c1.put.ensures.0), c1.put.ensures.1)
 
-pub third-16-spec : {M : Type 1} → statement M
-third-16-spec = tie.close (tie.spec put-requires same_length returns)
+pub third_16_spec : {M : Type 1} → statement M
+third_16_spec = tie.close (tie.spec put-requires same_length returns)

@@ -40,8 +40,8 @@ loop-again : tie.Need-loop-g-preserved invariant-loop decreases-loop
 loop-again c =
     let L = c.before in
     let r = reads 425984 c.folded_input.ensures.0 c.folded_input.ensures.1 (omega arith) in (
-      omega (arith, L.loop-test.true),
-      gather-next _ L.before.loop-g.invariant.1 (omega (arith, L.loop-test.true, L.before.before.requires.1.0.1)) r.is (is-small r),
+      omega (arith, L.loop-g-test.true),
+      gather-next _ L.before.loop-g.invariant.1 (omega (arith, L.loop-g-test.true, L.before.before.requires.1.0.1)) r.is (is-small r),
     )
 
 same_length : tie.Need-shape_of-t invariant-loop decreases-loop

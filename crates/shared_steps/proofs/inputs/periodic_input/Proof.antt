@@ -89,12 +89,12 @@ so c k = folded (X c) (stretches c.args.q c.args.g k)
 small : (c : tie.Start invariant-loop decreases-loop) (k : ℕ) → k ≤ c.args.n / c.args.q → nat_abs (so c k) ≤ k * 65536 → nat_abs (so c k) ≤ 393216
 small c k l h = omega (arith, c.requires.1.1.number)
 
-sofar : (c : tie.At-loop-k invariant-loop decreases-loop) → (to_z w32 c.loop-k.sum ≡ so c.before c.loop-k.k) × (nat_abs (so c.before c.loop-k.k) ≤ 393216)
+sofar : (c : tie.At-loop-k invariant-loop decreases-loop) → (to_z w32 c.loop-k.sum-bits ≡ so c.before c.loop-k.k) × (nat_abs (so c.before c.loop-k.k) ≤ 393216)
 sofar c =
     let b = small c.before c.loop-k.k c.loop-k.invariant.0 c.loop-k.invariant.1.1 in
     (ap (to_z w32) c.loop-k.invariant.1.0 ∙ read_back (so c.before c.loop-k.k) 393216 b (omega arith), b)
 
-sum-safe : (c : tie.At-loop-k invariant-loop decreases-loop) → nat_abs (to_z w32 c.loop-k.sum) ≤ 1000000000
+sum-safe : (c : tie.At-loop-k invariant-loop decreases-loop) → nat_abs (to_z w32 c.loop-k.sum-bits) ≤ 1000000000
 sum-safe c = omega (arith, ap nat_abs (sofar c).0, (sofar c).1)
 
 plus-requires : tie.Need-plus-sum-requires invariant-loop decreases-loop

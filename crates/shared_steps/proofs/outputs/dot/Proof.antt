@@ -25,7 +25,7 @@ decreases-loop w n i t m sum₀ g₀ sum g = m - g
 
 -- the sum so far, the weight and the number
 sofar : (c : tie.In-loop-g invariant-loop decreases-loop) → let s = c.before.before.args in
-    to_z w32 c.before.loop-g.sum ≡ short_sum s.n c.before.loop-g.g s.t.now s.i
+    to_z w32 c.before.loop-g.sum-bits ≡ short_sum s.n c.before.loop-g.g s.t.now s.i
 sofar c =
     let s = c.before.before.args in
     ap (to_z w32) c.before.loop-g.invariant.1.0 ∙ read_back (short_sum s.n c.before.loop-g.g s.t.now s.i) 1000000000 (omega (arith, c.before.loop-g.invariant.1.1, c.before.before.requires.1.1.1.0)) (omega arith)
@@ -76,7 +76,7 @@ loop-again c =
     let g = L.before.loop-g.g in
     let t = s.t.now in
     let e = next s.n t s.i g in (
-      omega (arith, L.loop-test.true),
+      omega (arith, L.loop-g-test.true),
       (
         ap (of_z w32) (c.mac-sum.ensures ∙ (λ j. sofar L j +ℤ weighs c.before.before j *ℤ read_back (at t g) 425984 (counts L) (omega arith) j) ∙ sym e),
         subst (λ (z : ℤ). nat_abs z ≤ (g + 1) * (90 * 425984)) (sym e) (grown 425984 (short_sum s.n g t s.i) (S s.n s.i g) (at t g) g L.before.loop-g.invariant.1.1 (S-size s.n s.i g) (counts L)),
@@ -89,7 +89,7 @@ returns c =
     let L = c.before.loop-g in
     let e : L.g ≡ s.m = omega (arith, L.invariant.0, c.loop-g-test.false) in
     let b : nat_abs (short_sum s.n L.g s.t.now s.i) ≤ 1000000000 = omega (arith, L.invariant.1.1, c.before.before.requires.1.1.1.0) in
-    let r : to_z w32 L.sum ≡ short_sum s.n L.g s.t.now s.i = ap (to_z w32) L.invariant.1.0 ∙ read_back _ 1000000000 b (omega arith) in
+    let r : to_z w32 L.sum-bits ≡ short_sum s.n L.g s.t.now s.i = ap (to_z w32) L.invariant.1.0 ∙ read_back _ 1000000000 b (omega arith) in
     (r ∙ ap (λ (m : ℕ). short_sum s.n m s.t.now s.i) e, subst (λ (z : ℤ). nat_abs z ≤ 1000000000) (sym r) b)
 
 pub dot_spec : {M : Type 1} → statement M

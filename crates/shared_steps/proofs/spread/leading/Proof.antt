@@ -75,7 +75,7 @@ plus-requires c κs =
     (safe (number I.before _ (near I)) (omega arith), safe (number I.before _ (far I)) (omega arith))
 
 first : (c : tie.After-plus-two) → let s = c.before.before.before.before in
-    Reads c.plus-two.result-1 (sums s (past s) +ℤ sums s (s.args.q - 2 - past s)) 188743680
+    Reads c.plus-two.result (sums s (past s) +ℤ sums s (s.args.q - 2 - past s)) 188743680
 first c =
     let I = c.before.before.before in
     reads-sum (number I.before _ (near I)) (number I.before _ (far I)) c.plus-two.ensures (omega arith)
@@ -140,14 +140,14 @@ plus-requires-2 c κs =
     (safe (number s _ (near-2 D)) (omega arith), safe (number s _ (far-2 D)) (omega arith))
 
 second : (c : tie.After-plus) → let s = c.before.before.before.before.before.before.before.before.before in
-    Reads c.plus.result-1 (sums s (s.args.q + past s) +ℤ sums s (2 * s.args.q - 2 - past s)) 188743680
+    Reads c.plus.result (sums s (s.args.q + past s) +ℤ sums s (2 * s.args.q - 2 - past s)) 188743680
 second c =
     let D = c.before.before.before.before in
     let s = D.before.before.before.before.before in
     reads-sum (number s _ (near-2 D)) (number s _ (far-2 D)) c.plus.ensures (omega arith)
 
 changed : (c : tie.After-negated) → let s = c.before.before.before.before.before.before in
-    Reads c.negated.result-1 (neg_ℤ (sums s (past s) +ℤ sums s (s.args.q - 2 - past s))) 188743680
+    Reads c.negated.result (neg_ℤ (sums s (past s) +ℤ sums s (s.args.q - 2 - past s))) 188743680
 changed c = reads-sign (first c.before.before) true c.negated.ensures (omega arith)
 
 plus-requires-3 : tie.Need-plus-requires-2

@@ -85,7 +85,7 @@ loop-again c =
     let s = L.before.before.args in
     let k = L.before.loop-k.k in
     let r = reads-sum (first c.before.before) (others c.before.before.before) c.before.plus.ensures (omega arith) in (
-      omega (arith, L.loop-test.true),
+      omega (arith, L.loop-k-test.true),
       front-next _ _ L.before.loop-k.invariant.1 (inside L) c.place.ensures (r.is ∙ joined_at s.p s.q s.a.now s.c.now s.d.now k),
     )
 

@@ -8,7 +8,7 @@ use mathlib.Core.Path.{sym, subst}
 use Rattle.step_lists.proofs.forward.wide.Statement.{statement}
 use Rattle.step_lists.proofs.forward.wide.Tie as tie
 
-cast-result : tie.Need-overflow-cast-result
+cast-result : tie.Need-overflow_cast-result
 cast-result c = cast_fits w32 (arg c.ranges.x) tt
 
 returns : tie.Need-returns

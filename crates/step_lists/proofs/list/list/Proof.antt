@@ -8,102 +8,102 @@ use Rattle.step_lists.proofs.ByList.{handed-list, not_listed}
 use Rattle.step_lists.proofs.list.list.Statement.{statement}
 use Rattle.step_lists.proofs.list.list.Tie as tie
 
-steps-4-requires : tie.Need-steps-4-requires
+steps-4-requires : tie.Need-steps_4-s-requires
 steps-4-requires c κs = search rules
 
-outs-4-requires : tie.Need-outs-4-requires
+outs-4-requires : tie.Need-outs_4-o-requires
 outs-4-requires c κs = search rules
 
-slice-aggregate-hand : tie.Need-slice-aggregate-hand
+slice-aggregate-hand : tie.Need-slice_bounds-hand-end
 slice-aggregate-hand c = search rules
 
-slice-aggregate-hand-2 : tie.Need-slice-aggregate-hand-2
+slice-aggregate-hand-2 : tie.Need-slice_bounds-hand-end-then-n-eq4
 slice-aggregate-hand-2 c = search rules
 
 hand-requires : tie.Need-hand-requires
 hand-requires c κs = search rules
 
-same_length : tie.Need-same-length
+same_length : tie.Need-shape_of-steps-then-n-eq4
 same_length c = search rules
 
-same-length-2 : tie.Need-same-length-2
+same-length-2 : tie.Need-shape_of-outs-then-n-eq4
 same-length-2 c = search rules
 
-returns : tie.Need-returns
+returns : tie.Need-returns-then-n-eq4
 unfolding list4
 returns c =
     let s = c.before.before.before.before.before.before.before.before.before.before.args in
-    let stored = c.before.before.before.before.before.before.before.before.steps-4 in
-    let named = c.before.before.before.before.before.before.before.outs-4 in
+    let stored = c.before.before.before.before.before.before.before.before.steps_4-s in
+    let named = c.before.before.before.before.before.before.before.outs_4-o in
     c.before.before.hand.ensures ∙ handed-list 4 stored.result named.result stored.ensures named.ensures refl s.steps.now s.outs.now
-    ∙ ap (λ (n : ℕ). list_outcome n s.steps.now s.outs.now) (sym c.before.before.before.before.before.before.before.before.before.if1.true)
+    ∙ ap (λ (n : ℕ). list_outcome n s.steps.now s.outs.now) (sym c.before.before.before.before.before.before.before.before.before.if-n-eq4.true)
 
-steps-16-requires : tie.Need-steps-16-requires
+steps-16-requires : tie.Need-steps_16-s-requires
 steps-16-requires c κs = search rules
 
-outs-16-requires : tie.Need-outs-16-requires
+outs-16-requires : tie.Need-outs_16-o-requires
 outs-16-requires c κs = search rules
 
-slice-aggregate-hand-3 : tie.Need-slice-aggregate-hand-3
+slice-aggregate-hand-3 : tie.Need-slice_bounds-hand-end-then-n-eq16
 slice-aggregate-hand-3 c = search rules
 
-slice-aggregate-hand-4 : tie.Need-slice-aggregate-hand-4
+slice-aggregate-hand-4 : tie.Need-slice_bounds-hand-end-then-n-eq16-2
 slice-aggregate-hand-4 c = search rules
 
-hand-requires-2 : tie.Need-hand-requires-2
+hand-requires-2 : tie.Need-hand-requires-then-n-eq16
 hand-requires-2 c κs = search rules
 
-same-length-3 : tie.Need-same-length-3
+same-length-3 : tie.Need-shape_of-steps-then-n-eq16
 same-length-3 c = search rules
 
-same-length-4 : tie.Need-same-length-4
+same-length-4 : tie.Need-shape_of-outs-then-n-eq16
 same-length-4 c = search rules
 
-returns-2 : tie.Need-returns-2
+returns-2 : tie.Need-returns-then-n-eq16
 unfolding list16
 returns-2 c =
     let s = c.before.before.before.before.before.before.before.before.before.before.before.args in
-    let stored = c.before.before.before.before.before.before.before.before.steps-16 in
-    let named = c.before.before.before.before.before.before.before.outs-16 in
-    c.before.before.hand2.ensures ∙ handed-list 16 stored.result named.result stored.ensures named.ensures refl s.steps.now s.outs.now
-    ∙ ap (λ (n : ℕ). list_outcome n s.steps.now s.outs.now) (sym c.before.before.before.before.before.before.before.before.before.if2.true)
+    let stored = c.before.before.before.before.before.before.before.before.steps_16-s in
+    let named = c.before.before.before.before.before.before.before.outs_16-o in
+    c.before.before.hand-then-n-eq16.ensures ∙ handed-list 16 stored.result named.result stored.ensures named.ensures refl s.steps.now s.outs.now
+    ∙ ap (λ (n : ℕ). list_outcome n s.steps.now s.outs.now) (sym c.before.before.before.before.before.before.before.before.before.if-n-eq16.true)
 
-steps-32-requires : tie.Need-steps-32-requires
+steps-32-requires : tie.Need-steps_32-s-requires
 steps-32-requires c κs = search rules
 
-outs-32-requires : tie.Need-outs-32-requires
+outs-32-requires : tie.Need-outs_32-o-requires
 outs-32-requires c κs = search rules
 
-slice-aggregate-hand-5 : tie.Need-slice-aggregate-hand-5
+slice-aggregate-hand-5 : tie.Need-slice_bounds-hand-end-then-n-eq32
 slice-aggregate-hand-5 c = search rules
 
-slice-aggregate-hand-6 : tie.Need-slice-aggregate-hand-6
+slice-aggregate-hand-6 : tie.Need-slice_bounds-hand-end-then-n-eq32-2
 slice-aggregate-hand-6 c = search rules
 
-hand-requires-3 : tie.Need-hand-requires-3
+hand-requires-3 : tie.Need-hand-requires-then-n-eq32
 hand-requires-3 c κs = search rules
 
-same-length-5 : tie.Need-same-length-5
+same-length-5 : tie.Need-shape_of-steps-then-n-eq32
 same-length-5 c = search rules
 
-same-length-6 : tie.Need-same-length-6
+same-length-6 : tie.Need-shape_of-outs-then-n-eq32
 same-length-6 c = search rules
 
-returns-3 : tie.Need-returns-3
+returns-3 : tie.Need-returns-then-n-eq32
 unfolding list32
 returns-3 c =
     let s = c.before.before.before.before.before.before.before.before.before.before.before.before.args in
-    let stored = c.before.before.before.before.before.before.before.before.steps-32 in
-    let named = c.before.before.before.before.before.before.before.outs-32 in
-    c.before.before.hand3.ensures ∙ handed-list 32 stored.result named.result stored.ensures named.ensures refl s.steps.now s.outs.now
-    ∙ ap (λ (n : ℕ). list_outcome n s.steps.now s.outs.now) (sym c.before.before.before.before.before.before.before.before.before.if3.true)
+    let stored = c.before.before.before.before.before.before.before.before.steps_32-s in
+    let named = c.before.before.before.before.before.before.before.outs_32-o in
+    c.before.before.hand-then-n-eq32.ensures ∙ handed-list 32 stored.result named.result stored.ensures named.ensures refl s.steps.now s.outs.now
+    ∙ ap (λ (n : ℕ). list_outcome n s.steps.now s.outs.now) (sym c.before.before.before.before.before.before.before.before.before.if-n-eq32.true)
 
-returns-4 : tie.Need-returns-4
+returns-4 : tie.Need-returns
 unfolding list_outcome
-returns-4 c = rw (not_listed c.before.before.before.args.n c.before.before.if1.false c.before.if2.false c.if3.false)
+returns-4 c = rw (not_listed c.before.before.before.args.n c.before.before.if-n-eq4.false c.before.if-n-eq16.false c.if-n-eq32.false)
 
-pub list-spec : {M : Type 1} → statement M
-list-spec =
+pub list_spec : {M : Type 1} → statement M
+list_spec =
     tie.close
     (tie.spec
     steps-4-requires

@@ -8,5 +8,5 @@ returns : tie.Need-returns
 unfolding list16
 returns c = refl
 
-pub outs-16-spec : {M : Type 1} → statement M
-outs-16-spec = tie.close (tie.spec returns)
+pub outs_16_spec : {M : Type 1} → statement M
+outs_16_spec = tie.close (tie.spec returns)

@@ -8,5 +8,5 @@ returns : tie.Need-returns
 unfolding list32
 returns c = refl
 
-pub outs-32-spec : {M : Type 1} → statement M
-outs-32-spec = tie.close (tie.spec returns)
+pub outs_32_spec : {M : Type 1} → statement M
+outs_32_spec = tie.close (tie.spec returns)

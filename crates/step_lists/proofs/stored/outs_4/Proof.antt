@@ -8,5 +8,5 @@ returns : tie.Need-returns
 unfolding list4
 returns c = refl
 
-pub outs-4-spec : {M : Type 1} → statement M
-outs-4-spec = tie.close (tie.spec returns)
+pub outs_4_spec : {M : Type 1} → statement M
+outs_4_spec = tie.close (tie.spec returns)

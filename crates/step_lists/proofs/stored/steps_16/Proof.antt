@@ -9,5 +9,5 @@ returns : tie.Need-returns
 unfolding encode list16 steps16
 returns c = refl
 
-pub steps-16-spec : {M : Type 1} → statement M
-steps-16-spec = tie.close (tie.spec returns)
+pub steps_16_spec : {M : Type 1} → statement M
+steps_16_spec = tie.close (tie.spec returns)

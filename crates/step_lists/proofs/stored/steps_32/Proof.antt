@@ -9,5 +9,5 @@ returns : tie.Need-returns
 unfolding encode list32 steps32
 returns c = refl
 
-pub steps-32-spec : {M : Type 1} → statement M
-steps-32-spec = tie.close (tie.spec returns)
+pub steps_32_spec : {M : Type 1} → statement M
+steps_32_spec = tie.close (tie.spec returns)

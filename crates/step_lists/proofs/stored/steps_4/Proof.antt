@@ -9,5 +9,5 @@ returns : tie.Need-returns
 unfolding encode list4 steps4
 returns c = refl
 
-pub steps-4-spec : {M : Type 1} → statement M
-steps-4-spec = tie.close (tie.spec returns)
+pub steps_4_spec : {M : Type 1} → statement M
+steps_4_spec = tie.close (tie.spec returns)

@@ -29,17 +29,17 @@ follow-requires c κs = search rules
 
 -- the steps were followed from the cells that a run starts from
 followed : (c : tie.After-follow-taken) → let s = c.before.before.before.before.before.before.before.before.args in
-    tell c.follow-taken.result.number (state c.follow-taken.new.1.1.0 c.follow-taken.new.1.1.1.0 c.follow-taken.result.count) ≡ run whole_numbers s.n (decode s.steps.now) (first_state whole_numbers s.x.now)
+    tell c.follow-taken.result.number (state c.follow-taken.new.values c.follow-taken.new.written c.follow-taken.result.count) ≡ run whole_numbers s.n (decode s.steps.now) (first_state whole_numbers s.x.now)
 followed c =
     let s = c.before.before.before.before.before.before.before.before.args in
     let l = c.before.before.before.before.before.load in
-    c.follow-taken.ensures ∙ ap (λ t. run whole_numbers s.n (decode s.steps.now) t) (started s.x.now l.new.1.0 l.new.1.1.0 l.ensures.0 l.ensures.1)
+    c.follow-taken.ensures ∙ ap (λ t. run whole_numbers s.n (decode s.steps.now) t) (started s.x.now l.new.values l.new.written l.ensures.0 l.ensures.1)
 
 returns : tie.Need-returns-then-number-ne0
 returns c =
     let p = c.before.before.before in
     let s = p.before.before.before.before.before.before.before.before.args in
-    stopped s.n s.outs.now s.y.now p.follow-taken.new.1.1.0 p.follow-taken.new.1.1.1.0 p.follow-taken.result.count s.steps.now s.x.now p.follow-taken.result.number (followed p) c.if-number-ne0.true
+    stopped s.n s.outs.now s.y.now p.follow-taken.new.values p.follow-taken.new.written p.follow-taken.result.count s.steps.now s.x.now p.follow-taken.result.number (followed p) c.if-number-ne0.true
 
 slice-aggregate-finish : tie.Need-slice_bounds-finish-end
 slice-aggregate-finish c = search rules
@@ -57,7 +57,7 @@ returns-2 : tie.Need-returns
 returns-2 c =
     let p = c.before.before.before.before.before.before.before.before in
     let s = p.before.before.before.before.before.before.before.before.args in
-    went_on s.n s.outs.now s.y.now p.follow-taken.new.1.1.0 p.follow-taken.new.1.1.1.0 p.follow-taken.result.count s.steps.now s.x.now p.follow-taken.result.number (followed p) c.before.before.before.before.before.if-number-ne0.false c.before.finish.ensures
+    went_on s.n s.outs.now s.y.now p.follow-taken.new.values p.follow-taken.new.written p.follow-taken.result.count s.steps.now s.x.now p.follow-taken.result.number (followed p) c.before.before.before.before.before.if-number-ne0.false c.before.finish.ensures
 
 pub accepted_spec : {M : Type 1} → statement M
 accepted_spec =

@@ -23,7 +23,7 @@ returns : tie.Need-returns-then-k-values
 returns c =
     let s = c.before.before.before in
     let o = c.before.before.cell-k.ensures ∙ ap cell_of (to_z-of_z w32 s.args.o s.ranges.o) in
-    to_z-of_z w32 (at s.args.values.now c.before.before.cell-k.result-1) (record { sfits = c.result-1.given }) ∙ ap (at s.args.values.now) o
+    to_z-of_z w32 (at s.args.values.now c.before.before.cell-k.result) (record { sfits = c.result-1.given }) ∙ ap (at s.args.values.now) o
 
 returns-2 : tie.Need-returns
 returns-2 c =

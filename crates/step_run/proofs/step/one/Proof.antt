@@ -42,22 +42,22 @@ inside-requires : tie.Need-inside-requires
 inside-requires c κs = search rules
 
 known-requires : tie.Need-known-requires
-known-requires c κs = (omega (arith, cells_in c.before), omega (arith, cells_in c.before))
+known-requires c κs = (omega (arith, cells_in c), omega (arith, cells_in c))
 
 operand-requires : tie.Need-operand-y-requires
-operand-requires c κs = omega (arith, cells_in c.before.before.before.before)
+operand-requires c κs = omega (arith, cells_in c.before.before)
 
 mul-combine : tie.Need-offset_bounds-values-a
-mul-combine c = omega (arith, cells_in c.before.before.before.before.before)
+mul-combine c = omega (arith, cells_in c.before.before.before)
 
 slice-copy-out-combine : tie.Need-slice_copy_out-combine
-slice-copy-out-combine c = omega (arith, cells_in c.before.before.before.before.before)
+slice-copy-out-combine c = omega (arith, cells_in c.before.before.before)
 
 combine-requires : tie.Need-combine-z-requires
 combine-requires c κs = search rules
 
 store-requires : tie.Need-store-requires
-store-requires c κs = (omega (arith, cells_in c.before.before.before.before.before.before.before.before.before), omega (arith, cells_in c.before.before.before.before.before.before.before.before.before))
+store-requires c κs = (omega (arith, cells_in c.before.before.before.before.before.before.before), omega (arith, cells_in c.before.before.before.before.before.before.before))
 
 same_length : tie.Need-shape_of-values-then-known
 same_length c = search rules
@@ -67,15 +67,14 @@ same-length-2 c = search rules
 
 returns : tie.Need-returns-then-known
 returns c =
-    let q = c.before.before.before.before.before.before.before.before.before.before.before.before.before.before.before.before in
-    let s = q.args in
-    let e = sym (inside_is c.before.before.before.before.before.before.before.before.before.before.before.before.before.before) ∙ c.before.before.before.before.before.before.before.before.before.before.before.before.before.if-inside.true in
-    let m = second_is c.before.before.before.before.before.before.before.before.before.before.before.before.before.before.before in
+    let s = c.args in
+    let e = sym (inside_is c.before.before.before.before.before.before.before.before.before.before.before.before) ∙ c.if-inside.true in
+    let m = second_is c.before.before.before.before.before.before.before.before.before.before.before.before.before in
     let f : get_or s.written.now s.a false && get_or s.written.now (cond (reads_two s.o) (cell_of s.d) s.a) false ≡ true =
-    ap (λ m. get_or s.written.now s.a false && get_or s.written.now m false) (sym m) ∙ sym c.before.before.before.before.before.before.before.before.before.before.before.known.ensures ∙ c.before.before.before.before.before.before.before.before.before.before.if-known.true in
-    let y = to_z-of_z w32 c.before.before.before.before.before.before.before.before.operand-y.result (search rules) ∙ c.before.before.before.before.before.before.before.before.operand-y.ensures ∙ (λ i. cond (two_is c.before.before.before.before.before.before.before.before.before.before.before.before.before.before.before.before i) (at s.values.now (m i)) (to_z-of_z w32 s.d q.ranges.d i)) in
-    let z = to_z-of_z w64 c.before.before.before.before.before.before.combine-z.result (search rules) ∙ c.before.before.before.before.before.before.combine-z.ensures ∙ (λ i. combined (to_z-of_z w32 s.o q.ranges.o i) (to_z-of_z w32 (at s.values.now s.a) (record { sfits = c.before.before.before.before.before.before.before.combine-arg-1.given }) i) (y i)) in
-    λ k. c.before.before.before.store.ensures (k + multiplies (step_from s.o s.t s.a s.d))
+    ap (λ m. get_or s.written.now s.a false && get_or s.written.now m false) (sym m) ∙ sym c.known.ensures ∙ c.if-known.true in
+    let y = to_z-of_z w32 c.operand-y.result (search rules) ∙ c.operand-y.ensures ∙ (λ i. cond (two_is c.before.before.before.before.before.before.before.before.before.before.before.before.before.before i) (at s.values.now (m i)) (to_z-of_z w32 s.d c.ranges.d i)) in
+    let z = to_z-of_z w64 c.combine-z.result (search rules) ∙ c.combine-z.ensures ∙ (λ i. combined (to_z-of_z w32 s.o c.ranges.o i) (to_z-of_z w32 (at s.values.now s.a) (record { sfits = c.combine-arg-1.given }) i) (y i)) in
+    λ k. c.store.ensures (k + multiplies (step_from s.o s.t s.a s.d))
     ∙ (λ i. cond (fits32 (z i)) (ran (state (set s.values.now s.t (z i)) (set s.written.now s.t true) (k + multiplies (step_from s.o s.t s.a s.d)))) (refused 29))
     ∙ sym (step-parts s.o s.t s.a s.d s.n s.values.now s.written.now k ∙ rw (e, f))
 
@@ -84,15 +83,15 @@ same-length-3 c = search rules
 
 returns-2 : tie.Need-returns-then-inside
 returns-2 c =
-    let s = c.before.before.before.before.before.before.before.args in
-    let e = sym (inside_is c.before.before.before.before) ∙ c.before.before.before.if-inside.true in
+    let s = c.args in
+    let e = sym (inside_is c.before.before.before) ∙ c.if-inside.true in
     let f : get_or s.written.now s.a false && get_or s.written.now (cond (reads_two s.o) (cell_of s.d) s.a) false ≡ false =
-    ap (λ m. get_or s.written.now s.a false && get_or s.written.now m false) (sym (second_is c.before.before.before.before.before)) ∙ sym c.before.known.ensures ∙ c.if-known.false in
+    ap (λ m. get_or s.written.now s.a false && get_or s.written.now m false) (sym (second_is c.before.before.before.before)) ∙ sym c.known.ensures ∙ c.if-known.false in
     λ k. sym (step-parts s.o s.t s.a s.d s.n s.values.now s.written.now k ∙ rw (e, f))
 
 returns-3 : tie.Need-returns
 returns-3 c =
-    let s = c.before.before.before.before.before.args in
+    let s = c.args in
     let e = sym (inside_is c.before) ∙ c.if-inside.false in
     λ k. sym (step-parts s.o s.t s.a s.d s.n s.values.now s.written.now k ∙ rw e)
 

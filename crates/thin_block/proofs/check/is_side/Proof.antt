@@ -9,26 +9,26 @@ use Rattle.thin_block.proofs.check.is_side.Statement.{statement}
 use Rattle.thin_block.proofs.check.is_side.Tie as tie
 
 -- no size
-left : (c : tie.Else1) → is_size c.before.before.args.n ≡ false
-left c = sym c.before.is-size.ensures ∙ c.if1.false
+left : (c : tie.Else-is_size) → is_size c.before.before.args.n ≡ false
+left c = sym c.before.is_size.ensures ∙ c.if-is_size.false
 
-is-size-requires : tie.Need-is-size-requires
+is-size-requires : tie.Need-is_size-requires
 is-size-requires c κs = search rules
 
-returns : tie.Need-returns
+returns : tie.Need-returns-then-is_size
 unfolding is_side
-returns c = rw (sym c.before.is-size.ensures ∙ c.if1.true)
+returns c = rw (sym c.before.is_size.ensures ∙ c.if-is_size.true)
 
-returns-2 : tie.Need-returns-2
+returns-2 : tie.Need-returns-then-n-ne1
 unfolding is_side
-returns-2 c = rw (left c.before, ne_eqb _ _ c.if2.true)
+returns-2 c = rw (left c.before, ne_eqb _ _ c.if-n-ne1.true)
 
-is-line-requires : tie.Need-is-line-requires
+is-line-requires : tie.Need-is_line-requires
 is-line-requires c κs = search rules
 
-returns-3 : tie.Need-returns-3
+returns-3 : tie.Need-returns
 unfolding is_side
-returns-3 c = rw (left c.before.before, eq-eqb _ _ c.before.if2.false) c.is-line.ensures
+returns-3 c = rw (left c.before.before, eq-eqb _ _ c.before.if-n-ne1.false) c.is_line.ensures
 
-pub is-side-spec : {M : Type 1} → statement M
-is-side-spec = tie.close (tie.spec is-size-requires returns returns-2 is-line-requires returns-3)
+pub is_side_spec : {M : Type 1} → statement M
+is_side_spec = tie.close (tie.spec is-size-requires returns returns-2 is-line-requires returns-3)

@@ -28,13 +28,13 @@ rounded n kind s c l e =
 full-requires : tie.Need-full-requires
 full-requires c κs = c.before.requires.line
 
-sub-round-each : tie.Need-overflow-sub-round-each
+sub-round-each : tie.Need-overflow_sub-d
 sub-round-each c = omega (arith, depth c.before.before.before)
 
-round-each-requires : tie.Need-round-each-requires
+round-each-requires : tie.Need-round_each-requires
 round-each-requires c κs = let d = depth c.before.before.before.before in (omega arith, omega arith)
 
-same_length : tie.Need-same-length
+same_length : tie.Need-shape_of-out
 same_length c = search rules
 
 returns : tie.Need-returns
@@ -42,9 +42,9 @@ returns c =
     let I = c.before.before.before.before in
     let s = I.before.before in
     let a = s.args in
-    c.before.round-each.ensures
+    c.before.round_each.ensures
     ∙ rounded a.n a.kind (thin_shift a.d) a.c.now _ I.full.ensures
 
-pub residuals-spec : {M : Type 1} → statement M
-residuals-spec =
+pub residuals_spec : {M : Type 1} → statement M
+residuals_spec =
     tie.close (tie.spec full-requires sub-round-each round-each-requires same_length returns)

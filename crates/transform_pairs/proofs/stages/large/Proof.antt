@@ -174,7 +174,7 @@ first c =
     (⊎_elim
     (λ t. down-leaves d 8 (omega (arith, t.3.taken)) (t.9 ∙ t.7.ensures))
     (λ t. down-leaves d 16 (omega (arith, last-rows W t.0.left t.1.left t.2.left t.3.left)) (t.9 ∙ t.7.ensures)))))
-    c.if1.branch
+    c.if1.branch-raw
 
 sub-settle : tie.Need-overflow-sub-settle
 sub-settle c = omega arith

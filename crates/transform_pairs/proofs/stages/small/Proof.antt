@@ -165,7 +165,7 @@ first c =
     (⊎_elim
     (λ t. down-leaves d 4 (omega (arith, t.2.taken)) (t.8 ∙ t.6.ensures))
     (λ t. down-leaves d 8 (omega (arith, last-rows W t.0.left t.1.left t.2.left)) (t.8 ∙ t.6.ensures))))
-    c.if1.branch
+    c.if1.branch-raw
 
 sub-settle : tie.Need-overflow-sub-settle
 sub-settle c = omega arith

@@ -26,7 +26,7 @@ room s =
 
 read-requires : tie.Need-read-requires
 read-requires c κs =
-    let s = c.before.before in
+    let s = c.before in
     let a = s.args in
     let g = given s in (
       record {
@@ -40,18 +40,18 @@ read-requires c κs =
     )
 
 weights-requires : tie.Need-weights-requires
-weights-requires c κs = let s = c.before.before.before.before.before in ((given s).sized.down, s.requires.1)
+weights-requires c κs = let s = c.before.before.before.before in ((given s).sized.down, s.requires.1)
 
-slice-aggregate-middles : tie.Need-slice-aggregate-middles
+slice-aggregate-middles : tie.Need-slice_bounds-middles-end-2
 slice-aggregate-middles c = sym c.before.before.before.before.before.before.read.ensures.long
 
-add-middles : tie.Need-overflow-add-middles
+add-middles : tie.Need-overflow_add-k
 add-middles c = search rules
 
 abbrev start : tie.After-weights → tie.Start
-start c = c.before.before.before.before.before.before
+start c = c.before.before.before.before.before
 
-middles-requires : tie.Need-middles-requires
+middles-requires : tie.Need-middles-rails-requires
 middles-requires c κs =
     let W = c.before.before.before.before in
     let s = start W in
@@ -61,22 +61,22 @@ middles-requires c κs =
     )
 
 -- what the first stage has left
-abbrev laid : tie.After-middles → tie.After-weights
+abbrev laid : tie.After-middles-rails → tie.After-weights
 laid c = c.before.before.before.before.before
 
-abbrev between : tie.After-middles → List ℤ
-between c = c.middles.new.1.1.1.1.1.1.1.0
+abbrev between : tie.After-middles-rails → List ℤ
+between c = c.middles-rails.new.m
 
-between-long : (c : tie.After-middles) → let a = (start (laid c)).args in length (between c) ≡ a.width * a.height
+between-long : (c : tie.After-middles-rails) → let a = (start (laid c)).args in length (between c) ≡ a.width * a.height
 between-long c =
     let s = start (laid c) in
-    let made : Rows s.args.columns s.args.height _ (between c) s.args.numbers.now = record { are = c.middles.ensures.0 } in
+    let made : Rows s.args.columns s.args.height _ (between c) s.args.numbers.now = record { are = c.middles-rails.ensures.0 } in
     rows-room made (le_refl s.args.height) (room s) ∙ (given s).long
 
 weights-requires-2 : tie.Need-weights-requires-2
 weights-requires-2 c κs = let W = laid c.before.before.before in ((given (start W)).sized.along, (W.weights.ensures.0, W.weights.ensures.1.0))
 
-add-upward : tie.Need-overflow-add-upward
+add-upward : tie.Need-overflow_add-n
 add-upward c = search rules
 
 upward-requires : tie.Need-upward-requires
@@ -87,9 +87,9 @@ upward-requires c κs =
     let s = start W in
     let a = s.args in
     rows-given a.width a.height a.horizontal a.vertical a.columns a.rows a.reach a.last a.numbers.now (given s) _ _ W.before.before.before.read.ensures W.weights.ensures.1.1
-    (between M) _ _ M.middles.ensures.0 (between-long M) U.weights2.ensures.1.1
+    (between M) _ _ M.middles-rails.ensures.0 (between-long M) U.weights-2.ensures.1.1
 
-same_length : tie.Need-same-length
+same_length : tie.Need-shape_of-numbers
 same_length c = search rules
 
 returns : tie.Need-returns
@@ -99,15 +99,15 @@ returns c =
     let W = laid M in
     let s = start W in
     let a = s.args in (
-      M.middles.ensures.1
+      M.middles-rails.ensures.1
           ∙ rails-read a.width a.height a.horizontal a.vertical a.columns a.rows a.reach a.last a.numbers.now (given s) _ _ W.before.before.before.read.ensures W.weights.ensures.1.1,
       c.before.upward.ensures
           ∙ block_read a.width a.height a.horizontal a.vertical a.columns a.rows a.reach a.last a.numbers.now (given s) _ _ W.before.before.before.read.ensures W.weights.ensures.1.1
-          (between M) _ _ M.middles.ensures.0 (between-long M) U.weights2.ensures.1.1,
+          (between M) _ _ M.middles-rails.ensures.0 (between-long M) U.weights-2.ensures.1.1,
     )
 
-pub two-stages-spec : {M : Type 1} → statement M
-two-stages-spec =
+pub two_stages_spec : {M : Type 1} → statement M
+two_stages_spec =
     tie.close
     (tie.spec
     read-requires

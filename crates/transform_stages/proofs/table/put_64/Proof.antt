@@ -9,5 +9,5 @@ returns : tie.Need-returns
 unfolding dct2 turn cosines
 returns c = (refl, laid_by 64 16 (dct2 64) _ tt refl)
 
-pub put-64-spec : {M : Type 1} → statement M
-put-64-spec = tie.close (tie.spec returns)
+pub put_64_spec : {M : Type 1} → statement M
+put_64_spec = tie.close (tie.spec returns)

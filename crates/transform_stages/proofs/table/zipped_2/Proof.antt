@@ -9,5 +9,5 @@ returns : tie.Need-returns
 unfolding dct2 turn cosines
 returns c = laid_by 2 1 (dct2 2) _ tt refl
 
-pub zipped-2-spec : {M : Type 1} → statement M
-zipped-2-spec = tie.close (tie.spec returns)
+pub zipped_2_spec : {M : Type 1} → statement M
+zipped_2_spec = tie.close (tie.spec returns)

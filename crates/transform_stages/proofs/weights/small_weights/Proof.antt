@@ -13,22 +13,22 @@ use Rattle.transform_stages.proofs.Lines.{size-left, kind-of-2, of-dct2}
 use Rattle.transform_stages.proofs.weights.small_weights.Statement.{statement}
 use Rattle.transform_stages.proofs.weights.small_weights.Tie as tie
 
-zipped-2-requires : tie.Need-zipped-2-requires
+zipped-2-requires : tie.Need-zipped_2-requires
 zipped-2-requires c κs = search rules
 
-slice-aggregate-front : tie.Need-slice-aggregate-front
+slice-aggregate-front : tie.Need-slice_bounds-front-end
 slice-aggregate-front c = search rules
 
 front-requires : tie.Need-front-requires
 front-requires c κs = search rules
 
-zipped-16-requires : tie.Need-zipped-16-requires
+zipped-16-requires : tie.Need-zipped_16-requires
 zipped-16-requires c κs = search rules
 
-slice-aggregate-front-2 : tie.Need-slice-aggregate-front-2
+slice-aggregate-front-2 : tie.Need-slice_bounds-front-end-then-n-eq16
 slice-aggregate-front-2 c = search rules
 
-front-requires-2 : tie.Need-front-requires-2
+front-requires-2 : tie.Need-front-requires-then-n-eq16
 front-requires-2 c κs = search rules
 
 -- neither 2 nor 16
@@ -39,29 +39,29 @@ few-requires : tie.Need-few-requires
 few-requires c κs =
     let E = c.before in
     let s = E.before.before in
-    let z = size-left s.args.kind s.args.n s.requires.0 (λ e. absurd (omega (arith, s.requires.1.0))) E.before.if1.false in
-    ((z, eight s.args.n z s.requires.1.0 E.if2.false), omega (arith, s.requires.1.1))
+    let z = size-left s.args.kind s.args.n s.requires.0 (λ e. absurd (omega (arith, s.requires.1.0))) E.before.if-n-eq2.false in
+    ((z, eight s.args.n z s.requires.1.0 E.if-n-eq16.false), omega (arith, s.requires.1.1))
 
-returns : tie.Need-returns
+returns : tie.Need-returns-then-n-eq2
 returns c =
     let s = c.before.before.before.before.before in
-    let e : s.args.n ≡ 2 = c.before.before.before.before.if1.true in
-    let z = of-dct2 s.args.kind (kind-of-2 s.args.kind s.args.n s.requires.0 e) 2 1 c.before.before.before.zipped-2.ensures in (
+    let e : s.args.n ≡ 2 = c.before.before.before.before.if-n-eq2.true in
+    let z = of-dct2 s.args.kind (kind-of-2 s.args.kind s.args.n s.requires.0 e) 2 1 c.before.before.before.zipped_2.ensures in (
       c.front.ensures.long ∙ s.requires.1.1,
-      subst (λ (n : ℕ). LineWeights s.args.kind n c.front.new.1.1.0) (sym e)
+      subst (λ (n : ℕ). LineWeights s.args.kind n c.front.new.u) (sym e)
           (λ pairs h. front (z pairs (omega arith)) c.front.ensures pairs (omega arith) (omega (arith, s.requires.1.1))),
     )
 
-returns-2 : tie.Need-returns-2
+returns-2 : tie.Need-returns-then-n-eq16
 returns-2 c =
     let s = c.before.before.before.before.before.before in
-    let e : s.args.n ≡ 16 = c.before.before.before.before.if2.true in (
-      c.front2.ensures.long ∙ s.requires.1.1,
-      subst (λ (n : ℕ). LineWeights s.args.kind n c.front2.new.1.1.0) (sym e)
-          (λ pairs h. front c.before.before.before.zipped-16.ensures c.front2.ensures pairs (omega arith) (omega (arith, s.requires.1.1))),
+    let e : s.args.n ≡ 16 = c.before.before.before.before.if-n-eq16.true in (
+      c.front-then-n-eq16.ensures.long ∙ s.requires.1.1,
+      subst (λ (n : ℕ). LineWeights s.args.kind n c.front-then-n-eq16.new.u) (sym e)
+          (λ pairs h. front c.before.before.before.zipped_16.ensures c.front-then-n-eq16.ensures pairs (omega arith) (omega (arith, s.requires.1.1))),
     )
 
-returns-3 : tie.Need-returns-3
+returns-3 : tie.Need-returns-else-n-eq16
 returns-3 c =
     let E = c.before.before in
     let s = E.before.before in (
@@ -73,8 +73,8 @@ returns-3 c =
           c.few.ensures.1 pairs (omega arith) (omega (arith, s.requires.1.1)),
     )
 
-pub small-weights-spec : {M : Type 1} → statement M
-small-weights-spec =
+pub small_weights_spec : {M : Type 1} → statement M
+small_weights_spec =
     tie.close
     (tie.spec
     zipped-2-requires

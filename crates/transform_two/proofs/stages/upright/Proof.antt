@@ -53,14 +53,14 @@ stood c =
     ⊎_elim
     (λ t. stood-both s.args.h s.args.vertical s.args.columns s.args.rows s.args.last s.args.numbers.now s.pre.0 s.args.step (step-paired s) (low s) (within s) (zeros-at 64) c.before.column.ensures t.0.taken (subst (λ (l : List ℤ). WroteFrom s.args.step s.args.rows l _ _) (sym t.4) t.3.ensures))
     (λ t. subst (Stands s) (sym t.1) (stood-one s.args.h s.args.vertical s.args.columns s.args.rows s.args.last s.args.numbers.now s.pre.0 s.args.step (step-paired s) (low s) (within s) (zeros-at 64) c.before.column.ensures t.0.left))
-    c.if1.branch
+    c.if1.branch-raw
 
 stood-long : (c : tie.Joined1) → length c.if1.s ≡ 64
 stood-long c =
     ⊎_elim
     (λ t. ap length t.4 ∙ t.3.ensures.long ∙ c.before.column.ensures.long)
     (λ t. ap length t.1 ∙ c.before.column.ensures.long)
-    c.if1.branch
+    c.if1.branch-raw
 
 lines-of-requires : tie.Need-lines-of-requires
 lines-of-requires c κs =

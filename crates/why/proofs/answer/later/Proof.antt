@@ -34,68 +34,68 @@ module _ (s : tie.Start) where
   answer = first_of (outside_test p l ∷ beyond_test p l ∷ place_test p s.args.place ∷ []) no_parts (parts_of p l s.args.place)
 
   short : length l ≤ 1024
-  short = few s.args.shape s.pre
+  short = few s.args.shape s.requires
 
 -- past 8
-none-outside : (c : tie.Else1) → let s = c.before.before in length (l s) ≤ first_outside (p s) (l s)
-none-outside c = omega (arith, c.before.first-outside.ensures, c.if1.false)
+none-outside : (c : tie.Else-first-c) → let s = c.before.before in length (l s) ≤ first_outside (p s) (l s)
+none-outside c = omega (arith, c.before.first_outside-first.ensures, c.if-first-c.false)
 
-past8 : (c : tie.Else1) → let s = c.before.before in answer s ≡ first_of (beyond_test (p s) (l s) ∷ place_test (p s) s.args.place ∷ []) no_parts (parts_of (p s) (l s) s.args.place)
+past8 : (c : tie.Else-first-c) → let s = c.before.before in answer s ≡ first_of (beyond_test (p s) (l s) ∷ place_test (p s) s.args.place ∷ []) no_parts (parts_of (p s) (l s) s.args.place)
 past8 c = let s = c.before.before in rw (le-ltb (first_outside (p s) (l s)) (length (l s)) (none-outside c))
 
 -- where the first coefficient beyond the range stands
-beyond-is : (c : tie.After-first-beyond) → let s = c.before.before.before.before in c.first-beyond.result ≡ first_beyond (p s).range (l s)
+beyond-is : (c : tie.After-first_beyond-far) → let s = c.before.before.before.before in c.first_beyond-far.result ≡ first_beyond (p s).range (l s)
 beyond-is c =
     let s = c.before.before.before.before in
-    c.first-beyond.ensures ∙ ap (λ (r : ℕ). first_beyond (range_of r) (l s)) c.before.reach_of.ensures
+    c.first_beyond-far.ensures ∙ ap (λ (r : ℕ). first_beyond (range_of r) (l s)) c.before.reach_of.ensures
 
 -- past 27
-none-far : (c : tie.Else2) → let s = c.before.before.before.before.before in ltb (first_beyond (p s).range (l s)) (length (l s)) ≡ false
+none-far : (c : tie.Else-far-c) → let s = c.before.before.before.before.before in ltb (first_beyond (p s).range (l s)) (length (l s)) ≡ false
 none-far c =
     let s = c.before.before.before.before.before in
-    le-ltb (first_beyond (p s).range (l s)) (length (l s)) (omega (arith, beyond-is c.before, c.if2.false))
+    le-ltb (first_beyond (p s).range (l s)) (length (l s)) (omega (arith, beyond-is c.before, c.if-far-c.false))
 
-past27 : (c : tie.Else2) → let s = c.before.before.before.before.before in answer s ≡ first_of (place_test (p s) s.args.place ∷ []) no_parts (parts_of (p s) (l s) s.args.place)
+past27 : (c : tie.Else-far-c) → let s = c.before.before.before.before.before in answer s ≡ first_of (place_test (p s) s.args.place ∷ []) no_parts (parts_of (p s) (l s) s.args.place)
 past27 c = past8 c.before.before.before ∙ rw (none-far c)
 
-first-outside-requires : tie.Need-first-outside-requires
+first-outside-requires : tie.Need-first_outside-first-requires
 first-outside-requires c κs = c.requires.long
 
-cast-refused : tie.Need-overflow-cast-refused
-cast-refused c = omega (arith, c.if1.true, short c.before.before)
+cast-refused : tie.Need-overflow_cast-first
+cast-refused c = omega (arith, c.if-first-c.true, short c.before.before)
 
 refused-requires : tie.Need-refused-requires
 refused-requires c κs = search rules
 
-returns : tie.Need-returns
+returns : tie.Need-returns-then-first-c
 returns c =
     let F = c.before.before in
     let s = F.before in
-    let e = F.first-outside.ensures in
-    let t : ltb (first_outside (p s) (l s)) (length (l s)) ≡ true = lt-ltb (first_outside (p s) (l s)) (length (l s)) (omega (arith, e, c.before.if1.true)) in
+    let e = F.first_outside-first.ensures in
+    let t : ltb (first_outside (p s) (l s)) (length (l s)) ≡ true = lt-ltb (first_outside (p s) (l s)) (length (l s)) (omega (arith, e, c.before.if-first-c.true)) in
     c.refused.ensures ∙ ap (λ (n : ℕ). no_parts 8 n) e ∙ sym (rw t)
 
-reach-of-requires : tie.Need-reach-of-requires
+reach-of-requires : tie.Need-reach_of-requires
 reach-of-requires c κs = search rules
 
-first-beyond-requires : tie.Need-first-beyond-requires
+first-beyond-requires : tie.Need-first_beyond-far-requires
 first-beyond-requires c κs = let s = c.before.before.before in omega (arith, c.reach_of.ensures, reach-in s.args.extended s.args.shape.depth)
 
-cast-refused-2 : tie.Need-overflow-cast-refused-2
-cast-refused-2 c = omega (arith, c.if2.true, short c.before.before.before.before.before)
+cast-refused-2 : tie.Need-overflow_cast-far
+cast-refused-2 c = omega (arith, c.if-far-c.true, short c.before.before.before.before.before)
 
-refused-requires-2 : tie.Need-refused-requires-2
+refused-requires-2 : tie.Need-refused-requires-then-far-c
 refused-requires-2 c κs = search rules
 
-returns-2 : tie.Need-returns-2
+returns-2 : tie.Need-returns-then-far-c
 returns-2 c =
     let B = c.before.before in
     let s = B.before.before.before.before in
     let e = beyond-is B in
-    let t : ltb (first_beyond (p s).range (l s)) (length (l s)) ≡ true = lt-ltb (first_beyond (p s).range (l s)) (length (l s)) (omega (arith, e, c.before.if2.true)) in
-    c.refused2.ensures ∙ ap (λ (n : ℕ). no_parts 27 n) e ∙ sym (past8 B.before.before ∙ rw t)
+    let t : ltb (first_beyond (p s).range (l s)) (length (l s)) ≡ true = lt-ltb (first_beyond (p s).range (l s)) (length (l s)) (omega (arith, e, c.before.if-far-c.true)) in
+    c.refused-then-far-c.ensures ∙ ap (λ (n : ℕ). no_parts 27 n) e ∙ sym (past8 B.before.before ∙ rw t)
 
-mul-if3 : tie.Need-overflow-mul-if3
+mul-if3 : tie.Need-overflow_mul-shape
 mul-if3 c =
     let s = c.before.before.before.before.before.before in
     omega (arith, elements-in s.args.shape s.requires.taken)
@@ -112,28 +112,28 @@ told-requires c κs =
         kept = kept-part (p s) (l s) t.long (columns-kept sh t.taken).within (rows-kept sh t.taken).within (none-outside E1);
         small = none-beyond (reach s.args.extended sh.depth) (l s) (none-far E2);
       },
-      c.if3.true,
+      c.if-place-shape.true,
     )
 
-returns-3 : tie.Need-returns-3
+returns-3 : tie.Need-returns-then-place-shape
 returns-3 c =
     let E2 = c.before.before.before in
     let s = E2.before.before.before.before.before in
-    let t : ltb s.args.place (s.args.shape.width * s.args.shape.height) ≡ true = lt-ltb s.args.place (s.args.shape.width * s.args.shape.height) c.before.if3.true in
+    let t : ltb s.args.place (s.args.shape.width * s.args.shape.height) ≡ true = lt-ltb s.args.place (s.args.shape.width * s.args.shape.height) c.before.if-place-shape.true in
     c.told.ensures ∙ sym (past27 E2 ∙ rw t)
 
-refused-requires-3 : tie.Need-refused-requires-3
+refused-requires-3 : tie.Need-refused-requires-2
 refused-requires-3 c κs = search rules
 
-returns-4 : tie.Need-returns-4
+returns-4 : tie.Need-returns
 returns-4 c =
     let E2 = c.before.before.before in
     let s = E2.before.before.before.before.before in
-    let t : ltb s.args.place (s.args.shape.width * s.args.shape.height) ≡ false = le-ltb s.args.place (s.args.shape.width * s.args.shape.height) c.before.if3.false in
-    c.refused3.ensures ∙ sym (past27 E2 ∙ rw t)
+    let t : ltb s.args.place (s.args.shape.width * s.args.shape.height) ≡ false = le-ltb s.args.place (s.args.shape.width * s.args.shape.height) c.before.if-place-shape.false in
+    c.refused-2.ensures ∙ sym (past27 E2 ∙ rw t)
 
-pub later-spec : {M : Type 1} → statement M
-later-spec =
+pub later_spec : {M : Type 1} → statement M
+later_spec =
     tie.close
     (tie.spec
     first-outside-requires

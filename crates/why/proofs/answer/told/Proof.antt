@@ -37,53 +37,53 @@ module _ (s : tie.Start) where
   x-in = mod-lt s.args.place some
 
   y-in : y < s.args.shape.height
-  y-in = (div-lt_iff_lt-mul some).1 (omega (arith, s.pre.1, mul_comm s.args.shape.width s.args.shape.height))
+  y-in = (div-lt_iff_lt-mul some).1 (omega (arith, s.requires.1, mul_comm s.args.shape.width s.args.shape.height))
 
-rem-x : tie.Need-nonzero-rem-x
+rem-x : tie.Need-nonzero_rem-x
 rem-x c = some c.before
 
-div-y : tie.Need-nonzero-div-y
+div-y : tie.Need-nonzero_div-y
 div-y c = some c.before.before
 
-cast-carried : tie.Need-overflow-cast-carried
+cast-carried : tie.Need-overflow_cast-x
 cast-carried c = let s = c.before.before in omega (arith, x-in s, wide s.args.extended s.args.shape s.args.c.now (clean s))
 
-cast-carried-2 : tie.Need-overflow-cast-carried-2
+cast-carried-2 : tie.Need-overflow_cast-y
 cast-carried-2 c = let s = c.before.before in omega (arith, y-in s, low s.args.extended s.args.shape s.args.c.now (clean s))
 
-carried-requires : tie.Need-carried-requires
+carried-requires : tie.Need-carried-s-requires
 carried-requires c κs = let s = c.before.before in (clean s, (x-in s, y-in s))
 
-last-shift-requires : tie.Need-last-shift-requires
+last-shift-requires : tie.Need-last_shift-last-requires
 last-shift-requires c κs =
     let s = c.before.before.before in
     (long-depth s.args.extended s.args.shape.depth (clean s).passed.taken.depth).1
 
 -- each sum, as its field has it
-exact-is : (c : tie.After-carried) → let s = c.before.before.before in
-    to_z w64 (of_z w64 c.carried.result.exact) ≡ exact (long_plan s.args.extended s.args.shape) s.args.c.now (x s) (y s)
-exact-is c = to_z-of_z w64 c.carried.result.exact (search rules) ∙ ap (λ (r : Sums). r.exact) c.carried.ensures
+exact-is : (c : tie.After-carried-s) → let s = c.before.before.before in
+    to_z w64 (of_z w64 c.carried-s.result.exact) ≡ exact (long_plan s.args.extended s.args.shape) s.args.c.now (x s) (y s)
+exact-is c = to_z-of_z w64 c.carried-s.result.exact (search rules) ∙ ap (λ (r : Sums). r.exact) c.carried-s.ensures
 
-roundings-are : (c : tie.After-carried) → let s = c.before.before.before in
-    to_z w64 (of_z w64 c.carried.result.middle_roundings) ≡ middle_roundings (long_plan s.args.extended s.args.shape) s.args.c.now (x s) (y s)
-roundings-are c = to_z-of_z w64 c.carried.result.middle_roundings (search rules) ∙ ap (λ (r : Sums). r.middle_roundings) c.carried.ensures
+roundings-are : (c : tie.After-carried-s) → let s = c.before.before.before in
+    to_z w64 (of_z w64 c.carried-s.result.middle_roundings) ≡ middle_roundings (long_plan s.args.extended s.args.shape) s.args.c.now (x s) (y s)
+roundings-are c = to_z-of_z w64 c.carried-s.result.middle_roundings (search rules) ∙ ap (λ (r : Sums). r.middle_roundings) c.carried-s.ensures
 
-clippings-are : (c : tie.After-carried) → let s = c.before.before.before in
-    to_z w64 (of_z w64 c.carried.result.clippings) ≡ clippings (long_plan s.args.extended s.args.shape) s.args.c.now (x s) (y s)
-clippings-are c = to_z-of_z w64 c.carried.result.clippings (search rules) ∙ ap (λ (r : Sums). r.clippings) c.carried.ensures
+clippings-are : (c : tie.After-carried-s) → let s = c.before.before.before in
+    to_z w64 (of_z w64 c.carried-s.result.clippings) ≡ clippings (long_plan s.args.extended s.args.shape) s.args.c.now (x s) (y s)
+clippings-are c = to_z-of_z w64 c.carried-s.result.clippings (search rules) ∙ ap (λ (r : Sums). r.clippings) c.carried-s.ensures
 
-row_is : (c : tie.After-carried) → let s = c.before.before.before in
-    to_z w64 (of_z w64 c.carried.result.row) ≡ row_sum (long_plan s.args.extended s.args.shape) s.args.c.now (x s) (y s)
-row_is c = to_z-of_z w64 c.carried.result.row (search rules) ∙ ap (λ (r : Sums). r.row) c.carried.ensures
+row_is : (c : tie.After-carried-s) → let s = c.before.before.before in
+    to_z w64 (of_z w64 c.carried-s.result.row) ≡ row_sum (long_plan s.args.extended s.args.shape) s.args.c.now (x s) (y s)
+row_is c = to_z-of_z w64 c.carried-s.result.row (search rules) ∙ ap (λ (r : Sums). r.row) c.carried-s.ensures
 
-last-rounding-requires : tie.Need-last-rounding-requires
+last-rounding-requires : tie.Need-last_rounding-requires
 last-rounding-requires c κs =
     let L = c.before in
     let C = L.before in
     let s = C.before.before.before in
     let l = last-in s.args.extended s.args.shape.depth (clean s).passed.taken.depth in (
       subst (λ (z : ℤ). nat_abs z ≤ 2147483648) (sym (row_is C)) (row_small s.args.extended s.args.shape s.args.c.now (clean s) (x s) (y s) (x-in s)),
-      (omega (arith, l, L.last-shift.ensures), omega (arith, l, L.last-shift.ensures)),
+      (omega (arith, l, L.last_shift-last.ensures), omega (arith, l, L.last_shift-last.ensures)),
     )
 
 returns : tie.Need-returns
@@ -92,14 +92,14 @@ returns c =
     let E = c.before in
     let L = E.before.before in
     let C = L.before in
-    let e = L.last-shift.ensures in
+    let e = L.last_shift-last.ensures in
     let l =
-    to_z-of_z w64 E.last-rounding.result (search rules) ∙ E.last-rounding.ensures
+    to_z-of_z w64 E.last_rounding.result (search rules) ∙ E.last_rounding.ensures
     ∙ (λ t. pos 128 *ℤ (pos (2 ^ e t) *ℤ nearest (e t) (row_is C t) -ℤ row_is C t)) in
     λ t. record { number = 0; place = 0; exact = exact-is C t; middle_roundings = roundings-are C t; clippings = clippings-are C t; last_rounding = l t }
 
-pub told-spec : {M : Type 1} → statement M
-told-spec =
+pub told_spec : {M : Type 1} → statement M
+told_spec =
     tie.close
     (tie.spec
     rem-x

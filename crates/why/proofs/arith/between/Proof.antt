@@ -28,9 +28,9 @@ is c =
     ∙ ap (clip (range_of s.args.reach)) (to_z-of_z w64 R.rounded.result (search rules) ∙ R.rounded.ensures ∙ ap (nearest 7) (to_z-of_z w64 s.args.e s.ranges.e))
 
 abbrev m : tie.After-clipped → MV w32
-m c = arg {w = w32} {x = c.clipped.result} (record { sfits = c.clipped.type-inv })
+m c = arg {w = w32} {x = c.clipped.result} (record { sfits = c.clipped.type_inv })
 
-cast-result : tie.Need-overflow-cast-result
+cast-result : tie.Need-overflow_cast-result
 cast-result c = cast_fits w64 (m c) tt
 
 returns : tie.Need-returns
@@ -38,5 +38,5 @@ returns c =
     let v = cast w64 (m c) tt in
     (val v ∙ is c, subst (λ (z : ℤ). nat_abs z ≤ 2147483648) (sym (val v)) v.is.abs)
 
-pub between-spec : {M : Type 1} → statement M
-between-spec = tie.close (tie.spec rounded-requires clipped-requires cast-result returns)
+pub between_spec : {M : Type 1} → statement M
+between_spec = tie.close (tie.spec rounded-requires clipped-requires cast-result returns)

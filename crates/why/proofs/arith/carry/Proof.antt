@@ -18,13 +18,13 @@ w c = cast w64 (arg {w = w16} c.ranges.w) tt
 abbrev v : tie.Start → MV w64
 v c = arg≤ c.ranges.v c.requires.1
 
-cast-result : tie.Need-overflow-cast-result
+cast-result : tie.Need-overflow_cast-result
 cast-result c = cast_fits w64 (arg {w = w16} c.ranges.w) tt
 
-mul-result : tie.Need-overflow-mul-result
+mul-result : tie.Need-overflow_mul-result
 mul-result c = mul-fits (w c) (v c) tt
 
-add-result : tie.Need-overflow-add-result
+add-result : tie.Need-overflow_add-result
 add-result c = add-fits (a c) (mul (w c) (v c) tt) tt
 
 returns : tie.Need-returns
@@ -34,5 +34,5 @@ returns c =
     let m : nat_abs (s.w *ℤ s.v) ≤ 18014398509481984 = (mul (w c) (v c) tt).is.abs in
     (e, subst (λ (z : ℤ). nat_abs z ≤ nat_abs s.a + 18014398509481984) (sym e) (omega (arith, abs-add s.a (s.w *ℤ s.v), m)))
 
-pub carry-spec : {M : Type 1} → statement M
-carry-spec = tie.close (tie.spec cast-result mul-result add-result returns)
+pub carry_spec : {M : Type 1} → statement M
+carry_spec = tie.close (tie.spec cast-result mul-result add-result returns)

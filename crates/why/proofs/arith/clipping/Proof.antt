@@ -32,15 +32,15 @@ middle-is c =
 abbrev r : tie.After-rounded → MV w64
 r c =
     let s = c.before.before in
-    arg≤ {w = w64} {x = c.rounded.result} (record { sfits = c.rounded.type-inv }) (subst (λ (z : ℤ). nat_abs z ≤ 16777216) (sym (is c)) (rounded-in s.args.e s.requires.0))
+    arg≤ {w = w64} {x = c.rounded.result} (record { sfits = c.rounded.type_inv }) (subst (λ (z : ℤ). nat_abs z ≤ 16777216) (sym (is c)) (rounded-in s.args.e s.requires.0))
 
 abbrev m : tie.After-rounded → MV w64
-m c = arg≤ {w = w64} {x = c.before.between.result} (record { sfits = c.before.between.type-inv }) c.before.between.ensures.1
+m c = arg≤ {w = w64} {x = c.before.between.result} (record { sfits = c.before.between.type_inv }) c.before.between.ensures.1
 
-sub-result : tie.Need-overflow-sub-result
+sub-result : tie.Need-overflow_sub-result
 sub-result c = sub-fits (m c) (r c) tt
 
-mul-result : tie.Need-overflow-mul-result
+mul-result : tie.Need-overflow_mul-result
 mul-result c = mul-fits (lit w64 128) (sub (m c) (r c) tt) tt
 
 returns : tie.Need-returns
@@ -49,5 +49,5 @@ returns c =
     let q : nat_abs (pos 128 *ℤ (c.before.between.result -ℤ c.rounded.result)) ≤ 277025390592 = v.is.abs in
     (val v ∙ (λ i. pos 128 *ℤ (middle-is c i -ℤ is c i)), subst (λ (z : ℤ). nat_abs z ≤ 549755813888) (sym (val v)) (omega arith))
 
-pub clipping-spec : {M : Type 1} → statement M
-clipping-spec = tie.close (tie.spec between-requires rounded-requires sub-result mul-result returns)
+pub clipping_spec : {M : Type 1} → statement M
+clipping_spec = tie.close (tie.spec between-requires rounded-requires sub-result mul-result returns)

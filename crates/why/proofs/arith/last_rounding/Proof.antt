@@ -28,10 +28,10 @@ made c =
 abbrev scale : tie.Start → MV w64
 scale c = record { n = (1 * 2 ^ c.args.s) % 18446744073709551616; z = pos (2 ^ c.args.s); size = 4096; is = record { val = made c; abs = power c } }
 
-cast-result : tie.Need-overflow-cast-result
+cast-result : tie.Need-overflow_cast-result
 cast-result c = search rules
 
-shl-result : tie.Need-overflow-shl-result
+shl-result : tie.Need-overflow_shl-result
 shl-result c = search rules
 
 nearest-requires : tie.Need-nearest-requires
@@ -46,18 +46,18 @@ small : (c : tie.Start) → nat_abs (nearest c.args.s c.args.r) ≤ 2147483648
 small c = nearest_in c.args.s c.args.r 2147483648 c.requires.1.0 (omega (arith, c.requires.0, mul-le-mul_right 2147483648 (pow_pos c.args.s)))
 
 abbrev z : tie.After-nearest → MV w64
-z c = arg≤ {w = w64} {x = c.nearest.result} (record { sfits = c.nearest.type-inv }) (subst (λ (z : ℤ). nat_abs z ≤ 2147483648) (sym (is c)) (small c.before))
+z c = arg≤ {w = w64} {x = c.nearest.result} (record { sfits = c.nearest.type_inv }) (subst (λ (z : ℤ). nat_abs z ≤ 2147483648) (sym (is c)) (small c.before))
 
 abbrev r : tie.After-nearest → MV w64
 r c = arg≤ c.before.ranges.r c.before.requires.0
 
-mul-result : tie.Need-overflow-mul-result
+mul-result : tie.Need-overflow_mul-result
 mul-result c = mul-fits (scale c.before) (z c) tt
 
-sub-result : tie.Need-overflow-sub-result
+sub-result : tie.Need-overflow_sub-result
 sub-result c = sub-fits (mul (scale c.before) (z c) tt) (r c) tt
 
-mul-result-2 : tie.Need-overflow-mul-result-2
+mul-result-2 : tie.Need-overflow_mul-result-2
 mul-result-2 c = mul-fits (lit w64 128) (sub (mul (scale c.before) (z c) tt) (r c) tt) tt
 
 returns : tie.Need-returns
@@ -65,8 +65,8 @@ returns c =
     let s = c.before.args in
     val (mul (lit w64 128) (sub (mul (scale c.before) (z c) tt) (r c) tt) tt) ∙ ap (λ (z : ℤ). pos 128 *ℤ (pos (2 ^ s.s) *ℤ z -ℤ s.r)) (is c)
 
-pub last-rounding-spec : {M : Type 1} → statement M
-last-rounding-spec =
+pub last_rounding_spec : {M : Type 1} → statement M
+last_rounding_spec =
     tie.close
     (tie.spec
     cast-result

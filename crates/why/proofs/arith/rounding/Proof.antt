@@ -19,15 +19,15 @@ is : (c : tie.After-rounded) → c.rounded.result ≡ rounded c.before.args.e
 is c = c.rounded.ensures ∙ ap (nearest 7) (to_z-of_z w64 c.before.args.e c.before.ranges.e)
 
 abbrev r : tie.After-rounded → MV w64
-r c = arg≤ {w = w64} {x = c.rounded.result} (record { sfits = c.rounded.type-inv }) (subst (λ (z : ℤ). nat_abs z ≤ 16777216) (sym (is c)) (rounded-in c.before.args.e c.before.requires))
+r c = arg≤ {w = w64} {x = c.rounded.result} (record { sfits = c.rounded.type_inv }) (subst (λ (z : ℤ). nat_abs z ≤ 16777216) (sym (is c)) (rounded-in c.before.args.e c.before.requires))
 
 abbrev e : tie.After-rounded → MV w64
 e c = arg≤ c.before.ranges.e c.before.requires
 
-mul-result : tie.Need-overflow-mul-result
+mul-result : tie.Need-overflow_mul-result
 mul-result c = mul-fits (lit w64 128) (r c) tt
 
-sub-result : tie.Need-overflow-sub-result
+sub-result : tie.Need-overflow_sub-result
 sub-result c = sub-fits (mul (lit w64 128) (r c) tt) (e c) tt
 
 returns : tie.Need-returns
@@ -36,5 +36,5 @@ returns c =
     let q : nat_abs (pos 128 *ℤ c.rounded.result -ℤ c.before.args.e) ≤ 4294967296 = m.is.abs in
     (val m ∙ ap (λ (z : ℤ). pos 128 *ℤ z -ℤ c.before.args.e) (is c), subst (λ (z : ℤ). nat_abs z ≤ 549755813888) (sym (val m)) (omega arith))
 
-pub rounding-spec : {M : Type 1} → statement M
-rounding-spec = tie.close (tie.spec rounded-requires mul-result sub-result returns)
+pub rounding_spec : {M : Type 1} → statement M
+rounding_spec = tie.close (tie.spec rounded-requires mul-result sub-result returns)

@@ -1,8 +1,9 @@
 -- `places::is_order` meets its contract. Assumes nothing.
-use Rattle.std.proofs.Common.{◌≡◌, ℕ, ◌+◌, ◌-◌, ◌≤◌, false, List, length, sym, ap, ◌∙◌, ⊎_elim, le_antisymm, rules, eq-eqb, ne_eqb}
+use Rattle.std.proofs.Common.{◌≡◌, ℕ, ◌+◌, ◌-◌, ◌≤◌, false, List, length, sym, ap, ◌∙◌, le_antisymm, rules, eq-eqb, ne_eqb}
 use Rattle.wrapping.specs.Order.{times, once_to, is_order}
 use Rattle.wrapping.proofs.Orders.{once-none, once-next}
 use Rattle.wrapping.proofs.places.is_order.Statement.{statement}
+use Rattle.wrapping.proofs.places.is_order.Lts.{then-times_of-ne1, else-times_of-ne1}
 use Rattle.wrapping.proofs.places.is_order.Tie as tie
 
 once-on : (l : List ℕ) (k : ℕ) → times k l ≡ 1 → once_to (k + 1) l ≡ once_to k l
@@ -38,10 +39,10 @@ loop-again c =
     let L = c.before.before.before.loop-k in
     let s = c.before.before.before.before.before.before.args in (
       search rules,
-      ⊎_elim
-          (λ w. w.1 ∙ sym (once-off s.order.now L.k (λ e. w.0.true (c.before.times_of.ensures ∙ e))))
-          (λ w. w.1 ∙ L.invariant.1 ∙ sym (once-on s.order.now L.k (sym c.before.times_of.ensures ∙ w.0.false)))
-          c.if-times_of-ne1.branch,
+      elim c.if-times_of-ne1.branch [
+        | then-times_of-ne1 w ↦ w.once-is ∙ sym (once-off s.order.now L.k (λ e. w.if-times_of-ne1.true (c.before.times_of.ensures ∙ e)))
+        | else-times_of-ne1 w ↦ w.once-is ∙ L.invariant.1 ∙ sym (once-on s.order.now L.k (sym c.before.times_of.ensures ∙ w.if-times_of-ne1.false))
+      ],
     )
 
 returns-2 : tie.Need-returns invariant-loop decreases-loop

@@ -1,8 +1,9 @@
 -- `places::times_of` meets its contract. Assumes nothing.
-use Rattle.std.proofs.Common.{◌≡◌, ℕ, ◌+◌, ◌-◌, ◌≤◌, cond, eqb, length, get_or, drop, ⊎_elim, zero-add, arith, rules, eq-eqb, ne_eqb}
+use Rattle.std.proofs.Common.{◌≡◌, ℕ, ◌+◌, ◌-◌, ◌≤◌, cond, eqb, length, get_or, drop, zero-add, arith, rules, eq-eqb, ne_eqb}
 use Rattle.wrapping.specs.Order.{times}
 use Rattle.wrapping.proofs.Orders.{times-on, times-end}
 use Rattle.wrapping.proofs.places.times_of.Statement.{statement}
+use Rattle.wrapping.proofs.places.times_of.Lts.{then-order-i, else-order-i}
 use Rattle.wrapping.proofs.places.times_of.Tie as tie
 
 one-here : (x k : ℕ) → x ≡ k → ◌≡◌ {A = ℕ} (cond (eqb x k) 1 0) 1
@@ -44,10 +45,10 @@ loop-again c =
     let s = c.before.before.before.before.args in
     let x = get_or s.order.now L.i 0 in
     let on = times-on s.order.now s.k L.i c.before.before.loop-i-test.true in
-    ⊎_elim
-    (λ w. omega (arith, on, one-here x s.k w.0.true))
-    (λ w. omega (arith, on, one-off x s.k w.0.false))
-    c.if-order-i.branch
+    elim c.if-order-i.branch [
+      | then-order-i w ↦ omega (arith, on, w.t-is, one-here x s.k w.if-order-i.true)
+      | else-order-i w ↦ omega (arith, on, w.t-is, one-off x s.k w.if-order-i.false)
+    ]
 
 returns : tie.Need-returns invariant-loop decreases-loop
 returns c = let L = c.before.loop-i in let s = c.before.before.args in omega (arith, times-end s.order.now s.k L.i c.loop-i-test.false)
