@@ -2,6 +2,7 @@
 // argument: its count among the data fields, the first being 1. Where there is no picture, its ending says why, or a line on standard
 // error which refusal.
 #![tactic(auto)]
+
 ghost use Rattle.std.specs.Prelude.{◌≡◌, length};
 
 use file_input::{ending, file_buffer, read_input, say_refusal, word, word_buffer};

@@ -3,6 +3,7 @@
 // files are done is written to that descriptor. Nothing is proved here but that it ends: `tests/report` holds what is printed to
 // the harness's model.
 #![tactic(auto)]
+
 mod files;
 mod table;
 

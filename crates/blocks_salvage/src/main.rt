@@ -1,6 +1,7 @@
 // Writes what can be saved of the block file on standard input to standard output, and each dropped stretch to standard error: a
 // line each, its offset and its length. Where nothing is written, its ending says why, or a line on standard error which refusal.
 #![tactic(auto)]
+
 ghost use Rattle.std.specs.Prelude.{◌≡◌, length};
 
 use file_input::{ending, file_buffer, read_input, say, say_numbers, say_refusal};

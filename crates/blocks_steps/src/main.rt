@@ -2,6 +2,7 @@
 // output's cell; the last line counts. Nothing is proved of the text but that it ends: tests/step_lists holds what is printed to
 // the lists that the harness makes.
 #![tactic(auto)]
+
 mod text;
 
 use file_input::{ending, word, word_buffer, word_count};

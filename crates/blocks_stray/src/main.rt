@@ -1,6 +1,7 @@
 // Prints how far a round trip can stray: D of every place, a line for each kind and size, and the largest of them. Nothing is proved
 // of the text but that it ends: `stdout` has it. Each `put` returns the place after what it put.
 #![tactic(auto)]
+
 use file_input::ending;
 use plain_text::{print, put, put_natural, put_word, text_buffer};
 use round_trip::stray;

@@ -3,6 +3,7 @@
 // standard error which refusal.
 // Nothing is proved of the text but that it ends: `tests/why` holds what is printed to the harness's model.
 #![tactic(auto)]
+
 mod text;
 
 ghost use Rattle.std.specs.Prelude.{◌≡◌, length};
@@ -82,13 +83,7 @@ fn answer(
     ending::failed(rt, b"there is no such block");
 }
 
-fn ask(
-    rt: &(impl Files + Print),
-    err: &impl Print,
-    file: &[u8],
-    block: &[u8],
-    word: &[u8],
-) {
+fn ask(rt: &(impl Files + Print), err: &impl Print, file: &[u8], block: &[u8], word: &[u8]) {
     let n = number_of(block);
     if n == NO_NUMBER {
         ending::failed(rt, b"the block is no number");
@@ -114,11 +109,5 @@ fn main(rt: HostRuntime) {
         ending::unread(&rt, 0);
         return;
     }
-    ask(
-        &rt,
-        &rt.stderr(),
-        &file[..count],
-        &block[..b],
-        &place[..p],
-    );
+    ask(&rt, &rt.stderr(), &file[..count], &block[..b], &place[..p]);
 }

@@ -1,9 +1,8 @@
 // A descriptor by its number. std reaches one by its path alone, which opens it anew: what it is open on is written at its end.
-use std::fs;
 use std::fs::OpenOptions;
-use std::io;
 use std::io::Write;
 use std::rt::Files;
+use std::{fs, io};
 
 // Not one that is open for reading alone, and to which its own number would not write.
 fn is_written(rt: &impl Files, path: &str) -> bool {

@@ -2,6 +2,7 @@
 // program ended. Nothing can be said of the bytes that a system reads and writes: what stands here is to be read, and `tests/program`
 // tries it. Read `read_input`, then `ending`, of which `blocks` at the root makes a status.
 #![tactic(auto)]
+
 pub mod descriptor;
 pub mod ending;
 

@@ -1,6 +1,7 @@
 // Internal: from a reader to an answer, for the programs that run a block file. Nothing can be said of the bytes that a
 // system reads and writes: what `answer` and `tell` do with them is to be read, and `tests/program` tries it.
 #![tactic(auto)]
+
 ghost use Rattle.std.specs.Prelude.{◌≡◌, length};
 
 use file_input::{ending, file_buffer, read_input};

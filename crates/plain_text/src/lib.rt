@@ -1,6 +1,7 @@
 // Internal: text for the programs whose text is not proved: what an argument spells, and text put into a buffer at a place and then
 // printed. Each `put` returns the place after what it put; past the end of the buffer nothing is put.
 #![tactic(auto)]
+
 ghost use Rattle.std.specs.Prelude.{◌≡◌, ◌≤◌, length};
 
 pub fn put(byte: u8, text: &mut [u8], at: usize) -> usize {

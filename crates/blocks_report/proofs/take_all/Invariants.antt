@@ -1,0 +1,5 @@
+use Rattle.std.proofs.Common.{length, ◌-◌, ◌≡◌, ◌≤◌, ◌*◌, ◌<◌}
+use Rattle.blocks_report.proofs.take_all.Given as goal
+
+abbrev pub decreases-loop-i : goal.decreases-loop-i
+decreases-loop-i g l = l.last - l.i
