@@ -17,7 +17,7 @@ abbrev invariant-loop : tie.invariant-loop-i
 invariant-loop corner u₀ order i₀ u i = (i ≤ 16) × (Filled 0 i u u₀ (input (λ x y. at corner (x + 4 * y))) × Ordered order)
 
 abbrev decreases-loop : tie.decreases-loop-i
-decreases-loop corner u₀ order i₀ u i = 16 - i
+decreases-loop corner u₀ _ i₀ u i = 16 - i
 
 loop-holds : tie.Need-loop-i-init invariant-loop decreases-loop
 unfolding order
