@@ -1,9 +1,9 @@
 -- `short_in_order` meets its contract: the coefficients before i are read, and are the same in 16 bits. Assumes nothing.
 use borrow.Author.Rules.{rules}
 use native.Mathlib.Omega.{arith}
-use mathlib.Core.Path.{◌≡◌, ap, ◌∙◌, subst}
-use Prim.Native.Nat.{ℕ, ◌+◌, ◌*◌, ◌-◌, ◌≤◌, ◌<◌}
-use mir.Syntax.{w16, w32}
+use mathlib.Core.Path.{◌∙◌}
+use Prim.Native.Nat.{◌+◌, ◌*◌, ◌-◌, ◌≤◌}
+use mir.Syntax.{w32}
 use Rattle.algebra.specs.Lists.{at}
 use Rattle.algebra.proofs.Lists.{Filled, fill_none, fill-first, filled-to}
 use Rattle.algebra.proofs.Word.{arg, cast_v!, cast-fits! }
