@@ -23,42 +23,42 @@ off c = sub (wide c) (arg≤ c.ranges.back c.requires) tt
 abbrev turned : tie.Start → MV w32
 turned c = sub (lit w32 0) (off c) tt
 
-below : (c : tie.Then1) → lt_z (c.before.args.given -ℤ c.before.args.back) (pos 0) ≡ true
-below c = ap (λ (z : ℤ). lt_z z (pos 0)) (sym (val (off c.before))) ∙ c.if1.true
+below : (c : tie.Then-z-lt0) → lt_z (c.before.args.given -ℤ c.before.args.back) (pos 0) ≡ true
+below c = ap (λ (z : ℤ). lt_z z (pos 0)) (sym (val (off c.before))) ∙ c.if-z-lt0.true
 
-above : (c : tie.Else1) → lt_z (c.before.args.given -ℤ c.before.args.back) (pos 0) ≡ false
-above c = ap (λ (z : ℤ). lt_z z (pos 0)) (sym (val (off c.before))) ∙ c.if1.false
+above : (c : tie.Else-z-lt0) → lt_z (c.before.args.given -ℤ c.before.args.back) (pos 0) ≡ false
+above c = ap (λ (z : ℤ). lt_z z (pos 0)) (sym (val (off c.before))) ∙ c.if-z-lt0.false
 
 -- in 64 bits
 word : (c : tie.Start) (y : ℤ) → nat_abs y ≡ nat_abs (c.args.given -ℤ c.args.back) → Fits w64 (nat_abs y)
 word c y e = record { fits = omega (arith, e, apart_in c.args.given c.args.back {A = 32768} (in-fits c.ranges.given).within c.requires) }
 
-cast-z : tie.Need-overflow-cast-z
+cast-z : tie.Need-overflow_cast-z
 cast-z c = cast_fits w32 (arg c.ranges.given) tt
 
-sub-z : tie.Need-overflow-sub-z
+sub-z : tie.Need-overflow_sub-z
 sub-z c = sub-fits (wide c) (arg≤ c.ranges.back c.requires) tt
 
-sub-result : tie.Need-overflow-sub-result
+sub-result : tie.Need-overflow_sub-result
 sub-result c = sub-fits (lit w32 0) (off c.before) tt
 
-cast-result : tie.Need-overflow-cast-result
+cast-result : tie.Need-overflow_cast-result
 cast-result c =
     let z = c.before.args.given -ℤ c.before.args.back in
     let n = below-turned z (below c) in
     subst (λ (y : ℤ). T (non_neg y) × Fits w64 (nat_abs y)) (sym (val (turned c.before))) (n.0, word c.before (pos 0 -ℤ z) n.1)
 
-cast-result-2 : tie.Need-overflow-cast-result-2
+cast-result-2 : tie.Need-overflow_cast-result-else-z-lt0
 cast-result-2 c =
     let z = c.before.args.given -ℤ c.before.args.back in
     subst (λ (y : ℤ). T (non_neg y) × Fits w64 (nat_abs y)) (sym (val (off c.before))) (not-below z (above c), word c.before z refl)
 
-returns : tie.Need-returns
+returns : tie.Need-returns-then-z-lt0
 returns c = ap nat_abs (val (turned c.before)) ∙ (below-turned (c.before.args.given -ℤ c.before.args.back) (below c)).1
 
-returns-2 : tie.Need-returns-2
+returns-2 : tie.Need-returns-else-z-lt0
 returns-2 c = ap nat_abs (val (off c.before))
 
-pub difference-spec : {M : Type 1} → statement M
-difference-spec =
+pub difference_spec : {M : Type 1} → statement M
+difference_spec =
     tie.close (tie.spec cast-z sub-z sub-result cast-result cast-result-2 returns returns-2)

@@ -13,64 +13,64 @@ use Rattle.forward_and_back.proofs.Numbers.{greatest-none, greatest-next}
 use Rattle.forward_and_back.proofs.largest_difference.Statement.{statement}
 use Rattle.forward_and_back.proofs.largest_difference.Tie as tie
 
-abbrev invariant-loop : tie.invariant-loop
+abbrev invariant-loop : tie.invariant-loop-k
 invariant-loop given back most₀ k₀ most k = (k ≤ length given) × (most ≡ greatest k (apart given back))
 
-abbrev decreases-loop : tie.decreases-loop
+abbrev decreases-loop : tie.decreases-loop-k
 decreases-loop given back most₀ k₀ most k = length given - k
 
 -- the size that was computed is that of the difference
 made : (c : tie.After-difference invariant-loop decreases-loop) → let L = c.before.before.before.before in
-    c.difference.result ≡ apart L.before.args.given.now L.before.args.back.now L.loop.k
+    c.difference.result ≡ apart L.before.args.given.now L.before.args.back.now L.loop-k.k
 made c =
     let L = c.before.before.before.before in
     c.difference.ensures
-    ∙ (λ i. nat_abs (to_z-of_z w16 (at L.before.args.given.now L.loop.k) (record { sfits = c.before.before.difference-arg.given }) i -ℤ to_z-of_z w32 (at L.before.args.back.now L.loop.k) (record { sfits = c.before.difference-arg2.given }) i))
+    ∙ (λ i. nat_abs (to_z-of_z w16 (at L.before.args.given.now L.loop-k.k) (record { sfits = c.before.before.difference-arg-1.given }) i -ℤ to_z-of_z w32 (at L.before.args.back.now L.loop-k.k) (record { sfits = c.before.difference-arg-in-loop-k-1.given }) i))
 
-loop-holds : tie.Need-loop-init invariant-loop decreases-loop
+loop-holds : tie.Need-loop-k-init invariant-loop decreases-loop
 loop-holds c = (omega arith, sym (greatest-none (apart c.args.given.now c.args.back.now)))
 
-mul-difference : tie.Need-overflow-mul-difference invariant-loop decreases-loop
+mul-difference : tie.Need-offset_bounds-given-k invariant-loop decreases-loop
 mul-difference c = search rules
 
-shared-slice-copy-out-difference : tie.Need-shared-slice-copy-out-difference invariant-loop decreases-loop
+shared-slice-copy-out-difference : tie.Need-bounds-given-k invariant-loop decreases-loop
 shared-slice-copy-out-difference c = search rules
 
-mul-difference-2 : tie.Need-overflow-mul-difference-2 invariant-loop decreases-loop
+mul-difference-2 : tie.Need-offset_bounds-back-k invariant-loop decreases-loop
 mul-difference-2 c = search rules
 
-shared-slice-copy-out-difference-2 : tie.Need-shared-slice-copy-out-difference-2 invariant-loop decreases-loop
+shared-slice-copy-out-difference-2 : tie.Need-bounds-back-k invariant-loop decreases-loop
 shared-slice-copy-out-difference-2 c = search rules
 
 difference-requires : tie.Need-difference-requires invariant-loop decreases-loop
 difference-requires c κs =
     let L = c.before.before.before in
-    subst (λ (z : ℤ). nat_abs z ≤ 262144) (sym (to_z-of_z w32 (at L.before.args.back.now L.loop.k) (record { sfits = c.difference-arg2.given }))) (L.before.requires.1 L.loop.k)
+    subst (λ (z : ℤ). nat_abs z ≤ 262144) (sym (to_z-of_z w32 (at L.before.args.back.now L.loop-k.k) (record { sfits = c.difference-arg-in-loop-k-1.given }))) (L.before.requires.1 L.loop-k.k)
 
-larger-requires : tie.Need-larger-requires invariant-loop decreases-loop
+larger-requires : tie.Need-larger-most-requires invariant-loop decreases-loop
 larger-requires c κs = search rules
 
-add-k : tie.Need-overflow-add-k invariant-loop decreases-loop
+add-k : tie.Need-overflow_add-k invariant-loop decreases-loop
 add-k c = search rules
 
-loop-less : tie.Need-loop-smaller invariant-loop decreases-loop
+loop-less : tie.Need-loop-k-smaller invariant-loop decreases-loop
 loop-less c = search rules
 
-loop-again : tie.Need-loop-preserved invariant-loop decreases-loop
+loop-again : tie.Need-loop-k-preserved invariant-loop decreases-loop
 loop-again c =
     let L = c.before.before.before.before.before in
     let s = L.before.args in
-    (search rules, c.larger.ensures ∙ (λ i. max (L.loop.invariant.1 i) (made c.before i)) ∙ sym (greatest-next L.loop.k (apart s.given.now s.back.now)))
+    (search rules, c.larger-most.ensures ∙ (λ i. max (L.loop-k.invariant.1 i) (made c.before i)) ∙ sym (greatest-next L.loop-k.k (apart s.given.now s.back.now)))
 
 returns : tie.Need-returns invariant-loop decreases-loop
 returns c =
     let L = c.before in
     let s = L.before.args in
-    let e : L.loop.k ≡ length s.given.now = omega (arith, L.loop.invariant.0, c.loop-test.false) in
-    L.loop.invariant.1 ∙ ap (λ (k : ℕ). greatest k (apart s.given.now s.back.now)) e
+    let e : L.loop-k.k ≡ length s.given.now = omega (arith, L.loop-k.invariant.0, c.loop-k-test.false) in
+    L.loop-k.invariant.1 ∙ ap (λ (k : ℕ). greatest k (apart s.given.now s.back.now)) e
 
-pub largest-difference-spec : {M : Type 1} → statement M
-largest-difference-spec =
+pub largest_difference_spec : {M : Type 1} → statement M
+largest_difference_spec =
     tie.close
     (tie.spec
     invariant-loop

@@ -90,9 +90,9 @@ got-meets : {M : Type 1} {𝓤 : Ura M} (𝓛 : Logic 𝓤) → (mem : Memory �
     → Meets 𝓛 got.signature (WpFn 𝓤 𝓛.H 𝓣.C 𝓣.Λ code.function) (got.spec 𝓛 mem run)
 got-meets {𝓤 = 𝓤} 𝓛 mem run 𝓣 = walk_Meets 𝓛 got.ended stayed (Goes-none 𝓛 0 (λ _. T.the_row) yes (λ κs x f. refl), tt) (got.clauses 𝓛 mem run) (WpFn 𝓤 𝓛.H 𝓣.C 𝓣.Λ code.function) (WpFn-mono 𝓤 𝓛.H 𝓛.laws 𝓣 code.function) (got-walks 𝓛 mem run 𝓣.C 𝓣.Λ)
 
-pub coefficients-of-spec : {M : Type 1} → stated.statement M
+pub coefficients_of_spec : {M : Type 1} → stated.statement M
 unfolding code.routine tables_of
-coefficients-of-spec 𝓤 𝓛 𝓜 𝓡 =
+coefficients_of_spec 𝓤 𝓛 𝓜 𝓡 =
     entered 𝓤 𝓛.H (triple_of 𝓛 got.signature (got.spec 𝓛 𝓜.mem 𝓡.run))
     (tables 𝓤 𝓛.H 𝓜 𝓡 code.env).C (tables 𝓤 𝓛.H 𝓜 𝓡 code.env).Λ #coefficients_of code.function (code.unfolded 𝓤 𝓛.H 𝓜 𝓡)
     (got-meets 𝓛 𝓜.mem 𝓡.run (tables_of 𝓤 𝓛.H 𝓜 (tables 𝓤 𝓛.H 𝓜 𝓡 code.env)))

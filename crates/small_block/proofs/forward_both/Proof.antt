@@ -11,44 +11,44 @@ use Rattle.small_block.proofs.forward_both.Tie as tie
 abbrev expected : tie.Start → Outcome
 expected s = small_forward s.args.block s.args.horizontal s.args.vertical s.args.depth
 
-by_value : (c : tie.After-joined2) → ◌≡◌ {A = Outcome} (c.before.before.before.before.before.before.before.before.before.forward-4x4.result.answer, c.joined2.result) (expected c.before.before.before.before.before.before.before.before.before.before)
+by_value : (c : tie.After-joined-by_value_block) → ◌≡◌ {A = Outcome} (c.before.before.before.before.before.before.before.before.before.forward_4x4-small.result.answer, c.joined-by_value_block.result) (expected c.before.before.before.before.before.before.before.before.before.before)
 by_value c =
-    (λ i. (c.before.before.before.before.before.before.before.before.before.forward-4x4.result.answer, (c.joined2.ensures ∙ ap flat c.before.coefficients-of.ensures) i))
-    ∙ c.before.before.before.before.before.before.before.before.before.forward-4x4.ensures
+    (λ i. (c.before.before.before.before.before.before.before.before.before.forward_4x4-small.result.answer, (c.joined-by_value_block.ensures ∙ ap flat c.before.coefficients_of.ensures) i))
+    ∙ c.before.before.before.before.before.before.before.before.before.forward_4x4-small.ensures
 
-lent : (c : tie.After-joined2) → ◌≡◌ {A = Outcome} (c.before.before.before.before.forward.result, c.before.before.before.before.forward.new.1.1.0) (expected c.before.before.before.before.before.before.before.before.before.before)
+lent : (c : tie.After-joined-by_value_block) → ◌≡◌ {A = Outcome} (c.before.before.before.before.forward-lent.result, c.before.before.before.before.forward-lent.new.1.1.0) (expected c.before.before.before.before.before.before.before.before.before.before)
 unfolding tabulate
-lent c = c.before.before.before.before.forward.ensures ∙ (λ i. forward_outcome (c.before.before.before.before.before.before.before.new.ensures i) (c.before.before.before.before.before.before.before.before.joined.ensures i) zeros)
+lent c = c.before.before.before.before.forward-lent.ensures ∙ (λ i. forward_outcome (c.before.before.before.before.before.before.before.new-shape.ensures i) (c.before.before.before.before.before.before.before.before.joined-residuals.ensures i) zeros)
 
-forward-4x4-requires : tie.Need-forward-4x4-requires
+forward-4x4-requires : tie.Need-forward_4x4-small-requires
 forward-4x4-requires c κs = search rules
 
-joined-requires : tie.Need-joined-requires
+joined-requires : tie.Need-joined-residuals-requires
 joined-requires c κs = search rules
 
-new-requires : tie.Need-new-requires
+new-requires : tie.Need-new-shape-requires
 new-requires c κs = search rules
 
-slice-aggregate-forward : tie.Need-slice-aggregate-forward
+slice-aggregate-forward : tie.Need-slice_bounds-forward-end
 slice-aggregate-forward c = search rules
 
-slice-aggregate-forward-2 : tie.Need-slice-aggregate-forward-2
+slice-aggregate-forward-2 : tie.Need-slice_bounds-forward-end-2
 slice-aggregate-forward-2 c = search rules
 
-forward-requires : tie.Need-forward-requires
+forward-requires : tie.Need-forward-lent-requires
 forward-requires c κs = search rules
 
-coefficients-of-requires : tie.Need-coefficients-of-requires
+coefficients-of-requires : tie.Need-coefficients_of-requires
 coefficients-of-requires c κs = search rules
 
-joined-requires-2 : tie.Need-joined-requires-2
+joined-requires-2 : tie.Need-joined-by_value_block-requires
 joined-requires-2 c κs = search rules
 
 returns : tie.Need-returns
 returns c = (by_value c, by_value c ∙ sym (lent c))
 
-pub forward-both-spec : {M : Type 1} → statement M
-forward-both-spec =
+pub forward_both_spec : {M : Type 1} → statement M
+forward_both_spec =
     tie.close
     (tie.spec
     forward-4x4-requires

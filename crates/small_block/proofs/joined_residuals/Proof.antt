@@ -14,19 +14,19 @@ use native.Mathlib.Omega.{arith}
 use Rattle.small_block.proofs.joined_residuals.Statement.{statement}
 use Rattle.small_block.proofs.joined_residuals.Tie as tie
 
-abbrev invariant-loop : tie.invariant-loop
+abbrev invariant-loop : tie.invariant-loop-i
 invariant-loop r out₀ i₀ out i = (i ≤ 16) × Filled 0 i out out₀ (at (flat r))
 
-abbrev decreases-loop : tie.decreases-loop
+abbrev decreases-loop : tie.decreases-loop-i
 decreases-loop r out₀ i₀ out i = 16 - i
 
-loop-holds : tie.Need-loop-init invariant-loop decreases-loop
+loop-holds : tie.Need-loop-i-init invariant-loop decreases-loop
 loop-holds c = (search rules, fill_none 0 _ _)
 
-mul-out : tie.Need-overflow-mul-out invariant-loop decreases-loop
+mul-out : tie.Need-offset_bounds-r-y invariant-loop decreases-loop
 mul-out c = search rules
 
-mul-out-2 : tie.Need-overflow-mul-out-2 invariant-loop decreases-loop
+mul-out-2 : tie.Need-offset_bounds-r-x invariant-loop decreases-loop
 mul-out-2 c = search rules
 
 index-1-out : tie.Need-bounds-1-out invariant-loop decreases-loop
@@ -35,22 +35,22 @@ index-1-out c = search rules
 index-2-out : tie.Need-bounds-2-out invariant-loop decreases-loop
 index-2-out c = search rules
 
-mul-out-3 : tie.Need-overflow-mul-out-3 invariant-loop decreases-loop
+mul-out-3 : tie.Need-offset_bounds-out-i invariant-loop decreases-loop
 mul-out-3 c = search rules
 
-array-set-from-out : tie.Need-array-set-from-out invariant-loop decreases-loop
-array-set-from-out c = omega (arith, c.before.before.loop.invariant.1.long)
+array-set-from-out : tie.Need-bounds-out-i invariant-loop decreases-loop
+array-set-from-out c = omega (arith, c.before.before.loop-i.invariant.1.long)
 
-add-i : tie.Need-overflow-add-i invariant-loop decreases-loop
+add-i : tie.Need-overflow_add-i invariant-loop decreases-loop
 add-i c = search rules
 
-loop-less : tie.Need-loop-smaller invariant-loop decreases-loop
+loop-less : tie.Need-loop-i-smaller invariant-loop decreases-loop
 loop-less c = search rules
 
-loop-again : tie.Need-loop-preserved invariant-loop decreases-loop
+loop-again : tie.Need-loop-i-preserved invariant-loop decreases-loop
 loop-again c =
     let s = c.before.before.before in
-    let L = c.before.before.loop in
+    let L = c.before.before.loop-i in
     let b = s.args.t1 in
     let g = s.well-formed.0.1.1 in (
       search rules,
@@ -62,14 +62,14 @@ loop-again c =
 returns : tie.Need-returns invariant-loop decreases-loop
 returns c =
     let s = c.before.before in
-    let L = c.before.loop in
+    let L = c.before.loop-i in
     let b = s.args.t1 in
     let e : L.i ≡ 16 = omega arith in
     filled refl (subst (λ (i : ℕ). Filled 0 i L.out _ (at (flat b))) e L.invariant.1)
     ∙ all_lines b s.well-formed.0.1.0.1 (line-length (SInt w32) 4 b _ s.well-formed.0.1.1)
 
-pub joined-residuals-spec : {M : Type 1} → statement M
-joined-residuals-spec =
+pub joined_residuals_spec : {M : Type 1} → statement M
+joined_residuals_spec =
     tie.close
     (tie.spec
     invariant-loop

@@ -101,9 +101,9 @@ made-meets : {M : Type 1} {𝓤 : Ura M} (𝓛 : Logic 𝓤) → (mem : Memory �
     → Meets 𝓛 made.signature (WpFn 𝓤 𝓛.H 𝓣.C 𝓣.Λ code.function) (made.spec 𝓛 mem run)
 made-meets {𝓤 = 𝓤} 𝓛 mem run 𝓣 = walk_Meets 𝓛 made.ended stayed (Goes-none 𝓛 0 (λ _. N.the_row) yes (λ κs x f. refl), (Goes-none 𝓛 0 (λ _. lines) yes (λ κs x f. refl), tt)) (made.clauses 𝓛 mem run) (WpFn 𝓤 𝓛.H 𝓣.C 𝓣.Λ code.function) (WpFn-mono 𝓤 𝓛.H 𝓛.laws 𝓣 code.function) (made-walks 𝓛 mem run 𝓣.C 𝓣.Λ)
 
-pub small-residuals-spec : {M : Type 1} → stated.statement M
+pub small_residuals_spec : {M : Type 1} → stated.statement M
 unfolding code.routine tables_of
-small-residuals-spec 𝓤 𝓛 𝓜 𝓡 =
+small_residuals_spec 𝓤 𝓛 𝓜 𝓡 =
     entered 𝓤 𝓛.H (triple_of 𝓛 made.signature (made.spec 𝓛 𝓜.mem 𝓡.run))
     (tables 𝓤 𝓛.H 𝓜 𝓡 code.env).C (tables 𝓤 𝓛.H 𝓜 𝓡 code.env).Λ #small_residuals code.function (code.unfolded 𝓤 𝓛.H 𝓜 𝓡)
     (made-meets 𝓛 𝓜.mem 𝓡.run (tables_of 𝓤 𝓛.H 𝓜 (tables 𝓤 𝓛.H 𝓜 𝓡 code.env)))

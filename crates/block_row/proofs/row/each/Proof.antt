@@ -15,11 +15,11 @@ use Rattle.block_row.proofs.Made.{Made, made_none, made-room, made-next-of, made
 use Rattle.block_row.proofs.row.each.Statement.{statement}
 use Rattle.block_row.proofs.row.each.Tie as tie
 
-abbrev invariant-loop : tie.invariant-loop
+abbrev invariant-loop : tie.invariant-loop-k
 invariant-loop shapes count answers₀ coefficients residuals₀ k₀ start₀ answers residuals k start =
     (k ≤ count) × Made (shapes_of count shapes) answers₀ coefficients residuals₀ k start answers residuals
 
-abbrev decreases-loop : tie.decreases-loop
+abbrev decreases-loop : tie.decreases-loop-k
 decreases-loop shapes count answers₀ coefficients residuals₀ k₀ start₀ answers residuals k start = count - k
 
 -- the list, and that its row was taken
@@ -36,86 +36,86 @@ few : (s : tie.Start invariant-loop decreases-loop) → s.args.count ≤ 64
 few s = omega (arith, (taken s).few, T-long s)
 
 -- the shape that was read is the list's
-k-in : (c : tie.After-span-of invariant-loop decreases-loop) → c.before.before.before.loop.k < length (T c.before.before.before.before)
-k-in c = omega (arith, T-long c.before.before.before.before, c.before.before.loop-test.true)
+k-in : (c : tie.After-span_of invariant-loop decreases-loop) → c.before.before.before.loop-k.k < length (T c.before.before.before.before)
+k-in c = omega (arith, T-long c.before.before.before.before, c.before.before.loop-k-test.true)
 
-is-shape : (c : tie.After-span-of invariant-loop decreases-loop) → get_or (T c.before.before.before.before) c.before.before.before.loop.k c.before.row-shape.result ≡ c.before.row-shape.result
+is-shape : (c : tie.After-span_of invariant-loop decreases-loop) → get_or (T c.before.before.before.before) c.before.before.before.loop-k.k c.before.row_shape-shape.result ≡ c.before.row_shape-shape.result
 is-shape c =
     let s = c.before.before.before.before in
-    shapes-at s.args.count s.args.shapes.now c.before.before.before.loop.k c.before.row-shape.result c.before.before.loop-test.true
-    ∙ sym c.before.row-shape.ensures
+    shapes-at s.args.count s.args.shapes.now c.before.before.before.loop-k.k c.before.row_shape-shape.result c.before.before.loop-k-test.true
+    ∙ sym c.before.row_shape-shape.ensures
 
-room : (c : tie.After-span-of invariant-loop decreases-loop) → c.before.before.before.loop.start + c.Span-of.result ≤ length c.before.before.before.before.args.coefficients.now
+room : (c : tie.After-span_of invariant-loop decreases-loop) → c.before.before.before.loop-k.start + c.span_of.result ≤ length c.before.before.before.before.args.coefficients.now
 room c =
-    let L = c.before.before.before.loop in
-    omega (arith, c.Span-of.ensures, ap span (is-shape c), made-room L.invariant.1 c.before.row-shape.result (k-in c))
+    let L = c.before.before.before.loop-k in
+    omega (arith, c.span_of.ensures, ap span (is-shape c), made-room L.invariant.1 c.before.row_shape-shape.result (k-in c))
 
-loop-holds : tie.Need-loop-init invariant-loop decreases-loop
+loop-holds : tie.Need-loop-k-init invariant-loop decreases-loop
 loop-holds c =
     let t = taken c in
     (search rules, made_none (T c) c.args.answers.now c.args.coefficients.now c.args.residuals.now t.long t.room)
 
-row-shape-requires : tie.Need-row-shape-requires invariant-loop decreases-loop
-row-shape-requires c κs = omega (arith, few c.before.before, c.loop-test.true)
+row-shape-requires : tie.Need-row_shape-shape-requires invariant-loop decreases-loop
+row-shape-requires c κs = omega (arith, few c.before.before, c.loop-k-test.true)
 
-span-of-requires : tie.Need-span-of-requires invariant-loop decreases-loop
+span-of-requires : tie.Need-span_of-requires invariant-loop decreases-loop
 span-of-requires c κs = search rules
 
-add-end : tie.Need-overflow-add-end invariant-loop decreases-loop
+add-end : tie.Need-overflow_add-end invariant-loop decreases-loop
 add-end c = omega (arith, room c)
 
-mul-inverse : tie.Need-overflow-mul-inverse invariant-loop decreases-loop
+mul-inverse : tie.Need-offset_bounds-coefficients-start invariant-loop decreases-loop
 mul-inverse c = omega (arith, room c)
 
-sub-inverse : tie.Need-overflow-sub-inverse invariant-loop decreases-loop
+sub-inverse : tie.Need-slice_bounds-inverse-count invariant-loop decreases-loop
 sub-inverse c = search rules
 
-part-inverse-start : tie.Need-slice-bounds-inverse-start invariant-loop decreases-loop
+part-inverse-start : tie.Need-slice_bounds-inverse-start invariant-loop decreases-loop
 part-inverse-start c = search rules
 
-part-inverse-end : tie.Need-slice-bounds-inverse-end invariant-loop decreases-loop
+part-inverse-end : tie.Need-slice_bounds-inverse-end invariant-loop decreases-loop
 part-inverse-end c = room c
 
-mul-inverse-2 : tie.Need-overflow-mul-inverse-2 invariant-loop decreases-loop
-mul-inverse-2 c = omega (arith, room c.before, c.before.before.before.before.loop.invariant.1.long)
+mul-inverse-2 : tie.Need-offset_bounds-residuals-start invariant-loop decreases-loop
+mul-inverse-2 c = omega (arith, room c.before, c.before.before.before.before.loop-k.invariant.1.long)
 
-sub-inverse-2 : tie.Need-overflow-sub-inverse-2 invariant-loop decreases-loop
+sub-inverse-2 : tie.Need-slice_bounds-inverse-count-in-loop-k invariant-loop decreases-loop
 sub-inverse-2 c = search rules
 
-part-inverse-start-2 : tie.Need-slice-bounds-inverse-start-2 invariant-loop decreases-loop
+part-inverse-start-2 : tie.Need-slice_bounds-inverse-start-in-loop-k invariant-loop decreases-loop
 part-inverse-start-2 c = search rules
 
-part-inverse-end-2 : tie.Need-slice-bounds-inverse-end-2 invariant-loop decreases-loop
-part-inverse-end-2 c = omega (arith, room c.before, c.before.before.before.before.loop.invariant.1.long)
+part-inverse-end-2 : tie.Need-slice_bounds-inverse-end-in-loop-k invariant-loop decreases-loop
+part-inverse-end-2 c = omega (arith, room c.before, c.before.before.before.before.loop-k.invariant.1.long)
 
-inverse-requires : tie.Need-inverse-requires invariant-loop decreases-loop
+inverse-requires : tie.Need-inverse-answer-requires invariant-loop decreases-loop
 inverse-requires c κs = search rules
 
 put-requires : tie.Need-put-requires invariant-loop decreases-loop
-put-requires c κs = omega (arith, few c.before.before.before.before.before.before.before.before.before, c.before.before.before.before.before.before.before.loop-test.true)
+put-requires c κs = omega (arith, few c.before.before.before.before.before.before.before.before.before, c.before.before.before.before.before.before.before.loop-k-test.true)
 
-add-k : tie.Need-overflow-add-k invariant-loop decreases-loop
+add-k : tie.Need-overflow_add-k invariant-loop decreases-loop
 add-k c = search rules
 
-loop-less : tie.Need-loop-smaller invariant-loop decreases-loop
+loop-less : tie.Need-loop-k-smaller invariant-loop decreases-loop
 loop-less c = search rules
 
-loop-again : tie.Need-loop-preserved invariant-loop decreases-loop
+loop-again : tie.Need-loop-k-preserved invariant-loop decreases-loop
 loop-again c =
-    let L = c.before.before.before.before.before.before.before.before.before.loop in
+    let L = c.before.before.before.before.before.before.before.before.before.loop-k in
     let a = c.before.before.before.before.before.before in (
       search rules,
-      rw c.put.ensures (made-next-of L.invariant.1 a.before.row-shape.result c.before.before.before.inverse.result _ _ a.before.row-shape.result (is-shape a) (k-in a) (ap (λ (n : ℕ). L.start + n) a.Span-of.ensures) c.before.before.before.inverse.ensures),
+      rw c.put.ensures (made-next-of L.invariant.1 a.before.row_shape-shape.result c.before.before.before.inverse-answer.result _ _ a.before.row_shape-shape.result (is-shape a) (k-in a) (ap (λ (n : ℕ). L.start + n) a.span_of.ensures) c.before.before.before.inverse-answer.ensures),
     )
 
-same_length : tie.Need-same-length invariant-loop decreases-loop
-same_length c = let s = c.before.before in c.before.loop.invariant.1.long ∙ (taken s).long ∙ sym (taken s).room
+same_length : tie.Need-shape_of-residuals invariant-loop decreases-loop
+same_length c = let s = c.before.before in c.before.loop-k.invariant.1.long ∙ (taken s).long ∙ sym (taken s).room
 
 returns : tie.Need-returns invariant-loop decreases-loop
 returns c =
-    let L = c.before.loop in
+    let L = c.before.loop-k in
     let s = c.before.before in
-    let e : L.k ≡ s.args.count = le_antisymm L.invariant.0 c.loop-test.false in
+    let e : L.k ≡ s.args.count = le_antisymm L.invariant.0 c.loop-k-test.false in
     made_all (e ∙ sym (T-long s)) L.invariant.1
 
 pub each_spec : {M : Type 1} → statement M

@@ -25,26 +25,26 @@ refuse s number place = (number, (s.args.answers.now, s.args.residuals.now))
 abbrev done : tie.Start → RowOutcome
 done s = (0, row_answers (T s) s.args.answers.now s.args.coefficients.now s.args.residuals.now)
 
-row-refusal-requires : tie.Need-row-refusal-requires
+row-refusal-requires : tie.Need-row_refusal-number-requires
 row-refusal-requires c κs = search rules
 
-returns : tie.Need-returns
+returns : tie.Need-returns-then-number-ne0
 returns c =
     let s = c.before.before in
-    let n = c.before.row-refusal.ensures in
-    ap (λ (n : ℕ). refuse s n 0) n ∙ sym (refused-first [] (refuse s) (done s) (tests s) tt (λ e. c.if1.true (n ∙ e)))
+    let n = c.before.row_refusal-number.ensures in
+    ap (λ (n : ℕ). refuse s n 0) n ∙ sym (refused-first [] (refuse s) (done s) (tests s) tt (λ e. c.if-number-ne0.true (n ∙ e)))
 
 each-requires : tie.Need-each-requires
-each-requires c κs = sym c.before.before.before.row-refusal.ensures ∙ c.before.before.if1.false
+each-requires c κs = sym c.before.before.before.row_refusal-number.ensures ∙ c.before.before.if-number-ne0.false
 
-same_length : tie.Need-same-length
+same_length : tie.Need-shape_of-residuals
 same_length c = search rules
 
-returns-2 : tie.Need-returns-2
+returns-2 : tie.Need-returns
 returns-2 c =
     let s = c.before.before.before.before.before.before in
     ap (λ (p : Answered). (0, p)) c.before.each.ensures
-    ∙ sym (passed_first [] (refuse s) (done s) (tests s) tt (sym c.before.before.before.before.before.row-refusal.ensures ∙ c.before.before.before.before.if1.false))
+    ∙ sym (passed_first [] (refuse s) (done s) (tests s) tt (sym c.before.before.before.before.before.row_refusal-number.ensures ∙ c.before.before.before.before.if-number-ne0.false))
 
-pub row-spec : {M : Type 1} → statement M
-row-spec = tie.close (tie.spec row-refusal-requires returns each-requires same_length returns-2)
+pub row_spec : {M : Type 1} → statement M
+row_spec = tie.close (tie.spec row-refusal-requires returns each-requires same_length returns-2)

@@ -8,21 +8,21 @@ use Rattle.block_row.proofs.Listed.{shapes-length}
 use Rattle.block_row.proofs.row.row_refusal.Statement.{statement}
 use Rattle.block_row.proofs.row.row_refusal.Tie as tie
 
-returns : tie.Need-returns
-returns c = rw (shapes-length c.before.args.count c.before.args.shapes.now, lt-ltb 64 c.before.args.count c.if1.true)
+returns : tie.Need-returns-then-count-gt64
+returns c = rw (shapes-length c.before.args.count c.before.args.shapes.now, lt-ltb 64 c.before.args.count c.if-count-gt64.true)
 
-total-requires : tie.Need-total-requires
+total-requires : tie.Need-total-sum-requires
 total-requires c κs = search rules
 
-length-refusal-requires : tie.Need-length-refusal-requires
+length-refusal-requires : tie.Need-length_refusal-requires
 length-refusal-requires c κs = search rules
 
 -- what was added up
-summed : (c : tie.After-total) → let s = c.before.before.args in c.total.result ≡ spans (shapes_of s.count s.shapes.now)
-summed c = c.total.ensures
+summed : (c : tie.After-total-sum) → let s = c.before.before.args in c.total-sum.result ≡ spans (shapes_of s.count s.shapes.now)
+summed c = c.total-sum.ensures
 
-returns-2 : tie.Need-returns-2
-returns-2 c = let s = c.before.before.before.args in c.length-refusal.ensures ∙ rw (shapes-length s.count s.shapes.now, le-ltb 64 _ c.before.before.if1.false, ← summed c.before)
+returns-2 : tie.Need-returns
+returns-2 c = let s = c.before.before.before.args in c.length_refusal.ensures ∙ rw (shapes-length s.count s.shapes.now, le-ltb 64 _ c.before.before.if-count-gt64.false, ← summed c.before)
 
-pub row-refusal-spec : {M : Type 1} → statement M
-row-refusal-spec = tie.close (tie.spec returns total-requires length-refusal-requires returns-2)
+pub row_refusal_spec : {M : Type 1} → statement M
+row_refusal_spec = tie.close (tie.spec returns total-requires length-refusal-requires returns-2)

@@ -9,41 +9,41 @@ use Rattle.block_row.proofs.Spans.{span-sized, span-wide, span-high}
 use Rattle.block_row.proofs.row.span_of.Statement.{statement}
 use Rattle.block_row.proofs.row.span_of.Tie as tie
 
-is-size-requires : tie.Need-is-size-requires
+is-size-requires : tie.Need-is_size-requires
 is-size-requires c κs = search rules
 
-returns : tie.Need-returns
-returns c = sym (span-wide c.before.before.args.shape (sym c.before.is-size.ensures ∙ not-true c.before.is-size.result c.if1.true))
+returns : tie.Need-returns-then-not-is_size
+returns c = sym (span-wide c.before.before.args.shape (sym c.before.is_size.ensures ∙ not-true c.before.is_size.result c.if-not-is_size.true))
 
-is-size-requires-2 : tie.Need-is-size-requires-2
+is-size-requires-2 : tie.Need-is_size-requires-2
 is-size-requires-2 c κs = search rules
 
-returns-2 : tie.Need-returns-2
+returns-2 : tie.Need-returns-then-not-is_size-2
 returns-2 c =
     let s = c.before.before.before.before.args.shape in
-    sym (span-high s (sym c.before.before.before.is-size.ensures ∙ not-false c.before.before.before.is-size.result c.before.before.if1.false)
-    (sym c.before.is-size2.ensures ∙ not-true c.before.is-size2.result c.if2.true))
+    sym (span-high s (sym c.before.before.before.is_size.ensures ∙ not-false c.before.before.before.is_size.result c.before.before.if-not-is_size.false)
+    (sym c.before.is_size-2.ensures ∙ not-true c.before.is_size-2.result c.if-not-is_size-2.true))
 
-cast-result : tie.Need-overflow-cast-result
+cast-result : tie.Need-overflow_cast-result
 cast-result c = search rules
 
-cast-result-2 : tie.Need-overflow-cast-result-2
+cast-result-2 : tie.Need-overflow_cast-result-2
 cast-result-2 c = search rules
 
-mul-result : tie.Need-overflow-mul-result
+mul-result : tie.Need-overflow_mul-result
 mul-result c =
     let w : c.before.before.before.before.before.before.args.shape.width ≤ 4294967295 = search rules in
     let h : c.before.before.before.before.before.before.args.shape.height ≤ 4294967295 = search rules in
     record { fits = lt_of_le_of_lt (mul-le-mul w h) (lit< tt) }
 
-returns-3 : tie.Need-returns-3
+returns-3 : tie.Need-returns
 returns-3 c =
     let s = c.before.before.before.before.before.before.args.shape in
-    sym (span-sized s (sym c.before.before.before.before.before.is-size.ensures ∙ not-false c.before.before.before.before.before.is-size.result c.before.before.before.before.if1.false)
-    (sym c.before.before.before.is-size2.ensures ∙ not-false c.before.before.before.is-size2.result c.before.before.if2.false))
+    sym (span-sized s (sym c.before.before.before.before.before.is_size.ensures ∙ not-false c.before.before.before.before.before.is_size.result c.before.before.before.before.if-not-is_size.false)
+    (sym c.before.before.before.is_size-2.ensures ∙ not-false c.before.before.before.is_size-2.result c.before.before.if-not-is_size-2.false))
 
-pub span-of-spec : {M : Type 1} → statement M
-span-of-spec =
+pub span_of_spec : {M : Type 1} → statement M
+span_of_spec =
     tie.close
     (tie.spec
     is-size-requires

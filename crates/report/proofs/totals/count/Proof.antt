@@ -3,23 +3,23 @@ use Rattle.std.proofs.Common.{rules}
 use Rattle.report.proofs.totals.count.Statement.{statement}
 use Rattle.report.proofs.totals.count.Tie as tie
 
-mul-wrapping-add-u64 : tie.Need-overflow-mul-wrapping-add-u64
+mul-wrapping-add-u64 : tie.Need-offset_bounds-totals-i
 mul-wrapping-add-u64 c = search rules
 
-element-copy-out-wrapping-add-u64 : tie.Need-element-copy-out-wrapping-add-u64
+element-copy-out-wrapping-add-u64 : tie.Need-bounds-totals-i
 element-copy-out-wrapping-add-u64 c = search rules
 
-wrapping-add-u64-requires : tie.Need-wrapping-add-u64-requires
+wrapping-add-u64-requires : tie.Need-wrapping_add_u64-requires
 wrapping-add-u64-requires c κs = search rules
 
-mul-totals : tie.Need-overflow-mul-totals
+mul-totals : tie.Need-offset_bounds-totals-i-2
 mul-totals c = search rules
 
-element-write-totals : tie.Need-element-write-totals
+element-write-totals : tie.Need-bounds-totals-i-2
 element-write-totals c = search rules
 
 returns : tie.Need-returns
-returns c = rw c.wrapping-add-u64.ensures
+returns c = rw c.wrapping_add_u64.ensures
 
 pub count_spec : {M : Type 1} → statement M
 count_spec =

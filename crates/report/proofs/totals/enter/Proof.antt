@@ -7,34 +7,34 @@ use Rattle.report.proofs.totals.enter.Tie as tie
 count-requires : tie.Need-count-requires
 count-requires c κs = search rules
 
-add-count : tie.Need-overflow-add-count
+add-count : tie.Need-overflow_add-i
 add-count c = search rules
 
 count-requires-2 : tie.Need-count-requires-2
 count-requires-2 c κs = search rules
 
-add-larger : tie.Need-overflow-add-larger
+add-larger : tie.Need-overflow_add-i-2
 add-larger c = search rules
 
-mul-larger : tie.Need-overflow-mul-larger
+mul-larger : tie.Need-offset_bounds-totals-i
 mul-larger c = search rules
 
-element-copy-out-larger : tie.Need-element-copy-out-larger
+element-copy-out-larger : tie.Need-bounds-totals-i
 element-copy-out-larger c = search rules
 
 larger-requires : tie.Need-larger-requires
 larger-requires c κs = search rules
 
-add-totals : tie.Need-overflow-add-totals
+add-totals : tie.Need-overflow_add-totals
 add-totals c = search rules
 
-mul-totals : tie.Need-overflow-mul-totals
+mul-totals : tie.Need-offset_bounds-totals-i-2
 mul-totals c = search rules
 
-element-write-totals : tie.Need-element-write-totals
+element-write-totals : tie.Need-bounds-totals-i-2
 element-write-totals c = search rules
 
-add-count-2 : tie.Need-overflow-add-count-2
+add-count-2 : tie.Need-overflow_add-i-3
 add-count-2 c = search rules
 
 count-requires-3 : tie.Need-count-requires-3
@@ -43,7 +43,7 @@ count-requires-3 c κs = search rules
 returns : tie.Need-returns
 unfolding entered
 returns c =
-    rw (c.count3.ensures, c.before.before.larger.ensures, c.before.before.before.before.count2.ensures, c.before.before.before.before.before.before.count.ensures)
+    rw (c.count-3.ensures, c.before.before.larger.ensures, c.before.before.before.before.count-2.ensures, c.before.before.before.before.before.before.count.ensures)
 
 pub enter_spec : {M : Type 1} → statement M
 enter_spec =

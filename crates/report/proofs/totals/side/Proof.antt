@@ -3,17 +3,17 @@ use Rattle.std.proofs.Common.{arith, eq-eqb, ne_eqb}
 use Rattle.report.proofs.totals.side.Statement.{statement}
 use Rattle.report.proofs.totals.side.Tie as tie
 
-returns : tie.Need-returns
-returns c = (rw (eq-eqb _ _ c.if1.true), omega arith)
+returns : tie.Need-returns-then-n-eq4
+returns c = (rw (eq-eqb _ _ c.if-n-eq4.true), omega arith)
 
-returns-2 : tie.Need-returns-2
-returns-2 c = (rw (ne_eqb _ _ c.before.if1.false, eq-eqb _ _ c.if2.true), omega arith)
+returns-2 : tie.Need-returns-then-n-eq8
+returns-2 c = (rw (ne_eqb _ _ c.before.if-n-eq4.false, eq-eqb _ _ c.if-n-eq8.true), omega arith)
 
-returns-3 : tie.Need-returns-3
-returns-3 c = (rw (ne_eqb _ _ c.before.before.if1.false, ne_eqb _ _ c.before.if2.false, eq-eqb _ _ c.if3.true), omega arith)
+returns-3 : tie.Need-returns-then-n-eq16
+returns-3 c = (rw (ne_eqb _ _ c.before.before.if-n-eq4.false, ne_eqb _ _ c.before.if-n-eq8.false, eq-eqb _ _ c.if-n-eq16.true), omega arith)
 
-returns-4 : tie.Need-returns-4
-returns-4 c = (rw (ne_eqb _ _ c.before.before.if1.false, ne_eqb _ _ c.before.if2.false, ne_eqb _ _ c.if3.false), omega arith)
+returns-4 : tie.Need-returns
+returns-4 c = (rw (ne_eqb _ _ c.before.before.if-n-eq4.false, ne_eqb _ _ c.before.if-n-eq8.false, ne_eqb _ _ c.if-n-eq16.false), omega arith)
 
-pub side-spec : {M : Type 1} → statement M
-side-spec = tie.close (tie.spec returns returns-2 returns-3 returns-4)
+pub side_spec : {M : Type 1} → statement M
+side_spec = tie.close (tie.spec returns returns-2 returns-3 returns-4)

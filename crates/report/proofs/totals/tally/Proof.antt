@@ -7,47 +7,47 @@ use Rattle.report.proofs.Counting.{counted-refused, counted-taken}
 use Rattle.report.proofs.totals.tally.Statement.{statement}
 use Rattle.report.proofs.totals.tally.Tie as tie
 
-trip-requires : tie.Need-trip-requires
+trip-requires : tie.Need-trip-trip-requires
 trip-requires c κs = search rules
 
 count-requires : tie.Need-count-requires
 count-requires c κs = search rules
 
-returns : tie.Need-returns
+returns : tie.Need-returns-then-answer-ne0
 returns c =
     let s = c.before.before.before.before.before.before in
-    let e = c.before.before.before.before.before.trip.ensures.0 in
-    (e, c.count.ensures ∙ sym (counted-refused s.args.shape s.args.residuals.now s.args.totals.now (λ z. c.before.before.if1.true (ap (λ (a : Answer). a.number) e ∙ z))))
+    let e = c.before.before.before.before.before.trip-trip.ensures.0 in
+    (e, c.count.ensures ∙ sym (counted-refused s.args.shape s.args.residuals.now s.args.totals.now (λ z. c.before.before.if-answer-ne0.true (ap (λ (a : Answer). a.number) e ∙ z))))
 
 place-requires : tie.Need-place-requires
 place-requires c κs =
     let s = c.before.before.before.before.before in
-    let e = c.before.before.before.before.trip.ensures.0 in
-    let t = took s.args.shape s.args.residuals.now (sym (ap (λ (a : Answer). a.number) e) ∙ c.before.if1.false) in
+    let e = c.before.before.before.before.trip-trip.ensures.0 in
+    let t = took s.args.shape s.args.residuals.now (sym (ap (λ (a : Answer). a.number) e) ∙ c.before.if-answer-ne0.false) in
     (t.taken.horizontal, t.taken.vertical)
 
-cast-enter : tie.Need-overflow-cast-enter
+cast-enter : tie.Need-overflow_cast-answer
 cast-enter c = search rules
 
 enter-requires : tie.Need-enter-requires
 enter-requires c κs = omega (arith, c.before.place.ensures.1)
 
-returns-2 : tie.Need-returns-2
+returns-2 : tie.Need-returns
 returns-2 c =
     let s = c.before.before.before.before.before.before.before.before in
     let sh = s.args.shape in
     let r = s.args.residuals.now in
-    let w = c.before.before.before.before.before.before.before.trip in
-    let z = c.before.before.before.before.if1.false in
+    let w = c.before.before.before.before.before.before.before.trip-trip in
+    let z = c.before.before.before.before.if-answer-ne0.false in
     let n = sym (ap (λ (a : Answer). a.number) w.ensures.0) ∙ z in
     let m = w.ensures.1 z in
-    let rails = ap (λ (a : Answer). a.rails) (w.ensures.0 ∙ (took sh r n).answer) in (
+    let rails = ap (λ (a : Answer). a.rails) (w.ensures.0 ∙ (took sh r n).answer-1) in (
       w.ensures.0,
       c.enter.ensures ∙ (λ i. entered (c.before.before.place.ensures.0 i) (rails i) (m.0 i) (m.1 i) s.args.totals.now) ∙ sym (counted-taken sh r s.args.totals.now n),
     )
 
-pub tally-spec : {M : Type 1} → statement M
-tally-spec =
+pub tally_spec : {M : Type 1} → statement M
+tally_spec =
     tie.close
     (tie.spec
     trip-requires

@@ -18,38 +18,38 @@ enough s = omega (arith, length-replicate 16 (pos 0), s.requires.1)
 abbrev room : tie.After-read → List ℤ
 room c = c.read.new.1.1.0
 
-slice-aggregate-read : tie.Need-slice-aggregate-read
+slice-aggregate-read : tie.Need-slice_bounds-read-end
 slice-aggregate-read c = search rules
 
 read-requires : tie.Need-read-requires
-read-requires c κs = let s = c.before.before in (s.requires.0, (enough s, zeros-at 16))
+read-requires c κs = let s = c.before in (s.requires.0, (enough s, zeros-at 16))
 
-array-share-prefix-room : tie.Need-array-share-prefix-room
+array-share-prefix-room : tie.Need-slice_bounds-room-end
 array-share-prefix-room c =
     let R = c.before in
-    let s = R.before.before.before in
+    let s = R.before.before in
     there s.args.shape s.args.numbers.now s.requires.0 (length (replicate 16 (pos 0))) (enough s) (room R) R.read.ensures
 
-slice-aggregate-by-call : tie.Need-slice-aggregate-by-call
+slice-aggregate-by-call : tie.Need-slice_bounds-by_call-end
 slice-aggregate-by-call c =
     let R = c.before.before in
-    let s = R.before.before.before in
+    let s = R.before.before in
     sym (long s.args.shape s.args.numbers.now s.requires.0 (length (replicate 16 (pos 0))) (enough s) (room R) R.read.ensures)
 
-by-call-requires : tie.Need-by-call-requires
+by-call-requires : tie.Need-by_call-requires
 by-call-requires c κs =
     let R = c.before.before.before in
-    let s = R.before.before.before in
+    let s = R.before.before in
     given s.args.shape s.args.numbers.now s.requires.0 (length (replicate 16 (pos 0))) (enough s) (room R) R.read.ensures
 
-same_length : tie.Need-same-length
+same_length : tie.Need-shape_of-numbers
 same_length c = search rules
 
 returns : tie.Need-returns
 returns c =
     let R = c.before.before.before.before.before in
-    let s = R.before.before.before in
+    let s = R.before.before in
     told s.args.shape s.args.numbers.now s.requires.0 (length (replicate 16 (pos 0))) (enough s) (room R) R.read.ensures _ _ c.before.by_call.ensures
 
-pub called-spec : {M : Type 1} → statement M
-called-spec = tie.close (tie.spec slice-aggregate-read read-requires array-share-prefix-room slice-aggregate-by-call by-call-requires same_length returns)
+pub called_spec : {M : Type 1} → statement M
+called_spec = tie.close (tie.spec slice-aggregate-read read-requires array-share-prefix-room slice-aggregate-by-call by-call-requires same_length returns)

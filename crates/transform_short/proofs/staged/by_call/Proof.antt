@@ -11,7 +11,7 @@ use Rattle.transform_short.proofs.staged.by_call.Tie as tie
 inverse-requires : tie.Need-inverse-requires
 inverse-requires c κs = search rules
 
-same_length : tie.Need-same-length
+same_length : tie.Need-shape_of-r
 same_length c = search rules
 
 returns : tie.Need-returns
@@ -23,5 +23,5 @@ returns c =
     c.before.inverse.ensures ∙ called b l s.args.r.now s.requires in
     (ap (λ (o : Outcome). o.0.rails) done, ap (λ (o : Outcome). o.1) done)
 
-pub by-call-spec : {M : Type 1} → statement M
-by-call-spec = tie.close (tie.spec inverse-requires same_length returns)
+pub by_call_spec : {M : Type 1} → statement M
+by_call_spec = tie.close (tie.spec inverse-requires same_length returns)

@@ -22,21 +22,21 @@ from-16 = size-cases (λ m. 8 < m → 16 ≤ m) (λ h. omega (arith, h)) (λ h. 
 from-32 : (m : ℕ) → is_size m ≡ true → 16 < m → 32 ≤ m
 from-32 = size-cases (λ m. 16 < m → 32 ≤ m) (λ h. omega (arith, h)) (λ h. omega (arith, h)) (λ h. omega (arith, h)) (λ h. omega arith)
 
-returns : tie.Need-returns
+returns : tie.Need-returns-then-n-le4
 unfolding is_size
-returns c = (refl, (omega (arith, c.if1.true), λ m s h. from-4 m s))
+returns c = (refl, (omega (arith, c.if-n-le4.true), λ m s h. from-4 m s))
 
-returns-2 : tie.Need-returns-2
+returns-2 : tie.Need-returns-then-n-le8
 unfolding is_size
-returns-2 c = (refl, (omega (arith, c.if2.true), λ m s h. from-8 m s (omega (arith, h, c.before.if1.false))))
+returns-2 c = (refl, (omega (arith, c.if-n-le8.true), λ m s h. from-8 m s (omega (arith, h, c.before.if-n-le4.false))))
 
-returns-3 : tie.Need-returns-3
+returns-3 : tie.Need-returns-then-n-le16
 unfolding is_size
-returns-3 c = (refl, (omega (arith, c.if3.true), λ m s h. from-16 m s (omega (arith, h, c.before.if2.false))))
+returns-3 c = (refl, (omega (arith, c.if-n-le16.true), λ m s h. from-16 m s (omega (arith, h, c.before.if-n-le8.false))))
 
-returns-4 : tie.Need-returns-4
+returns-4 : tie.Need-returns
 unfolding is_size
-returns-4 c = (refl, (omega (arith, c.before.before.before.requires), λ m s h. from-32 m s (omega (arith, h, c.if3.false))))
+returns-4 c = (refl, (omega (arith, c.before.before.before.requires), λ m s h. from-32 m s (omega (arith, h, c.if-n-le16.false))))
 
-pub size-for-spec : {M : Type 1} → statement M
-size-for-spec = tie.close (tie.spec returns returns-2 returns-3 returns-4)
+pub size_for_spec : {M : Type 1} → statement M
+size_for_spec = tie.close (tie.spec returns returns-2 returns-3 returns-4)

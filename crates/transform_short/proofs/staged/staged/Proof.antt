@@ -6,19 +6,19 @@ use Rattle.transform_short.proofs.Narrowed.{given-stages, given-again}
 use Rattle.transform_short.proofs.staged.staged.Statement.{statement}
 use Rattle.transform_short.proofs.staged.staged.Tie as tie
 
-cast-size-for : tie.Need-overflow-cast-size-for
+cast-size-for : tie.Need-overflow_cast-shape
 cast-size-for c = search rules
 
-size-for-requires : tie.Need-size-for-requires
+size-for-requires : tie.Need-size_for-rows-requires
 size-for-requires c κs = let s = c.before in (rows-kept s.args.shape s.requires.block.taken).short
 
-cast-size-for-2 : tie.Need-overflow-cast-size-for-2
+cast-size-for-2 : tie.Need-overflow_cast-shape-2
 cast-size-for-2 c = search rules
 
-size-for-requires-2 : tie.Need-size-for-requires-2
+size-for-requires-2 : tie.Need-size_for-columns-requires
 size-for-requires-2 c κs = let s = c.before.before.before in (columns-kept s.args.shape s.requires.block.taken).short
 
-is-dct2-requires : tie.Need-is-dct2-requires
+is-dct2-requires : tie.Need-is_dct2-requires
 is-dct2-requires c κs = search rules
 
 worked-requires : tie.Need-worked-requires
@@ -26,13 +26,13 @@ worked-requires c κs =
     let C = c.before.before.before in
     let R = C.before.before in
     let s = R.before.before in
-    (given-stages s.args.shape s.args.c.now s.args.r.now s.requires R.size_for_lem.result C.size-for2.result R.size_for_lem.ensures C.size-for2.ensures, c.before.before.is-dct2.ensures c.before.if1.true)
+    (given-stages s.args.shape s.args.c.now s.args.r.now s.requires R.size_for-rows.result C.size_for-columns.result R.size_for-rows.ensures C.size_for-columns.ensures, c.before.before.is_dct2.ensures c.before.if-is_dct2.true)
 
-same_length : tie.Need-same-length
+same_length : tie.Need-shape_of-r-then-worked
 same_length c = search rules
 
-returns : tie.Need-returns
-returns c = let e = c.before.before.worked.ensures c.if2.true in (sym e.0, e.1)
+returns : tie.Need-returns-then-worked
+returns c = let e = c.before.before.worked.ensures c.if-worked.true in (sym e.0, e.1)
 
 larger-requires : tie.Need-larger-requires
 larger-requires c κs =
@@ -40,12 +40,12 @@ larger-requires c κs =
     let C = W.before.before.before.before in
     let R = C.before.before in
     let s = R.before.before in
-    given-stages s.args.shape s.args.c.now W.worked.new.1.1.1.1.0 (given-again s.args.shape s.args.c.now s.args.r.now W.worked.new.1.1.1.1.0 W.worked.auto.1.1.1.1.0 s.requires) R.size_for_lem.result C.size-for2.result R.size_for_lem.ensures C.size-for2.ensures
+    given-stages s.args.shape s.args.c.now W.worked.new.1.1.1.1.0 (given-again s.args.shape s.args.c.now s.args.r.now W.worked.new.1.1.1.1.0 W.worked.auto.1.1.1.1.0 s.requires) R.size_for_lem.result C.size_for-columns.result R.size_for_lem.ensures C.size_for-columns.ensures
 
-same-length-2 : tie.Need-same-length-2
+same-length-2 : tie.Need-shape_of-r-then-is_dct2
 same-length-2 c = search rules
 
-returns-2 : tie.Need-returns-2
+returns-2 : tie.Need-returns-then-is_dct2
 returns-2 c = c.before.larger.ensures
 
 larger-requires-2 : tie.Need-larger-requires-2
@@ -53,16 +53,16 @@ larger-requires-2 c κs =
     let C = c.before.before.before in
     let R = C.before.before in
     let s = R.before.before in
-    given-stages s.args.shape s.args.c.now s.args.r.now s.requires R.size_for_lem.result C.size-for2.result R.size_for_lem.ensures C.size-for2.ensures
+    given-stages s.args.shape s.args.c.now s.args.r.now s.requires R.size_for-rows.result C.size_for-columns.result R.size_for-rows.ensures C.size_for-columns.ensures
 
-same-length-3 : tie.Need-same-length-3
+same-length-3 : tie.Need-shape_of-r
 same-length-3 c = search rules
 
-returns-3 : tie.Need-returns-3
-returns-3 c = c.before.larger2.ensures
+returns-3 : tie.Need-returns
+returns-3 c = c.before.larger-2.ensures
 
-pub staged-spec : {M : Type 1} → statement M
-staged-spec =
+pub staged_spec : {M : Type 1} → statement M
+staged_spec =
     tie.close
     (tie.spec
     cast-size-for
