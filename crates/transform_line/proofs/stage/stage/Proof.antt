@@ -67,16 +67,16 @@ slice-aggregate-rows-of-two c = sym c.before.before.before.narrow.ensures.long
 rows-of-two-requires : tie.Need-rows_of_two-requires
 rows-of-two-requires c κs =
     let N = c.before.before.before.before in
-    let T = N.before.before.before in
+    let T = N.before.before in
     let H = T.before.before in
-    two-given H.before.requires T.step_of_lem.result T.step_of_lem.ensures N.narrow.ensures H.half-half.ensures c.before.before.if-n-eq2.true
+    two-given H.requires T.step_of-step.result T.step_of-step.ensures N.narrow.ensures N.half-half.ensures c.before.before.if-n-eq2.true
 
 returns-2 : tie.Need-returns-then-n-eq2
 returns-2 c =
     let N = c.before.before.before.before.before.before in
-    let T = N.before.before.before in
+    let T = N.before.before in
     let H = T.before.before in
-    two-done H.before.requires T.step_of_lem.result T.step_of_lem.ensures N.narrow.ensures H.half-half.ensures c.before.before.before.before.if-n-eq2.true c.before.rows_of_two.ensures
+    two-done H.requires T.step_of-step.result T.step_of-step.ensures N.narrow.ensures N.half-half.ensures c.before.before.before.before.if-n-eq2.true c.before.rows_of_two.ensures
 
 same-length-2 : tie.Need-shape_of-numbers-then-n-eq2
 same-length-2 c = let s = c.before.before.before.before.before.before.before.before.before.before.before in ap length (returns-2 c) ∙ tab-length _ _ ∙ sym s.requires.long
@@ -84,16 +84,16 @@ same-length-2 c = let s = c.before.before.before.before.before.before.before.bef
 lines-of-requires : tie.Need-lines_of-requires
 lines-of-requires c κs =
     let N = c.before.before.before.before in
-    let T = N.before.before.before in
+    let T = N.before.before in
     let H = T.before.before in
-    run-given H.before.requires T.step_of_lem.result T.step_of_lem.ensures N.narrow.ensures H.half-half.ensures c.before.before.if-n-eq2.false
+    run-given H.requires T.step_of-step.result T.step_of-step.ensures N.narrow.ensures N.half-half.ensures c.before.before.if-n-eq2.false
 
 returns-3 : tie.Need-returns
 returns-3 c =
     let N = c.before.before.before.before.before.before in
-    let T = N.before.before.before in
+    let T = N.before.before in
     let H = T.before.before in
-    line-done H.before.requires T.step_of_lem.result T.step_of_lem.ensures N.narrow.ensures H.half-half.ensures c.before.lines_of.ensures
+    line-done H.requires T.step_of-step.result T.step_of-step.ensures N.narrow.ensures N.half-half.ensures c.before.lines_of.ensures
 
 same-length-3 : tie.Need-shape_of-numbers
 same-length-3 c = let s = c.before.before.before.before.before.before.before.before.before.before.before in ap length (returns-3 c) ∙ tab-length _ _ ∙ sym s.requires.long

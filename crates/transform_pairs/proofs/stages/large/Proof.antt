@@ -99,7 +99,7 @@ zipped-long c = let e : 2048 ≡ length (zipped c) = search rules in sym e
 abbrev of : After → tie.Start
 of c = begin (laid c)
 
-down : (c : After) → Down (given (of c)) c.weights.new.1.1.1.0 (zipped c)
+down : (c : After) → Down (given (of c)) c.weights.new.u (zipped c)
 down c =
     let s = of c in
     let a = s.args in
@@ -166,14 +166,14 @@ first c =
     let W = c.before in
     let d = down W in
     ⊎_elim
-    (λ t. down-leaves d 1 (omega (arith, t.0.taken)) (t.6 ∙ t.4.ensures))
+    (λ t. down-leaves d 1 (omega (arith, t.if-high-eq1.true)) (t.numbers-is ∙ t.lines.ensures))
     (⊎_elim
-    (λ t. down-leaves d 2 (omega (arith, t.1.taken)) (t.7 ∙ t.5.ensures))
+    (λ t. down-leaves d 2 (omega (arith, t.if-high-eq2.true)) (t.numbers-is ∙ t.lines-then-high-eq2.ensures))
     (⊎_elim
-    (λ t. down-leaves d 4 (omega (arith, t.2.taken)) (t.8 ∙ t.6.ensures))
+    (λ t. down-leaves d 4 (omega (arith, t.if-high-eq4.true)) (t.numbers-is ∙ t.lines-then-high-eq4.ensures))
     (⊎_elim
-    (λ t. down-leaves d 8 (omega (arith, t.3.taken)) (t.9 ∙ t.7.ensures))
-    (λ t. down-leaves d 16 (omega (arith, last-rows W t.0.left t.1.left t.2.left t.3.left)) (t.9 ∙ t.7.ensures)))))
+    (λ t. down-leaves d 8 (omega (arith, t.if-high-eq8.true)) (t.numbers-is ∙ t.lines-then-high-eq8.ensures))
+    (λ t. down-leaves d 16 (omega (arith, last-rows W t.if-high-eq1.false t.if-high-eq2.false t.if-high-eq4.false t.if-high-eq8.false)) (t.numbers-is ∙ t.lines-else-high-eq8.ensures)))))
     c.if-high-eq1.branch-raw
 
 sub-settle : tie.Need-slice_bounds-settle-count
@@ -183,7 +183,7 @@ part-settle-start : tie.Need-slice_bounds-settle-start
 part-settle-start c = omega arith
 
 part-settle-end : tie.Need-slice_bounds-settle-end
-part-settle-end c = let J = c.before in first-room (given (of J)) (first J)
+part-settle-end c = let J = c in first-room (given (of J.before)) (first J)
 
 sub-settle-2 : tie.Need-slice_bounds-settle-count-2
 sub-settle-2 c = omega arith
@@ -195,7 +195,7 @@ part-z-end : tie.Need-slice_bounds-z-end
 part-z-end c = let W = c.before.before in omega (arith, (fits (of W)).between, zipped-long W)
 
 settle-requires : tie.Need-settle-rails-requires
-settle-requires c κs = let J = c.before.before.before in let W = J in settle-given (given (of W)) (first J) (zipped W) (fits (of W)) (zipped-long W) (omega arith)
+settle-requires c κs = let J = c.before.before in let W = J in settle-given (given (of W.before)) (first J) (zipped W.before) (fits (of W.before)) (zipped-long W.before) (omega arith)
 
 abbrev joined : tie.After-settle-rails → tie.Joined-high-eq1
 joined c = c.before.before.before
@@ -220,7 +220,7 @@ abbrev middle : Behind → tie.After-settle-rails
 middle c = c.before.before.before.before.before
 
 along : (c : Behind) → let S = middle c in
-    Along (given (of (work S))) 2048 (joined S).if-high-eq1.numbers S.settle-rails.new.m (zipped (work S)) c.weights-2.new.1.1.1.0 c.before.before.before.half-half.result (origin S).args.last
+    Along (given (of (work S))) 2048 (joined S).if-high-eq1.numbers S.settle-rails.new.m (zipped (work S)) c.weights-2.new.u c.before.before.before.half-half.result (origin S).args.last
 along c =
     let S = middle c in
     let s = origin S in

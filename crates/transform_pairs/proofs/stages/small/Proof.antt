@@ -159,12 +159,12 @@ first c =
     let W = c.before in
     let d = down W in
     ⊎_elim
-    (λ t. down-leaves d 1 (omega (arith, t.0.taken)) (t.6 ∙ t.4.ensures))
+    (λ t. down-leaves d 1 (omega (arith, t.if-high-eq1.true)) (t.numbers-is ∙ t.lines.ensures))
     (⊎_elim
-    (λ t. down-leaves d 2 (omega (arith, t.1.taken)) (t.7 ∙ t.5.ensures))
+    (λ t. down-leaves d 2 (omega (arith, t.if-high-eq2.true)) (t.numbers-is ∙ t.lines-then-high-eq2.ensures))
     (⊎_elim
-    (λ t. down-leaves d 4 (omega (arith, t.2.taken)) (t.8 ∙ t.6.ensures))
-    (λ t. down-leaves d 8 (omega (arith, last-rows W t.0.left t.1.left t.2.left)) (t.8 ∙ t.6.ensures))))
+    (λ t. down-leaves d 4 (omega (arith, t.if-high-eq4.true)) (t.numbers-is ∙ t.lines-then-high-eq4.ensures))
+    (λ t. down-leaves d 8 (omega (arith, last-rows W t.if-high-eq1.false t.if-high-eq2.false t.if-high-eq4.false)) (t.numbers-is ∙ t.lines-else-high-eq4.ensures))))
     c.if-high-eq1.branch-raw
 
 sub-settle : tie.Need-slice_bounds-settle-count
@@ -174,7 +174,7 @@ part-settle-start : tie.Need-slice_bounds-settle-start
 part-settle-start c = omega arith
 
 part-settle-end : tie.Need-slice_bounds-settle-end
-part-settle-end c = let J = c.before in first-room (given (of J)) (first J)
+part-settle-end c = let J = c in first-room (given (of J.before)) (first J)
 
 sub-settle-2 : tie.Need-slice_bounds-settle-count-2
 sub-settle-2 c = omega arith
@@ -186,7 +186,7 @@ part-z-end : tie.Need-slice_bounds-z-end
 part-z-end c = let W = c.before.before in omega (arith, (fits (of W)).between, zipped-long W)
 
 settle-requires : tie.Need-settle-rails-requires
-settle-requires c κs = let J = c.before.before.before in let W = J in settle-given (given (of W)) (first J) (zipped W) (fits (of W)) (zipped-long W) (omega arith)
+settle-requires c κs = let J = c.before.before in let W = J in settle-given (given (of W.before)) (first J) (zipped W.before) (fits (of W.before)) (zipped-long W.before) (omega arith)
 
 abbrev joined : tie.After-settle-rails → tie.Joined-high-eq1
 joined c = c.before.before.before

@@ -27,72 +27,72 @@ narrow s = omega (arith, s.requires.1.1)
 within : (s : tie.Start) → s.args.columns ≤ s.args.step
 within s = omega (arith, s.requires.1.1, s.requires.0.pairs.columns, s.requires.0.pairs.sized.columns)
 
-slice-aggregate-narrow : tie.Need-slice-aggregate-narrow
+slice-aggregate-narrow : tie.Need-slice_bounds-narrow-end
 slice-aggregate-narrow c = search rules
 
 narrow-requires : tie.Need-narrow-requires
-narrow-requires c κs = let s = c.before.before in narrow-given s.args.w s.args.horizontal s.args.columns s.args.rows s.args.last s.args.numbers.now s.requires.0 s.args.step (step-paired s) (narrow s) (within s) refl (zeros-at 64)
+narrow-requires c κs = let s = c.before in narrow-given s.args.w s.args.horizontal s.args.columns s.args.rows s.args.last s.args.numbers.now s.requires.0 s.args.step (step-paired s) (narrow s) (within s) refl (zeros-at 64)
 
 crossed-requires : tie.Need-crossed-requires
-crossed-requires c κs = let s = c.before.before.before.before.before.before in ((step-paired s).few, (c.before.before.before.narrow.ensures.long, refl))
+crossed-requires c κs = let s = c.before.before.before.before.before in ((step-paired s).few, (c.before.before.before.narrow.ensures.long, refl))
 
-mul-tile : tie.Need-overflow-mul-tile
-mul-tile c = let s = c.before.before.before.before.before.before.before in omega (arith, (step-paired s).few)
+mul-tile : tie.Need-overflow_mul-tile
+mul-tile c = let s = c.before.before.before.before.before.before in omega (arith, (step-paired s).few)
 
-sub-settle : tie.Need-overflow-sub-settle
+sub-settle : tie.Need-slice_bounds-settle-count
 sub-settle c = omega arith
 
-part-settle-start : tie.Need-slice-bounds-settle-start
+part-settle-start : tie.Need-slice_bounds-settle-start
 part-settle-start c = omega arith
 
-part-settle-end : tie.Need-slice-bounds-settle-end
-part-settle-end c = let s = c.before.before.before.before.before.before.before.before in omega (arith, c.before.crossed.ensures.long, (step-paired s).few)
+part-settle-end : tie.Need-slice_bounds-settle-end
+part-settle-end c = let s = c.before.before.before.before.before.before in omega (arith, c.crossed.ensures.long, (step-paired s).few)
 
-sub-settle-2 : tie.Need-overflow-sub-settle-2
+sub-settle-2 : tie.Need-slice_bounds-settle-count-2
 sub-settle-2 c = omega arith
 
-part-s-start : tie.Need-slice-bounds-s-start
+part-s-start : tie.Need-slice_bounds-s-start
 part-s-start c = omega arith
 
-part-s-end : tie.Need-slice-bounds-s-end
-part-s-end c = let s = c.before.before.before.before.before.before.before.before.before in omega (arith, c.before.before.before.before.before.before.narrow.ensures.long, (step-paired s).few)
+part-s-end : tie.Need-slice_bounds-s-end
+part-s-end c = let s = c.before.before.before.before.before.before.before in omega (arith, c.narrow.ensures.long, (step-paired s).few)
 
-settle-requires : tie.Need-settle-requires
+settle-requires : tie.Need-settle-rails-requires
 settle-requires c κs =
-    let s = c.before.before.before.before.before.before.before.before.before.before in
-    let e = part-long (2 * s.args.step) c.before.before.before.crossed.new.1.1.0 (omega (arith, c.before.before.before.crossed.ensures.long, (step-paired s).few)) in
-    (e ∙ sym (part-long (2 * s.args.step) c.before.before.before.before.before.before.before.narrow.new.1.1.1.1.1.0 (omega (arith, c.before.before.before.before.before.before.before.narrow.ensures.long, (step-paired s).few))), omega (arith, e, (step-paired s).few))
+    let s = c.before.before.before.before.before.before.before.before in
+    let e = part-long (2 * s.args.step) c.crossed.new.e (omega (arith, c.crossed.ensures.long, (step-paired s).few)) in
+    (e ∙ sym (part-long (2 * s.args.step) c.narrow.new.room (omega (arith, c.narrow.ensures.long, (step-paired s).few))), omega (arith, e, (step-paired s).few))
 
-half-requires : tie.Need-half-requires
-half-requires c κs = let s = c.before.before.before.before.before.before.before.before.before.before.before.before in (s.requires.0.pairs.some, s.requires.0.pairs.short)
+half-requires : tie.Need-half-half-requires
+half-requires c κs = let s = c.before.before.before.before.before.before.before.before.before.before in (s.requires.0.pairs.some, s.requires.0.pairs.short)
 
 -- what is settled, and the sums that it was made of
-abbrev start : tie.After-settle → tie.Start
-start c = c.before.before.before.before.before.before.before.before.before.before.before
+abbrev start : tie.After-settle-rails → tie.Start
+start c = c.before.before.before.before.before.before.before.before.before
 
-are-sums : (c : tie.After-settle) → let s = start c in take (2 * s.args.step - 0) c.before.before.before.before.crossed.new.1.1.0 ≡ sums (laid s.args.w s.args.horizontal s.args.columns s.args.rows s.args.last s.args.numbers.now s.pre.0 s.args.step (step-paired s) (narrow s) (within s))
-are-sums c = let s = start c in cross-sums s.args.w s.args.horizontal s.args.columns s.args.rows s.args.last s.args.numbers.now s.pre.0 s.args.step (step-paired s) (narrow s) (within s) _ c.before.before.before.before.before.before.before.before.narrow.ensures c.before.before.before.before.crossed.ensures
+are-sums : (c : tie.After-settle-rails) → let s = start c in take (2 * s.args.step - 0) c.crossed.new.e ≡ sums (laid s.args.w s.args.horizontal s.args.columns s.args.rows s.args.last s.args.numbers.now s.requires.0 s.args.step (step-paired s) (narrow s) (within s))
+are-sums c = let s = start c in cross-sums s.args.w s.args.horizontal s.args.columns s.args.rows s.args.last s.args.numbers.now s.requires.0 s.args.step (step-paired s) (narrow s) (within s) _ c.narrow.ensures c.crossed.ensures
 
-rails-are : (c : tie.After-settle) → let s = start c in c.settle.result ≡ rails (short_plan s.args.w 2 s.args.horizontal 0 s.args.columns s.args.rows s.args.last) s.args.numbers.now
-rails-are c = let s = start c in cross-rails s.args.w s.args.horizontal s.args.columns s.args.rows s.args.last s.args.numbers.now s.pre.0 s.args.step (step-paired s) (narrow s) (within s) c.before.before.before.before.before.before.before.before.narrow.new.1.1.1.1.1.0 (are-sums c) c.settle.ensures c.before.before.before.before.before.before.before.before.narrow.ensures.long
+rails-are : (c : tie.After-settle-rails) → let s = start c in c.settle-rails.result ≡ rails (short_plan s.args.w 2 s.args.horizontal 0 s.args.columns s.args.rows s.args.last) s.args.numbers.now
+rails-are c = let s = start c in cross-rails s.args.w s.args.horizontal s.args.columns s.args.rows s.args.last s.args.numbers.now s.requires.0 s.args.step (step-paired s) (narrow s) (within s) c.narrow.new.room (are-sums c) c.settle-rails.ensures c.narrow.ensures.long
 
-lines-of-requires : tie.Need-lines-of-requires
+lines-of-requires : tie.Need-lines_of-requires
 lines-of-requires c κs =
     let S = c.before.before.before.before in
     let s = start S in
-    lying-given s.args.w s.args.horizontal s.args.columns s.args.rows s.args.last s.args.numbers.now s.pre.0 s.args.step (step-paired s) (narrow s) (within s) S.before.before.before.before.before.before.before.before.narrow.new.1.1.1.1.1.0 (are-sums S) S.settle.ensures S.before.before.before.before.before.before.before.before.narrow.ensures.long c.before.before.half.ensures s.pre.1.0 s.pre.1.1
+    lying-given s.args.w s.args.horizontal s.args.columns s.args.rows s.args.last s.args.numbers.now s.requires.0 s.args.step (step-paired s) (narrow s) (within s) S.narrow.new.room (are-sums S) S.settle-rails.ensures S.narrow.ensures.long c.before.before.half-half.ensures s.requires.1.0 s.requires.1.1
 
 returns : tie.Need-returns
 returns c =
     let S = c.before.before.before.before.before.before in
     let s = start S in
-    (rails-are S, lying-done s.args.w s.args.horizontal s.args.columns s.args.rows s.args.last s.args.numbers.now s.pre.0 s.args.step (step-paired s) (narrow s) (within s) S.before.before.before.before.before.before.before.before.narrow.new.1.1.1.1.1.0 (are-sums S) S.settle.ensures S.before.before.before.before.before.before.before.before.narrow.ensures.long c.before.before.before.before.half.ensures s.pre.1.0 s.pre.1.1 c.before.lines_of.ensures)
+    (rails-are S, lying-done s.args.w s.args.horizontal s.args.columns s.args.rows s.args.last s.args.numbers.now s.requires.0 s.args.step (step-paired s) (narrow s) (within s) S.narrow.new.room (are-sums S) S.settle-rails.ensures S.narrow.ensures.long c.before.before.before.before.half-half.ensures s.requires.1.0 s.requires.1.1 c.before.lines_of.ensures)
 
-same_length : tie.Need-same-length
-same_length c = let s = c.before.before.before.before.before.before.before.before.before.before.before.before.before.before.before.before.before in block-long s.args.w 2 s.args.horizontal 0 s.args.columns s.args.rows s.args.last s.args.numbers.now s.requires.0 (returns c).1
+same_length : tie.Need-shape_of-numbers
+same_length c = let s = c.before.before.before.before.before.before.before.before.before.before.before.before.before.before.before in block-long s.args.w 2 s.args.horizontal 0 s.args.columns s.args.rows s.args.last s.args.numbers.now s.requires.0 (returns c).1
 
-pub lying-spec : {M : Type 1} → statement M
-lying-spec =
+pub lying_spec : {M : Type 1} → statement M
+lying_spec =
     tie.close
     (tie.spec
     slice-aggregate-narrow

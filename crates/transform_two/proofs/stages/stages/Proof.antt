@@ -46,45 +46,45 @@ back : (s : tie.Start) (p : Plan) → plan s ≡ p → {r : ℕ} {o : List ℤ} 
 back s p e q = (q.0 ∙ ap (λ (p : Plan). rails p s.args.numbers.now) (sym e), q.1 ∙ ap (λ (p : Plan). inverse_block p s.args.numbers.now) (sym e))
 
 square-requires : tie.Need-square-requires
-square-requires c κs = let s = c.before.before.before in given s _ (square-plan s c.before.before.if1.true c.before.if2.true)
+square-requires c κs = let s = c.before.before.before in given s _ (square-plan s c.before.before.if-w-eq2.true c.before.if-h-eq2.true)
 
-returns : tie.Need-returns
-returns c = let s = c.before.before.before.before.before in back s _ (square-plan s c.before.before.before.before.if1.true c.before.before.before.if2.true) c.before.square.ensures
+returns : tie.Need-returns-then-h-eq2
+returns c = let s = c.before.before.before.before.before in back s _ (square-plan s c.before.before.before.before.if-w-eq2.true c.before.before.before.if-h-eq2.true) c.before.square.ensures
 
-same_length : tie.Need-same-length
+same_length : tie.Need-shape_of-numbers-then-h-eq2
 same_length c = search rules
 
-step-of-requires : tie.Need-step-of-requires
+step-of-requires : tie.Need-step_of-requires
 step-of-requires c κs = search rules
 
 upright-requires : tie.Need-upright-requires
 upright-requires c κs =
     let s = c.before.before.before.before in
-    (given s _ (upright-plan s c.before.before.before.if1.true), (above-two s.args.vertical s.args.h s.requires.0.pairs.sized.down c.before.before.if2.false, c.before.step_of_lem.ensures))
+    (given s _ (upright-plan s c.before.before.before.if-w-eq2.true), (above-two s.args.vertical s.args.h s.requires.0.pairs.sized.down c.before.before.if-h-eq2.false, c.before.step_of.ensures))
 
-returns-2 : tie.Need-returns-2
-returns-2 c = let s = c.before.before.before.before.before.before in back s _ (upright-plan s c.before.before.before.before.before.if1.true) c.before.upright.ensures
+returns-2 : tie.Need-returns-then-w-eq2
+returns-2 c = let s = c.before.before.before.before.before.before in back s _ (upright-plan s c.before.before.before.before.before.if-w-eq2.true) c.before.upright.ensures
 
-same-length-2 : tie.Need-same-length-2
+same-length-2 : tie.Need-shape_of-numbers-then-w-eq2
 same-length-2 c = search rules
 
-step-of-requires-2 : tie.Need-step-of-requires-2
+step-of-requires-2 : tie.Need-step_of-requires-2
 step-of-requires-2 c κs = search rules
 
 lying-requires : tie.Need-lying-requires
 lying-requires c κs =
     let s = c.before.before.before in
-    let n = c.before.before.if1.false in
-    (given s _ (lying-plan s (other s n)), (above-two s.args.horizontal s.args.w s.requires.0.pairs.sized.along n, c.before.step-of2.ensures))
+    let n = c.before.before.if-w-eq2.false in
+    (given s _ (lying-plan s (other s n)), (above-two s.args.horizontal s.args.w s.requires.0.pairs.sized.along n, c.before.step_of-2.ensures))
 
-returns-3 : tie.Need-returns-3
-returns-3 c = let s = c.before.before.before.before.before in back s _ (lying-plan s (other s c.before.before.before.before.if1.false)) c.before.lying.ensures
+returns-3 : tie.Need-returns
+returns-3 c = let s = c.before.before.before.before.before in back s _ (lying-plan s (other s c.before.before.before.before.if-w-eq2.false)) c.before.lying.ensures
 
-same-length-3 : tie.Need-same-length-3
+same-length-3 : tie.Need-shape_of-numbers
 same-length-3 c = search rules
 
-pub stages-spec : {M : Type 1} → statement M
-stages-spec =
+pub stages_spec : {M : Type 1} → statement M
+stages_spec =
     tie.close
     (tie.spec
     square-requires
