@@ -5,31 +5,116 @@
 #                      to run what comes of it, and the words load to run a program that the kit linked; where something
 #                      is missing it says so in a line that starts with NAME, and fails
 #   find_load          sets load alone, for which no compiler is needed; fails where there is no emulator
-#   build_archive      has the kit prove the library and write target/staticlib/libhoengtila.a, where that is missing or older than its
-#                      sources or the kit; what the kit says goes to standard output, and the last line of its check to
-#                      target/staticlib/check
+#   build_archive      has the kit prove and build the archive of crates/hoengtila_c, and copies it to target/staticlib/libhoengtila.a, where
+#                      that is missing or older than its sources or the kit; what the kit says goes to standard output, and the last
+#                      line of its check to target/staticlib/check
+#   build_program NAME the same of a program, which is copied to target/bin/NAME
+#   build_library NAME has the kit prove and build a library and those below it, each to crates/CRATE/out/rlib
+#   find_rattle NAME.. sets the words rattle and over, which call the kit's checker on a crate over these libraries, which build_library
+#                      built, and toolchain, by which it also compiles
+# What a plain `rt ci` proved is taken: `rt lib` would prove those libraries once more. `.ci/run` has target/proved say when that began.
 
-# `rt staticlib` proves the library's crate anew each time. One at a time in target/, as in `blocks`.
-build_archive() {
-    archive_is_current || { flock crates.txt rt staticlib hoengtila && keep_check; }
+# a source that is newer than a file, if there is one; crates/NAME/out is the kit's
+newer_source() { # FILE
+    find crates.txt crates -regex 'crates/[^/]*/out' -prune -o \( ! -type d -o -regex 'crates/[^/]*/.*' \) -newer "$1" -print -quit
 }
+
+# One at a time in target/, as in `blocks`.
+build_archive() { archive_is_current || (flock 9 && { archive_is_current || make_archive; }) 9<crates.txt; }
+
+build_program() { program_is_current "$1" || (flock 9 && { program_is_current "$1" || make_program "$1"; }) 9<crates.txt; } # NAME
 
 archive_is_current() {
     local archive=target/staticlib/libhoengtila.a kit
     kit=$(command -v rt) && kit=$(readlink -f "$kit") || kit=crates.txt
-    [ -e "$archive" ] && [ -s target/staticlib/check ] && [ -z "$(find crates.txt crates "$kit" -newer "$archive" -print -quit)" ]
+    [ -e "$archive" ] && [ -s target/staticlib/check ] && [ ! "$kit" -nt "$archive" ] && [ -z "$(newer_source "$archive")" ]
 }
 
-# The last line of the archive's check, for a release: a later `rt check` writes over the log.
-keep_check() { grep '^logic=' target/log/hoengtila.say | tail -n 1 >target/staticlib/check; }
+# by the mark that says when its proof began
+program_is_current() { [ -x "target/bin/$1" ] && [ -e "target/blocks/$1" ] && [ -z "$(newer_source "target/blocks/$1")" ]; } # NAME
 
-# The kit has an emulator beside its other tools.
-find_emulator() {
-    local kit emulator
-    kit=$(dirname "$(dirname "$(readlink -f "$(command -v rt)")")")
-    emulator=$kit/on/$(uname -m)/toolchain/bin/qemu-x86_64
-    if [ -x "$emulator" ]; then echo "$emulator"; else command -v qemu-x86_64; fi
+# the crates that some rest on, and these
+rests_of() { # NAMES..
+    awk -v wanted="$*" '
+        { sub(/#.*/, "") }
+        /:/ { name = $1; sub(/:.*/, "", name); sub(/[^:]*:/, ""); rests[name] = $0 }
+        function visit(name, words, n, k) {
+            if (!(name in rests) || seen[name]++) return
+            n = split(rests[name], words, " ")
+            for (k = 1; k <= n; k++) visit(words[k])
+            print name
+        }
+        END { n = split(wanted, first, " "); for (k = 1; k <= n; k++) visit(first[k]) }' crates.txt
 }
+
+# whether libraries stand as `rt ci` left them, and nothing has changed since; those of other commands have a stamp
+are_of_gate() { # NAMES..
+    local name
+    [ -e target/proved ] && [ -z "$(newer_source target/proved)" ] || return
+    for name; do [ -e "crates/$name/out/rlib/$name.rlib" ] && [ ! -e "crates/$name/out/rlib/stamp" ] || return; done
+}
+
+build_library() { # NAME
+    # shellcheck disable=SC2046
+    are_of_gate $(rests_of "$1") || (cd "crates/$1" && flock ../../crates.txt rt lib 2>&1)
+}
+
+find_rattle() { # NAMES..
+    local kit name
+    kit=$(dirname "$(rt doc)")
+    rattle=("$kit/bin/rattle")
+    over=(--extern "std=$kit/rlibs/std.rlib" -L "dependency=$kit/rlibs" --antt-project "$kit/rattle/logic/antt-project.json" --logic-built "$kit/logic_built")
+    for name; do over+=(--extern "$name=$PWD/crates/$name/out/rlib/$name.rlib"); done
+    for name in $(rests_of "$@"); do over+=(-L "dependency=$PWD/crates/$name/out/rlib"); done
+    over+=(--jobs "$(nproc)")
+    toolchain=(--toolchain "$kit/toolchain")
+}
+
+# The crate of the exports alone is proved over what `rt ci` left; else all by `rt lib`.
+prove_archive() {
+    local below rattle over toolchain
+    below=$(rests_of hoengtila_c | grep -vx hoengtila_c)
+    # shellcheck disable=SC2086
+    if are_of_gate $below; then
+        mkdir -p crates/hoengtila_c/out
+        find_rattle $(sed -n 's/^hoengtila_c staticlib://p' crates.txt)
+        (cd crates/hoengtila_c && "${rattle[@]}" build --crate-name hoengtila_c src/lib.rt "${over[@]}" "${toolchain[@]}" --crate-type staticlib --backend llvm -o out/libhoengtila_c.a)
+    else
+        (cd crates/hoengtila_c && rt lib)
+    fi
+}
+
+make_archive() {
+    mkdir -p target/staticlib
+    : >target/staticlib/began
+    prove_archive 2>&1 | tee target/staticlib/said || return
+    keep_archive
+}
+
+# Puts what was built in its place, as old as the sources that it was built of. For a release the last line of its check is kept.
+keep_archive() {
+    grep '^logic=proved' target/staticlib/said | tail -n 1 >target/staticlib/check &&
+        cp crates/hoengtila_c/out/libhoengtila_c.a target/staticlib/libhoengtila.a.new &&
+        touch -r target/staticlib/began target/staticlib/libhoengtila.a.new &&
+        mv target/staticlib/libhoengtila.a.new target/staticlib/libhoengtila.a
+}
+
+# `rt run` proves and builds it, and runs it on nothing; it may end as it likes.
+make_program() { # NAME
+    mkdir -p target/blocks
+    : >"target/blocks/$1.began"
+    (cd "crates/$1" && rt run </dev/null || true) 2>&1 | tee "target/blocks/$1.log"
+    grep -q "^rt: running out/$1;" "target/blocks/$1.log" || return
+    keep_program "$1" "target/blocks/$1.began"
+}
+
+# Puts a program that was built in its place, with the time at which its proof began.
+keep_program() { # NAME BEGAN
+    mkdir -p target/bin target/blocks
+    cp "crates/$1/out/$1" "target/bin/$1.new" && mv "target/bin/$1.new" "target/bin/$1" && touch -r "$2" "target/blocks/$1"
+}
+
+find_emulator() { command -v qemu-x86_64; }
 
 # Asked for by CI or by HOENGTILA_INSTALL=1, and possible as root where there is apt-get.
 install_cross_compilers() {
@@ -65,15 +150,11 @@ find_cross() {
     find_load
 }
 
-# A program that the kit linked needs the C library of x86-64, which the kit has beside its emulator.
+# A program that the kit linked is for x86-64.
 find_load() {
-    local tools emulator
+    local emulator
     load=()
     [ "$(uname -m)" != x86_64 ] || return 0
     emulator=$(find_emulator) || return 1
     load=("$emulator")
-    tools=$(dirname "$(dirname "$(readlink -f "$(command -v rt)")")")/on/$(uname -m)/toolchain
-    if [ -x "$tools/lib/ld-linux-x86-64.so.2" ]; then
-        load+=("$tools/lib/ld-linux-x86-64.so.2" --library-path "$tools/lib")
-    fi
 }

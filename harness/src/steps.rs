@@ -209,9 +209,8 @@ impl Maker {
 /// The definitions: `crates/steps/specs/Lists.antt`.
 pub fn definitions() -> String {
     let head = "-- Document 02, Wish 6: \"Give such lists for 4, 16 and 32 points\", of the forward DST-VII. Written by tests/step_lists --write.\n\
-        use mathlib.Core.List.{List, [], _∷_}\n\
-        use lib.IntN.{pos, negsuc}\n\
-        use Rattle·steps·specs.specs.Steps.{Step, add, sub, mul, StepList}\n";
+        use Rattle.std.specs.Prelude.{List, [], ◌∷◌, pos, negsuc}\n\
+        use Rattle.steps.specs.Steps.{Step, add, sub, mul, StepList}\n";
     let lists = LISTED.map(|n| definition(n, &make(n)));
     format!("{head}\n{}", lists.join("\n"))
 }
@@ -247,43 +246,53 @@ fn step_word(step: &Step) -> String {
 pub fn stored() -> String {
     let head = "// The three lists as numbers, four to a step; each number is tied to the definition by its function's contract. Written by\n\
         // tests/step_lists --write. A `const` array is built anew at each use, so each is handed out by value once and lent from there.\n\
-        ghost use mathlib.Core.Path.{_≡_};\n\
-        ghost use mathlib.Core.List.{map};\n\
-        ghost use lib.IntN.{pos};\n\
-        ghost use Rattle·steps.specs.Lists.{list4, list16, list32};\n\
-        ghost use Rattle·steps.specs.Numbers.{encode};\n";
+        ghost use Rattle.std.specs.Prelude.{◌≡◌, map, pos};\n\
+        ghost use Rattle.steps.specs.Lists.{list4, list16, list32};\n\
+        ghost use Rattle.steps.specs.Numbers.{encode};\n";
     let lists = LISTED.map(|n| stored_list(n, &make(n)));
     format!("{head}\n{}", lists.join("\n"))
 }
 
 fn stored_list(n: usize, list: &StepList) -> String {
     let (steps, outs) = (list.numbers(), list.out_numbers());
+    // as `rt fmt` lays them out: a line ends behind the comment, which follows a step's first number
     let lines = list.steps.iter().zip(steps.chunks(4)).map(|(step, four)| {
         let [o, to, a, d] = [four[0], four[1], four[2], four[3]];
-        format!(
-            "    {o}, // {}\n    {to},\n    {a},\n    {d},\n",
-            meant(step)
-        )
+        format!("{o}, // {}\n    {to}, {a}, {d}, ", meant(step))
     });
     let steps_const = format!(
-        "const STEPS_{n}: [i32; {}] = [\n{}];\n",
+        "const STEPS_{n}: [i32; {}] = [\n    {}\n];\n",
         steps.len(),
-        lines.collect::<String>()
+        lines.collect::<String>().trim_end()
     );
     let words: Vec<String> = outs.iter().map(|o| format!("{o}")).collect();
     let outs_lines = if n == 4 {
         words.join(", ")
     } else {
-        format!("\n    {},\n", words.join(",\n    "))
+        format!("\n{}\n", filled(&words))
     };
     let outs_const = format!("const OUTS_{n}: [i32; {}] = [{outs_lines}];\n", outs.len());
     format!(
         "{steps_const}\n{outs_const}\n\
-         pub fn steps_{n}() -> [i32; {}]\n    ensures {{ λ r. ⌜ r ≡ encode (list{n} .steps) ⌝ }}\n{{\n    STEPS_{n}\n}}\n\n\
-         pub fn outs_{n}() -> [i32; {}]\n    ensures {{ λ r. ⌜ r ≡ map pos (list{n} .outs) ⌝ }}\n{{\n    OUTS_{n}\n}}\n",
+         pub fn steps_{n}() -> [i32; {}]\n    ensures {{ result ≡ encode list{n}.steps }}\n{{\n    STEPS_{n}\n}}\n\n\
+         pub fn outs_{n}() -> [i32; {}]\n    ensures {{ result ≡ map pos list{n}.outs }}\n{{\n    OUTS_{n}\n}}\n",
         steps.len(),
         outs.len()
     )
+}
+
+/// Numbers in lines of at most 99 letters.
+fn filled(words: &[String]) -> String {
+    let mut lines = vec!["   ".to_string()];
+    for word in words {
+        let line = lines.last_mut().unwrap();
+        if line.len() + word.len() + 2 > 99 {
+            lines.push(format!("    {word},"));
+        } else {
+            *line += &format!(" {word},");
+        }
+    }
+    lines.join("\n")
 }
 
 /// A step as the command prints it.

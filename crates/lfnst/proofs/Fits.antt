@@ -1,7 +1,7 @@
 -- No sum of the stage leaves 32 bits, and no partial sum does: 470 * 2^R bounds it, and R is 20 or less. Assumes nothing.
-use mathlib.Core.Path.{◌≡◌, subst}
+use mathlib.Core.Path.{subst}
 use mathlib.Core.Bool.{Bool, true, false, cond, ◌&&◌, ◌||◌}
-use Prim.Native.Nat.{ℕ, ◌+◌, ◌*◌, ◌^◌, ◌≤◌, ◌<◌}
+use Prim.Native.Nat.{ℕ, ◌*◌, ◌^◌, ◌≤◌, ◌<◌}
 use native.Mathlib.Nat.{le_refl, le_trans, mul-le-mul, mul-le-mul_right}
 use native.Mathlib.Omega.{arith}
 use lib.Dec.{T, eqb, ltb, ltb→lt}
@@ -16,7 +16,7 @@ use Rattle.algebra.proofs.Sum.{sum-cong}
 use Rattle.algebra.proofs.Table.{all_to, all_to-at, and_left, and_right}
 use Rattle.algebra.proofs.Word.{small}
 use Rattle.lfnst_tables.specs.Lfnst.{outputs_of, matrix_of, lfnst}
-use Rattle.lfnst_tables.proofs.Sizes.{largest, column-part}
+use Rattle.lfnst_tables.proofs.Sizes.{column-part}
 use Rattle.lfnst.specs.LowFrequency.{order, input, inputs, is_wide}
 use Rattle.lfnst.proofs.Summing.{most}
 

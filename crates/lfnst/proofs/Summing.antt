@@ -3,8 +3,8 @@ use mathlib.Core.Path.{◌≡◌, refl, sym, ap, ◌∙◌, subst}
 use mathlib.Core.Logic.{◌⊎◌, inl, inr, ⊎_elim}
 use mathlib.Core.Bool.{Bool, true, false}
 use mathlib.Core.List.{List}
-use Prim.Native.Nat.{ℕ, ◌+◌, ◌*◌, ◌-◌, ◌^◌, ◌≤◌, ◌<◌, zero-le}
-use native.Mathlib.Nat.{zero-add, sub-zero, mul-le-mul}
+use Prim.Native.Nat.{ℕ, ◌+◌, ◌*◌, ◌^◌, ◌≤◌, ◌<◌}
+use native.Mathlib.Nat.{zero-add, mul-le-mul}
 use native.Mathlib.Omega.{arith}
 use lib.ListN.{length}
 use lib.IntN.{ℤ, nat_abs, ◌*ℤ◌, *ℤ_comm}
@@ -22,7 +22,7 @@ use Rattle.meaning.specs.Inverse.{middle}
 use Rattle.product.specs.Product.{spot, Laid, line_sum}
 use Rattle.product.proofs.Summing.{odd_place}
 use Rattle.product.proofs.Laid.{spot-two}
-use Rattle.kernel_steps.specs.Weighed.{Weighed, Small}
+use Rattle.kernel_steps.specs.Weighed.{Small}
 use Rattle.kernel_steps.specs.Written.{WroteFrom}
 use Rattle.long_stages.specs.Sums.{dotted, Dot}
 use Rattle.lfnst_tables.specs.Lfnst.{entry, outputs_of}

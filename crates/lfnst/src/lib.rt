@@ -3,6 +3,7 @@
 // the sides decide), corner (what is read, and in which order), sums (the values), places (where they go) and `stage`. Of
 // proofs/, Left and Same have what a caller cites, Fits that no sum leaves 32 bits, and Examples the sizes at which the rule changes.
 #![tactic(auto)]
+
 mod corner;
 mod places;
 pub mod rules;

@@ -7,18 +7,15 @@ use mathlib.Core.List.{List}
 use Prim.Native.Nat.{ℕ, ◌+◌, ◌*◌, ◌-◌, ◌≤◌, ◌<◌, zero-le}
 use native.Mathlib.Nat.{zero-add, sub-zero}
 use native.Mathlib.Omega.{arith}
-use lib.Dec.{T}
 use lib.ListN.{length}
 use lib.IntN.{ℤ, nat_abs, ◌*ℤ◌}
 use Rattle.algebra.specs.Sum.{sum}
 use Rattle.algebra.specs.Lists.{at}
 use Rattle.algebra.proofs.Sum.{sum-cong}
-use Rattle.algebra.proofs.Table.{every}
 use Rattle.meaning.specs.Plan.{range_of}
 use Rattle.meaning.specs.Inverse.{middle}
 use Rattle.product.specs.Product.{spot, Laid, line_sum}
 use Rattle.product.proofs.Laid.{spot-two}
-use Rattle.tables.proofs.Pairs.{by_pair, laid_by}
 use Rattle.kernel_steps.specs.Weighed.{Weighed, Small, sum_size}
 use Rattle.kernel_steps.specs.Written.{WroteFrom}
 use Rattle.lfnst_tables.specs.Lfnst.{entry, outputs_of}

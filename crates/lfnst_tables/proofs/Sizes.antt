@@ -1,11 +1,9 @@
 -- How large the weights of LFNST are, each and summed down a column: 121, and 470 with 16 outputs, 436 with 48. No sum over inputs of
 -- size M is above 470 M, and no partial sum is (`column-part`). Assumes nothing.
-use mathlib.Core.Path.{◌≡◌, refl, subst}
+use mathlib.Core.Path.{◌≡◌, refl}
 use mathlib.Core.Bool.{Bool, true, false, cond, ◌&&◌}
 use Prim.Native.Nat.{ℕ, ◌*◌, ◌≤◌, ◌<◌}
-use native.Mathlib.Nat.{le_trans}
-use native.Mathlib.Omega.{arith}
-use lib.Dec.{T, eqb, leb, leb→le}
+use lib.Dec.{T, leb, leb→le}
 use lib.IntN.{ℤ, nat_abs, ◌*ℤ◌}
 use Rattle.algebra.specs.Sum.{sum, sumℕ}
 use Rattle.algebra.proofs.Sum.{abs-part}

@@ -2,4 +2,5 @@
 // specs/Lfnst; of proofs/, Sizes has how large a sum of the weights can be. crates/lfnst_tables/make writes specs/Lfnst4, specs/Lfnst8 and
 // the two crates from matrices.txt.
 #![tactic(auto)]
+
 pub mod lines;

@@ -2,6 +2,7 @@
 // sums of 64, whose range and last shift follow the extended-precision switch. One public function, `inverse`, and its contract is
 // `long_outcome` of meaning/specs/Long; read that first, then `long_stages`. What each function there asks, `inverse` has seen to.
 #![tactic(auto)]
+
 ghost use Rattle.std.specs.Prelude.{◌≡◌};
 ghost use Rattle.meaning.specs.Answer.{Outcome};
 ghost use Rattle.meaning.specs.Long.{long_outcome};

@@ -2,5 +2,6 @@
 // sample is in `picture_samples`. Read specs/ first: Picture (what is written), Outcomes; then the theorems of proofs/: RoundTrip,
 // Unique; then write and read.
 #![tactic(auto)]
+
 pub mod read;
 pub mod write;

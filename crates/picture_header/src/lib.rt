@@ -1,6 +1,7 @@
 // The header of a graymap, read byte by byte. Read specs/Header; then the theorems of proofs/: Variants, what headers give, one to a line,
 // and Unique (Tests and Reading serve these functions and `picture`); then this file, and byte, what one byte more makes of a header.
 #![tactic(auto)]
+
 mod byte;
 
 ghost use Rattle.std.specs.Prelude.{◌≡◌};

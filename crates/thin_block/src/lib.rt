@@ -3,6 +3,7 @@
 // first. `inverse` hands back the stretch that holds the result: specs/Handed. Then check (the refusals; the hunt for 8 is that of
 // `inverse_hunt`), one and two (the stages).
 #![tactic(auto)]
+
 mod check;
 mod one;
 mod two;

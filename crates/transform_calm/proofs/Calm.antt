@@ -10,7 +10,7 @@ use lib.IntN.{ℤ, pos, negsuc, nat_abs, ◌*ℤ◌}
 use lib.ListN.{take, drop}
 use lib.Pow.{pow_mono}
 use lib.Seq.{get_or-take, get_or-drop}
-use Rattle.algebra.specs.Sum.{sum, sumℕ}
+use Rattle.algebra.specs.Sum.{sumℕ}
 use Rattle.algebra.specs.Clip.{clip}
 use Rattle.algebra.specs.Shift.{nearest}
 use Rattle.algebra.specs.Lists.{at}

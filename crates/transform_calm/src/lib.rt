@@ -2,6 +2,7 @@
 // is read add up to at most 32767, no number that is read and no middle value has more than 16 bits: a weight is at most 91, and the first
 // stage divides by 128. Read specs/Calm; proofs/Calm has what a caller cites.
 #![tactic(auto)]
+
 ghost use Rattle.std.specs.Prelude.{◌≡◌, ℕ, ◌+◌, ◌*◌, ◌≤◌, ◌<◌, nat_abs, length, leb};
 ghost use Rattle.algebra.specs.Sum.{sumℕ};
 ghost use Rattle.algebra.specs.Lists.{at};

@@ -2,6 +2,7 @@
 // out, which the compiler takes eight numbers at a time; only where that finds something, row by row and number by number. Read
 // specs/Hunt.
 #![tactic(auto)]
+
 ghost use Rattle.std.specs.Prelude.{◌≡◌, true, false, ℕ, ◌+◌, ◌*◌, ◌≤◌, ◌<◌, length};
 ghost use Rattle.algebra.specs.Lists.{at};
 ghost use Rattle.meaning.specs.Plan.{range_of};

@@ -3,12 +3,12 @@ use native.Mathlib.Omega.{arith}
 use mathlib.Core.Path.{◌≡◌, refl, sym, ap, ◌∙◌, subst}
 use mathlib.Core.List.{List}
 use Prim.Native.Nat.{ℕ, ◌+◌, ◌*◌, ◌-◌, ◌≤◌, ◌<◌}
-use native.Mathlib.Nat.{add_comm, zero-mul, mul-le-mul_right, not-suc-le-zero}
+use native.Mathlib.Nat.{add_comm, mul-le-mul_right}
 use native.Mathlib.Decide.{ℕ_discrete}
 use lib.ListN.{length}
 use lib.IntN.{ℤ}
 use Rattle.algebra.specs.Lists.{at, block}
-use Rattle.algebra.proofs.Lists.{Filled, block-ext, place_in, row_in}
+use Rattle.algebra.proofs.Lists.{Filled, block-ext, row_in}
 
 pub record Back (w h y : ℕ) (f : ℕ → ℕ → ℤ) (m m₀ : List ℤ) : Type 0 where
   pub long : length m ≡ length m₀

@@ -10,7 +10,7 @@ use borrow.Author.Tests.{ltb-true, ltb-false}
 use lib.Dec.{ltb}
 use lib.ListN.{length, replicate, length-replicate}
 use lib.IntN.{ℤ, pos}
-use Rattle.algebra.specs.Lists.{at, tabulate}
+use Rattle.algebra.specs.Lists.{at}
 use Rattle.algebra.proofs.Lists.{tabulated, tab-cong, tab-length, zeros-at}
 use Rattle.transform_stages.specs.Work.{line_from, Copied, RoomRead}
 

@@ -1,25 +1,25 @@
 -- What the stages give is the block: each sum over the pairs of a line is that of the definition over what is read, middle values stand
 -- one row after the other, and each row of residuals follows from them. Assumes nothing.
 use native.Mathlib.Omega.{arith}
-use mathlib.Core.Path.{◌≡◌, refl, sym, ap, ◌∙◌, subst}
-use mathlib.Core.Bool.{Bool, true, false, cond}
+use mathlib.Core.Path.{◌≡◌, sym, ap, ◌∙◌, subst}
+use mathlib.Core.Bool.{true, cond}
 use mathlib.Core.List.{List, ◌++◌}
 use Prim.Native.Nat.{ℕ, ◌+◌, ◌*◌, ◌/◌, ◌^◌, ◌≤◌, ◌<◌, min}
-use native.Mathlib.Nat.{le_trans, mul_comm, mul-le-mul, mul-one, zero-add, add_comm}
-use borrow.Author.Tests.{lt-ltb, ltb-true, ltb-false, le-ltb}
+use native.Mathlib.Nat.{le_trans, mul_comm, mul-le-mul, zero-add, add_comm}
+use borrow.Author.Tests.{lt-ltb, le-ltb}
 use lib.Dec.{ltb}
-use lib.ListN.{length, length-append, get_or-append}
+use lib.ListN.{length, get_or-append}
 use lib.IntN.{ℤ, pos, nat_abs, ◌*ℤ◌, *ℤ-zero}
 use lib.Pow.{pow_mono}
 use mir.Syntax.{w32}
 use mir.Val.{SFits}
-use Rattle.algebra.specs.Sum.{sum, sumℕ}
+use Rattle.algebra.specs.Sum.{sumℕ}
 use Rattle.algebra.specs.Shift.{nearest}
-use Rattle.algebra.specs.Lists.{at, tabulate, block}
+use Rattle.algebra.specs.Lists.{at, block}
 use Rattle.algebra.proofs.Sum.{sum-cong, sum-rest, sumℕ-cong, sumℕ-swap}
 use Rattle.algebra.proofs.Order.{within, fits_in}
 use Rattle.algebra.proofs.Shift.{nearest_in}
-use Rattle.algebra.proofs.Lists.{tab-at, tab-cong, place_in, block-length, block_at, block_cong}
+use Rattle.algebra.proofs.Lists.{tab-at, place_in, block-length, block_at, block_cong}
 use Rattle.meaning.specs.Weights.{weight}
 use Rattle.meaning.specs.Line.{inverse_sum}
 use Rattle.meaning.specs.Shape.{has_line}

@@ -1,5 +1,5 @@
 -- What the stages of a transform block are given, and what they give.
-use Rattle.std.specs.Prelude.{◌≡◌, true, cond, List, ℕ, ◌+◌, ◌*◌, ◌^◌, ◌≤◌, ◌<◌, min, ltb, ℤ, pos, nat_abs, length}
+use Rattle.std.specs.Prelude.{◌≡◌, true, cond, List, ℕ, ◌+◌, ◌*◌, ◌≤◌, ◌<◌, min, ltb, ℤ, pos, nat_abs, length}
 use Rattle.std.specs.Int.{w32}
 use Rattle.std.proofs.Common.{SFits}
 use Rattle.algebra.specs.Shift.{nearest}
@@ -11,7 +11,7 @@ use Rattle.meaning.specs.Plan.{Plan, range_of}
 use Rattle.meaning.specs.Taken.{Sized}
 use Rattle.meaning.specs.Inverse.{rails, inverse_block}
 use Rattle.product.specs.Product.{Laid}
-use Rattle.long_stages.specs.Sums.{dotted, Dot}
+use Rattle.long_stages.specs.Sums.{dotted}
 
 -- the weights of a line of n points, of as many inputs as there are and at most 32
 abbrev pub LineWeights : ℕ → ℕ → List ℤ → Type 0

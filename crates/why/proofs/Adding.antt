@@ -24,7 +24,6 @@ use Rattle.meaning.specs.Plan.{Plan, plan_of, long_plan}
 use Rattle.meaning.specs.Answer.{Outcome, accepted, refused, shape_tests, length_tests, input_test}
 use Rattle.meaning.specs.Inverse.{residual, rails, inverse_block, plan_tests, plan_outcome, inverse_outcome, outside_test}
 use Rattle.meaning.specs.Long.{long_shape_tests, long_outcome, beyond_test}
-use Rattle.meaning.specs.Exact.{clippings}
 use Rattle.meaning.proofs.Cases.{depth-cases}
 use Rattle.meaning.proofs.Parts.{four-parts, clippings-none}
 use Rattle.meaning.proofs.NoRails.{no-rails}

@@ -2,6 +2,7 @@
 // `long_parts`, and their contracts are `why_outcome` and `long_why_outcome` of specs/Why; read that first, then arith, sums and answer,
 // and of proofs/ Adding, where the parts add up to the residual, Refusing and Example; the others serve these or the functions.
 #![tactic(auto)]
+
 mod answer;
 mod arith;
 mod sums;

@@ -13,26 +13,26 @@ use hoengtila_harness::wrong::{Wrong, KINDS, NO_DEPTH, NO_KIND, NO_SIZE, ORDER, 
 
 /// What the file needs of the definitions' own files.
 const HEAD: &str = "\
-use mathlib.Core.Path.{_≡_, refl}
+use mathlib.Core.Path.{◌≡◌, refl}
 use mathlib.Core.Bool.{true, false}
-use mathlib.Core.List.{List, [], _∷_}
+use mathlib.Core.List.{List, [], ◌∷◌}
 use lib.IntN.{ℤ, pos, negsuc}
-use Rattle·algebra.specs.Sum.{sum, sumℕ}
-use Rattle·algebra.specs.Lists.{tabulate, block}
-use Rattle·algebra.specs.First.{firstAt}
-use Rattle·meaning.specs.Weights.{first, fold, S, C, cosines, turn, dct2, weight}
-use Rattle·meaning.specs.Line.{forward_sum, inverse_sum, forward_line, inverse_line}
-use Rattle·meaning.specs.Shape.{is_size, is_kind, is_depth, is_long_depth, most_kept, keeps}
-use Rattle·meaning.specs.Plan.{short_range, reach}
-use Rattle·meaning.specs.Answer.{forward_line_outcome, inverse_line_outcome}
-use Rattle·meaning.specs.Inverse.{columnSum, middle, middle_at, rails, row_sum, residual, inverse_block, inverse_outcome}
-use Rattle·meaning.specs.Long.{long_outcome}
-use Rattle·meaning.specs.Forward.{row_value, column_value, coefficient, forward_block, forward_outcome}
-use Rattle·transform_block.specs.TransformBlock.{is_block_side, is_on, is_thin, has_low, is_corner, takes_low, is_low, side_sum, side_residual, side_block, read_at, low_numbers, low_side, transform_outcome}
-use Rattle·lfnst.specs.LowFrequency.{order, input, inputs, isWide, low_sum, low_value, isWritten, row_by_row, standing, low_at}
-use Rattle·lfnst_tables.specs.Lfnst.{entry}
-use Rattle·lfnst_tables.specs.Lfnst4 as four
-use Rattle·lfnst_tables.specs.Lfnst8 as eight
+use Rattle.algebra.specs.Sum.{sum, sumℕ}
+use Rattle.algebra.specs.Lists.{tabulate, block}
+use Rattle.algebra.specs.First.{first_at}
+use Rattle.meaning.specs.Weights.{first, fold, S, C, cosines, turn, dct2, weight}
+use Rattle.meaning.specs.Line.{forward_sum, inverse_sum, forward_line, inverse_line}
+use Rattle.meaning.specs.Shape.{is_size, is_kind, is_depth, is_long_depth, most_kept, keeps}
+use Rattle.meaning.specs.Plan.{short_range, reach}
+use Rattle.meaning.specs.Answer.{forward_line_outcome, inverse_line_outcome}
+use Rattle.meaning.specs.Inverse.{column_sum, middle, middle_at, rails, row_sum, residual, inverse_block, inverse_outcome}
+use Rattle.meaning.specs.Long.{long_outcome}
+use Rattle.meaning.specs.Forward.{row_value, column_value, coefficient, forward_block, forward_outcome}
+use Rattle.transform_block.specs.TransformBlock.{is_block_side, is_on, is_thin, has_low, is_corner, takes_low, is_low, side_sum, side_residual, side_block, read_at, low_numbers, low_side, transform_outcome}
+use Rattle.lfnst.specs.LowFrequency.{order, input, inputs, is_wide, low_sum, low_value, is_written, row_by_row, standing, low_at}
+use Rattle.lfnst_tables.specs.Lfnst.{entry}
+use Rattle.lfnst_tables.specs.Lfnst4 as four
+use Rattle.lfnst_tables.specs.Lfnst8 as eight
 ";
 
 /// The definitions that the checker opens only where a proof names them.
@@ -41,13 +41,13 @@ const MIDDLE: &str = "short_range";
 const LINE: &str = "first fold S C cosines turn dct2 weight sum tabulate is_size is_kind \
     forward_sum inverse_sum forward_line inverse_line";
 const BLOCK: &str =
-    "first fold S C cosines turn dct2 weight sum sumℕ tabulate block firstAt is_size is_kind is_depth is_long_depth most_kept keeps \
-    short_range reach forward_sum inverse_sum columnSum middle_at rails row_sum residual inverse_block \
+    "first fold S C cosines turn dct2 weight sum sumℕ tabulate block first_at is_size is_kind is_depth is_long_depth most_kept keeps \
+    short_range reach forward_sum inverse_sum column_sum middle_at rails row_sum residual inverse_block \
     row_value column_value coefficient forward_block";
 
 /// Beside those of a block.
 const TRANSFORM: &str = "is_block_side is_on is_thin has_low is_corner takes_low is_low side_sum side_residual side_block read_at low_numbers \
-    low_side order input inputs isWide low_sum low_value isWritten row_by_row standing low_at entry";
+    low_side order input inputs is_wide low_sum low_value is_written row_by_row standing low_at entry";
 
 // ---- writing terms
 
@@ -174,7 +174,7 @@ fn line_case(t: &mut Theorems, direction: Direction, n: i64, kind: i64, x: &[i64
         Forward => model::forward_line(n, kind, x, &mut y),
         Inverse => model::inverse_line(n, kind, x, &mut y),
     };
-    let call = format!("{}LineOutcome {n} {kind}", direction.name());
+    let call = format!("{}_line_outcome {n} {kind}", direction.name());
     let left = format!("{call} {} {}", list(x), list(held));
     t.state_outcome(LINE, &left, &answer, &y);
 }
@@ -183,7 +183,7 @@ fn line_case(t: &mut Theorems, direction: Direction, n: i64, kind: i64, x: &[i64
 fn block_case(t: &mut Theorems, direction: Direction, shape: &Shape, input: &[i64], held: &[i64]) {
     let mut output = held.to_vec();
     let answer = direction.by_model(shape, input, &mut output);
-    let call = format!("{}Outcome {}", direction.name(), shape_term(shape));
+    let call = format!("{}_outcome {}", direction.name(), shape_term(shape));
     let left = format!("{call} {} {}", list(input), list(held));
     t.state_outcome(BLOCK, &left, &answer, &output);
 }

@@ -41,49 +41,49 @@ done s = (accepted 0, forward_block s.args.shape s.args.residuals.now)
 abbrev expected : tie.Start → Outcome
 expected s = forward_outcome s.args.shape s.args.residuals.now s.args.coefficients.now
 
-passed : (c : tie.Else1) → number_of (first c.before.before) ≡ 0
+passed : (c : tie.Else-number-ne0) → number_of (first c.before.before) ≡ 0
 unfolding is_long_depth
-passed c = sym c.before.block-refusal.ensures ∙ c.if1.false
+passed c = sym c.before.block_refusal-number.ensures ∙ c.if-number-ne0.false
 
 -- past 1 to 5, 20, 6 and 7, test 9 decides
-past : (c : tie.Else1) → let s = c.before.before in expected s ≡ cond (ltb (place s) (length s.args.residuals.now)) (refuse s 9 (place s)) (done s)
+past : (c : tie.Else-number-ne0) → let s = c.before.before in expected s ≡ cond (ltb (place s) (length s.args.residuals.now)) (refuse s 9 (place s)) (done s)
 past c = let s = c.before.before in passed_first (second s) (refuse s) (done s) (first s) tt (passed c)
 
-taken : (c : tie.Else1) → let s = c.before.before in TakenBlock s.args.shape s.args.residuals.now s.args.coefficients.now
+taken : (c : tie.Else-number-ne0) → let s = c.before.before in TakenBlock s.args.shape s.args.residuals.now s.args.coefficients.now
 taken c = let s = c.before.before in block-taken s.args.shape s.args.residuals.now s.args.coefficients.now (passed c)
 
-found : (c : tie.Then2) → let s = c.before.before.before.before in ltb (place s) (length s.args.residuals.now) ≡ true
-found c = let s = c.before.before.before.before in lt-ltb (place s) (length s.args.residuals.now) (omega (arith, c.if2.true, c.before.first-too-large.ensures))
+found : (c : tie.Then-place-residuals) → let s = c.before.before.before.before in ltb (place s) (length s.args.residuals.now) ≡ true
+found c = let s = c.before.before.before.before in lt-ltb (place s) (length s.args.residuals.now) (omega (arith, c.if-place-residuals.true, c.before.first_too_large-place.ensures))
 
-none : (c : tie.Else2) → let s = c.before.before.before.before in ltb (place s) (length s.args.residuals.now) ≡ false
-none c = let s = c.before.before.before.before in le-ltb (place s) (length s.args.residuals.now) (omega (arith, c.if2.false, c.before.first-too-large.ensures))
+none : (c : tie.Else-place-residuals) → let s = c.before.before.before.before in ltb (place s) (length s.args.residuals.now) ≡ false
+none c = let s = c.before.before.before.before in le-ltb (place s) (length s.args.residuals.now) (omega (arith, c.if-place-residuals.false, c.before.first_too_large-place.ensures))
 
-block-refusal-requires : tie.Need-block-refusal-requires
+block-refusal-requires : tie.Need-block_refusal-number-requires
 block-refusal-requires c κs = search rules
 
 refused-requires : tie.Need-refused-requires
 refused-requires c κs = search rules
 
-returns : tie.Need-returns
+returns : tie.Need-returns-then-number-ne0
 unfolding is_long_depth
 returns c =
     let s = c.before.before.before in
-    (λ i. ((c.refused.ensures ∙ ap (λ (n : ℕ). refused n 0) c.before.before.block-refusal.ensures) i, s.args.coefficients.now))
-    ∙ sym (refused-first (second s) (refuse s) (done s) (first s) tt (λ e. c.before.if1.true (c.before.before.block-refusal.ensures ∙ e)))
+    (λ i. ((c.refused.ensures ∙ ap (λ (n : ℕ). refused n 0) c.before.before.block_refusal-number.ensures) i, s.args.coefficients.now))
+    ∙ sym (refused-first (second s) (refuse s) (done s) (first s) tt (λ e. c.before.if-number-ne0.true (c.before.before.block_refusal-number.ensures ∙ e)))
 
-first-too-large-requires : tie.Need-first-too-large-requires
+first-too-large-requires : tie.Need-first_too_large-place-requires
 first-too-large-requires c κs = ((taken c).taken.depth, (taken c).long)
 
-cast-refused : tie.Need-overflow-cast-refused
-cast-refused c = record { fits = omega (arith, c.if2.true, few c.before.before.before.before.args.shape (taken c.before.before)) }
+cast-refused : tie.Need-overflow_cast-place
+cast-refused c = record { fits = omega (arith, c.if-place-residuals.true, few c.before.before.before.before.args.shape (taken c.before.before)) }
 
-refused-requires-2 : tie.Need-refused-requires-2
+refused-requires-2 : tie.Need-refused-requires-then-place-residuals
 refused-requires-2 c κs = search rules
 
-returns-2 : tie.Need-returns-2
+returns-2 : tie.Need-returns-then-place-residuals
 returns-2 c =
     let s = c.before.before.before.before.before in
-    (λ i. ((c.refused2.ensures ∙ ap (λ (n : ℕ). refused 9 n) c.before.before.first-too-large.ensures) i, s.args.coefficients.now))
+    (λ i. ((c.refused-then-place-residuals.ensures ∙ ap (λ (n : ℕ). refused 9 n) c.before.before.first_too_large-place.ensures) i, s.args.coefficients.now))
     ∙ sym (past c.before.before.before ∙ ap (λ (b : Bool). cond b (refuse s 9 (place s)) (done s)) (found c.before))
 
 stages-requires : tie.Need-stages-requires
@@ -95,17 +95,17 @@ stages-requires c κs =
 accepted-requires : tie.Need-accepted-requires
 accepted-requires c κs = search rules
 
-same_length : tie.Need-same-length
+same_length : tie.Need-shape_of-coefficients
 same_length c = search rules
 
-returns-3 : tie.Need-returns-3
+returns-3 : tie.Need-returns
 returns-3 c =
     let s = c.before.before.before.before.before.before.before.before in
     (λ i. (c.accepted.ensures i, c.before.before.stages.ensures i))
     ∙ sym (past c.before.before.before.before.before.before ∙ ap (λ (b : Bool). cond b (refuse s 9 (place s)) (done s)) (none c.before.before.before.before))
 
-pub forward-spec : {M : Type 1} → statement M
-forward-spec =
+pub forward_spec : {M : Type 1} → statement M
+forward_spec =
     tie.close
     (tie.spec
     block-refusal-requires

@@ -32,130 +32,130 @@ use Rattle.block.proofs.inverse.Statement.{statement}
 use Rattle.block.proofs.inverse.Tie as tie
 
 -- the coefficients, from the first on
-abbrev numbers : tie.After-fields → List ℤ
+abbrev numbers : tie.After-fields-s → List ℤ
 numbers s = let l = s.before.before.args.coefficients.now in take (length l - 0) l
 
-same : (s : tie.After-fields) → numbers s ≡ s.before.before.args.coefficients.now
+same : (s : tie.After-fields-s) → numbers s ≡ s.before.before.args.coefficients.now
 same s =
     let l = s.before.before.args.coefficients.now in
     let n : length l - 0 ≡ length l = omega arith in
     ap (λ (n : ℕ). take n l) n ∙ take-length l
 
 -- 1 to 5, 20, 6 and 7, 8, and what a call hands back at either end
-abbrev seven : tie.After-fields → List Refusal
-seven s = shape_tests s.fields.result ++ length_tests (s.fields.result.width * s.fields.result.height) (length (numbers s)) (length s.before.before.args.residuals.now)
+abbrev seven : tie.After-fields-s → List Refusal
+seven s = shape_tests s.fields-s.result ++ length_tests (s.fields-s.result.width * s.fields-s.result.height) (length (numbers s)) (length s.before.before.args.residuals.now)
 
-abbrev place : tie.After-fields → ℕ
-place s = first_outside (plan_of s.fields.result) (numbers s)
+abbrev place : tie.After-fields-s → ℕ
+place s = first_outside (plan_of s.fields-s.result) (numbers s)
 
-abbrev eight : tie.After-fields → List Refusal
+abbrev eight : tie.After-fields-s → List Refusal
 eight s = record { applies = ltb (place s) (length (numbers s)); number = 8; place = place s } ∷ []
 
-abbrev refuse : tie.After-fields → ℕ → ℕ → Outcome
+abbrev refuse : tie.After-fields-s → ℕ → ℕ → Outcome
 refuse s number place = (refused number place, s.before.before.args.residuals.now)
 
-abbrev done : tie.After-fields → Outcome
-done s = (accepted (rails (plan_of s.fields.result) (numbers s)), inverse_block (plan_of s.fields.result) (numbers s))
+abbrev done : tie.After-fields-s → Outcome
+done s = (accepted (rails (plan_of s.fields-s.result) (numbers s)), inverse_block (plan_of s.fields-s.result) (numbers s))
 
-passed : (c : tie.Then1) → number_of (seven c.before.before) ≡ 0
+passed : (c : tie.Then-number-eq0) → number_of (seven c.before.before) ≡ 0
 unfolding is_long_depth
-passed c = sym c.before.block-refusal.ensures ∙ c.if1.true
+passed c = sym c.before.block_refusal-number.ensures ∙ c.if-number-eq0.true
 
-past : (c : tie.Then1) → let s = c.before.before in inverse_outcome s.fields.result (numbers s) s.before.before.args.residuals.now ≡ first_of (eight s) (refuse s) (done s)
+past : (c : tie.Then-number-eq0) → let s = c.before.before in inverse_outcome s.fields-s.result (numbers s) s.before.before.args.residuals.now ≡ first_of (eight s) (refuse s) (done s)
 past c = let s = c.before.before in passed_first (eight s) (refuse s) (done s) (seven s) tt (passed c)
 
-taken : (c : tie.Then1) → let s = c.before.before in TakenBlock s.fields.result (numbers s) s.before.before.args.residuals.now
-taken c = let s = c.before.before in block-taken s.fields.result (numbers s) s.before.before.args.residuals.now (passed c)
+taken : (c : tie.Then-number-eq0) → let s = c.before.before in TakenBlock s.fields-s.result (numbers s) s.before.before.args.residuals.now
+taken c = let s = c.before.before in block-taken s.fields-s.result (numbers s) s.before.before.args.residuals.now (passed c)
 
 -- what is said of these numbers is said of the shape and the coefficients
-told : (s : tie.After-fields) → let a = s.before.before.args in
-    inverse_outcome s.fields.result (numbers s) a.residuals.now ≡ inverse_outcome a.shape a.coefficients.now a.residuals.now
-told s = let a = s.before.before.args in (λ t. inverse_outcome (s.fields.ensures t) (same s t) a.residuals.now)
+told : (s : tie.After-fields-s) → let a = s.before.before.args in
+    inverse_outcome s.fields-s.result (numbers s) a.residuals.now ≡ inverse_outcome a.shape a.coefficients.now a.residuals.now
+told s = let a = s.before.before.args in (λ t. inverse_outcome (s.fields-s.ensures t) (same s t) a.residuals.now)
 
-sub-c : tie.Need-overflow-sub-c
+sub-c : tie.Need-slice_bounds-c-count
 sub-c c = omega arith
 
-part-c-start : tie.Need-slice-bounds-c-start
+part-c-start : tie.Need-slice_bounds-c-start
 part-c-start c = omega arith
 
-part-c-end : tie.Need-slice-bounds-c-end
+part-c-end : tie.Need-slice_bounds-c-end
 part-c-end c = omega arith
 
-fields-requires : tie.Need-fields-requires
+fields-requires : tie.Need-fields-s-requires
 fields-requires c κs = search rules
 
-block-refusal-requires : tie.Need-block-refusal-requires
+block-refusal-requires : tie.Need-block_refusal-number-requires
 block-refusal-requires c κs = search rules
 
-cast-code : tie.Need-overflow-cast-code
+cast-code : tie.Need-overflow_cast-code
 cast-code c = search rules
 
 -- how much of the block is not zero
-live-rows : (c : tie.After-rows) → let s = c.before.before.before in Live (numbers s) s.fields.result.width s.fields.result.height c.rows.result
-live-rows c = c.rows.ensures
+live-rows : (c : tie.After-rows-rows) → let s = c.before.before.before in Live (numbers s) s.fields-s.result.width s.fields-s.result.height c.rows-rows.result
+live-rows c = c.rows-rows.ensures
 
-turned : (c : tie.Then1) → let s = c.before.before in length (numbers s) ≡ s.fields.result.height * s.fields.result.width
-turned c = let s = c.before.before in (taken c).long ∙ mul_comm s.fields.result.width s.fields.result.height
+turned : (c : tie.Then-number-eq0) → let s = c.before.before in length (numbers s) ≡ s.fields-s.result.height * s.fields-s.result.width
+turned c = let s = c.before.before in (taken c).long ∙ mul_comm s.fields-s.result.width s.fields-s.result.height
 
-live : (c : tie.After-columns) → let s = c.before.before.before.before in Part s.fields.result.width s.fields.result.height c.columns.result c.before.rows.result (numbers s)
+live : (c : tie.After-columns-columns) → let s = c.before.before.before.before in Part s.fields-s.result.width s.fields-s.result.height c.columns-columns.result c.before.rows-rows.result (numbers s)
 live c =
     let s = c.before.before.before.before in
-    live-part s.fields.result.width s.fields.result.height c.columns.result c.before.rows.result (numbers s)
-    c.columns.ensures.within c.before.rows.ensures.within c.before.rows.ensures.clear c.columns.ensures.clear
+    live-part s.fields-s.result.width s.fields-s.result.height c.columns-columns.result c.before.rows-rows.result (numbers s)
+    c.columns-columns.ensures.within c.before.rows-rows.ensures.within c.before.rows-rows.ensures.clear c.columns-columns.ensures.clear
 
-rows-requires : tie.Need-rows-requires
+rows-requires : tie.Need-rows-rows-requires
 rows-requires c κs = ((taken c).taken.height, turned c)
 
-columns-requires : tie.Need-columns-requires
+columns-requires : tie.Need-columns-columns-requires
 columns-requires c κs =
     let s = c.before.before.before in
-    ((taken c.before).taken.width, omega (arith, turned c.before, mul-le-mul_right s.fields.result.width (live-rows c).within))
+    ((taken c.before).taken.width, omega (arith, turned c.before, mul-le-mul_right s.fields-s.result.width (live-rows c).within))
 
-first-outside-requires : tie.Need-first-outside-requires
+first-outside-requires : tie.Need-first_outside-place-requires
 first-outside-requires c κs =
     let s = c.before.before.before.before in
     let t = taken c.before.before in
-    ((t.long, (columns-kept s.fields.result t.taken).within), live c)
+    ((t.long, (columns-kept s.fields-s.result t.taken).within), live c)
 
-few-places : (c : tie.Then2) → c.before.first-outside.result < 1048576
-few-places c = let E = c.before.before.before.before in omega (arith, c.if2.true, few E.before.before.fields.result (taken E))
+few-places : (c : tie.Then-place-c) → c.before.first_outside-place.result < 1048576
+few-places c = let E = c.before.before.before.before in omega (arith, c.if-place-c.true, few E.before.before.fields-s.result (taken E))
 
-mul-code : tie.Need-overflow-mul-code
+mul-code : tie.Need-overflow_mul-code
 mul-code c = omega (arith, few-places c)
 
-add-code : tie.Need-overflow-add-code
+add-code : tie.Need-overflow_add-code
 add-code c = omega (arith, few-places c)
 
 -- what both ways are given
-given : (c : tie.Else2) → let s = c.before.before.before.before.before.before in
-    GivenStages s.fields.result c.before.before.before.rows.result c.before.before.columns.result (numbers s) s.before.before.args.residuals.now
+given : (c : tie.Else-place-c) → let s = c.before.before.before.before.before.before in
+    GivenStages s.fields-s.result c.before.before.before.rows-rows.result c.before.before.columns-columns.result (numbers s) s.before.before.args.residuals.now
 given c =
     let C = c.before.before in
     let s = C.before.before.before.before in
     let w = taken C.before.before in
     record {
       block = w;
-      size-rows = C.before.rows.ensures.size;
-      size-columns = C.columns.ensures.size;
+      size-rows = C.before.rows-rows.ensures.size;
+      size-columns = C.columns-columns.ensures.size;
       live = live C;
-      kept = kept-part (plan_of s.fields.result) (numbers s) w.long (columns-kept s.fields.result w.taken).within (rows-kept s.fields.result w.taken).within (omega (arith, c.before.first-outside.ensures, c.if2.false));
+      kept = kept-part (plan_of s.fields-s.result) (numbers s) w.long (columns-kept s.fields-s.result w.taken).within (rows-kept s.fields-s.result w.taken).within (omega (arith, c.before.first_outside-place.ensures, c.if-place-c.false));
     }
 
 -- nothing is refused
-none-refused : (c : tie.Else2) → let s = c.before.before.before.before.before.before in
-    inverse_outcome s.fields.result (numbers s) s.before.before.args.residuals.now ≡ done s
+none-refused : (c : tie.Else-place-c) → let s = c.before.before.before.before.before.before in
+    inverse_outcome s.fields-s.result (numbers s) s.before.before.args.residuals.now ≡ done s
 none-refused c =
     let s = c.before.before.before.before.before.before in
-    let l : ltb (place s) (length (numbers s)) ≡ false = le-ltb (place s) (length (numbers s)) (omega (arith, c.before.first-outside.ensures, c.if2.false)) in
+    let l : ltb (place s) (length (numbers s)) ≡ false = le-ltb (place s) (length (numbers s)) (omega (arith, c.before.first_outside-place.ensures, c.if-place-c.false)) in
     past c.before.before.before.before ∙ rw l
 
-by-kernels-requires : tie.Need-by-kernels-requires
+by-kernels-requires : tie.Need-by_kernels-requires
 by-kernels-requires c κs = given c.before
 
-kept : (c : tie.After-by-kernels) → length c.by-kernels.new.1.1.1.1.0 ≡ length c.before.before.before.before.before.before.before.before.before.before.args.residuals.now
-kept c = c.by-kernels.auto.1.1.1.1.0
+kept : (c : tie.After-by_kernels) → length c.by_kernels.new.1.1.1.1.0 ≡ length c.before.before.before.before.before.before.before.before.before.before.args.residuals.now
+kept c = c.by_kernels.auto.1.1.1.1.0
 
-stages-requires : tie.Need-stages-requires
+stages-requires : tie.Need-stages-rails-requires
 stages-requires c κs =
     let K = c.before.before.before in
     let g = given K.before.before in
@@ -181,32 +181,32 @@ place_is place =
     let q : (place * 4294967296 + 8) / 4294967296 ≡ place = omega arith in
     (λ i. record { number = p i; place = q i; rails = 0 })
 
-abbrev outcome : tie.After-fields → Outcome
-outcome s = inverse_outcome s.fields.result (numbers s) s.before.before.args.residuals.now
+abbrev outcome : tie.After-fields-s → Outcome
+outcome s = inverse_outcome s.fields-s.result (numbers s) s.before.before.args.residuals.now
 
-by_number : (c : tie.Else1) → let s = c.before.before in (answer_of c.before.block-refusal.result 0, s.before.before.args.residuals.now) ≡ outcome s
+by_number : (c : tie.Else-number-eq0) → let s = c.before.before in (answer_of c.before.block_refusal-number.result 0, s.before.before.args.residuals.now) ≡ outcome s
 unfolding is_long_depth
 by_number c =
     let s = c.before.before in
-    let n = c.before.block-refusal.ensures in
-    ap (λ (a : Answer). (a, s.before.before.args.residuals.now)) (refused-is c.before.block-refusal.result (omega (arith, c.before.block-refusal.type-inv))) ∙ ap (λ (n : ℕ). refuse s n 0) n
-    ∙ sym (refused-first (eight s) (refuse s) (done s) (seven s) tt (λ e. c.if1.false (n ∙ e)))
+    let n = c.before.block_refusal-number.ensures in
+    ap (λ (a : Answer). (a, s.before.before.args.residuals.now)) (refused-is c.before.block_refusal-number.result (omega (arith, c.before.block_refusal-number.type_inv))) ∙ ap (λ (n : ℕ). refuse s n 0) n
+    ∙ sym (refused-first (eight s) (refuse s) (done s) (seven s) tt (λ e. c.if-number-eq0.false (n ∙ e)))
 
-by_place : (c : tie.Then2) → let s = c.before.before.before.before.before.before in (answer_of (c.before.first-outside.result * 4294967296 + 8) 0, s.before.before.args.residuals.now) ≡ outcome s
+by_place : (c : tie.Then-place-c) → let s = c.before.before.before.before.before.before in (answer_of (c.before.first_outside-place.result * 4294967296 + 8) 0, s.before.before.args.residuals.now) ≡ outcome s
 by_place c =
     let s = c.before.before.before.before.before.before in
-    let h = c.before.first-outside.ensures in
-    let l : ltb (place s) (length (numbers s)) ≡ true = lt-ltb (place s) (length (numbers s)) (omega (arith, h, c.if2.true)) in
-    ap (λ (a : Answer). (a, s.before.before.args.residuals.now)) (place_is c.before.first-outside.result) ∙ ap (λ (n : ℕ). refuse s 8 n) h
+    let h = c.before.first_outside-place.ensures in
+    let l : ltb (place s) (length (numbers s)) ≡ true = lt-ltb (place s) (length (numbers s)) (omega (arith, h, c.if-place-c.true)) in
+    ap (λ (a : Answer). (a, s.before.before.args.residuals.now)) (place_is c.before.first_outside-place.result) ∙ ap (λ (n : ℕ). refuse s 8 n) h
     ∙ sym (past c.before.before.before.before ∙ rw l)
 
 -- the number is 0 where the work is done
-nothing : (c : tie.Then1) → c.before.block-refusal.result ≡ 0
-nothing c = c.if1.true
+nothing : (c : tie.Then-number-eq0) → c.before.block_refusal-number.result ≡ 0
+nothing c = c.if-number-eq0.true
 
-by_way : (c : tie.Else2) {rail : ℕ} {l : List ℤ} → let s = c.before.before.before.before.before.before in
-    rail ≡ rails (plan_of s.fields.result) (numbers s) → l ≡ inverse_block (plan_of s.fields.result) (numbers s)
-    → (answer_of c.before.before.before.before.before.block-refusal.result rail, l) ≡ outcome s
+by_way : (c : tie.Else-place-c) {rail : ℕ} {l : List ℤ} → let s = c.before.before.before.before.before.before in
+    rail ≡ rails (plan_of s.fields-s.result) (numbers s) → l ≡ inverse_block (plan_of s.fields-s.result) (numbers s)
+    → (answer_of c.before.before.before.before.before.block_refusal-number.result rail, l) ≡ outcome s
 by_way c {rail} {l} p q =
     ap (λ (n : ℕ). (answer_of n rail, l)) (nothing c.before.before.before.before) ∙ (λ i. (accepted (p i), q i)) ∙ sym (none-refused c)
 
@@ -214,20 +214,20 @@ flipped : (b : Bool) → not b ≡ false → b ≡ true
 flipped true e = refl
 flipped false e = absurd (true≢false e)
 
-settled : (J : tie.Joined1) → (answer_of J.if1.code J.if1.rails, J.if1.residuals) ≡ outcome J.before.before
+settled : (J : tie.Joined-number-eq0) → (answer_of J.if-number-eq0.code J.if-number-eq0.rails, J.if-number-eq0.residuals) ≡ outcome J.before.before
 settled J =
     ⊎_elim
     (λ t. (λ i. (answer_of (t.6 i) (t.7 i), t.5 i))
     ∙ by_place (record { before = record { before = record { before = record { before = record { before = J.before; if1 = t.0 }; rows = t.1 }; columns = t.2 }; first-outside = t.3 }; if2 = t.4 }))
     (⊎_elim
-    (λ t. let E : tie.Else2 = record { before = record { before = record { before = record { before = record { before = J.before; if1 = t.0 }; rows = t.1 }; columns = t.2 }; first-outside = t.3 }; if2 = t.4 } in
+    (λ t. let E : tie.Else-place-c = record { before = record { before = record { before = record { before = record { before = J.before; if1 = t.0 }; rows = t.1 }; columns = t.2 }; first-outside = t.3 }; if2 = t.4 } in
     (λ i. (answer_of (t.13 i) (t.14 i), t.12 i)) ∙ by_way E t.10.ensures.0 t.10.ensures.1)
     (⊎_elim
-    (λ t. let E : tie.Else2 = record { before = record { before = record { before = record { before = record { before = J.before; if1 = t.0 }; rows = t.1 }; columns = t.2 }; first-outside = t.3 }; if2 = t.4 } in
+    (λ t. let E : tie.Else-place-c = record { before = record { before = record { before = record { before = record { before = J.before; if1 = t.0 }; rows = t.1 }; columns = t.2 }; first-outside = t.3 }; if2 = t.4 } in
     let d = t.6.ensures (flipped _ t.8.left) in
     (λ i. (answer_of (t.10 i) (t.11 i), t.9 i)) ∙ by_way E (sym d.0) d.1)
     (λ t. (λ i. (answer_of (t.2 i) (t.3 i), t.1 i)) ∙ by_number (record { before = J.before; if1 = t.0 }))))
-    J.if1.branch-raw
+    J.if-number-eq0.branch-raw
 
 answered-requires : tie.Need-answered-requires
 answered-requires c κs = search rules
@@ -235,26 +235,26 @@ answered-requires c κs = search rules
 returns : tie.Need-returns
 returns c =
     let J = c.before in
-    ap (λ (a : Answer). (a, J.if1.residuals)) c.answered.ensures ∙ settled J ∙ told J.before.before
+    ap (λ (a : Answer). (a, J.if-number-eq0.residuals)) c.answered.ensures ∙ settled J ∙ told J.before.before
 
 -- none of the ways changes how many residuals there are
-as_long : (J : tie.Joined1) → length J.if1.residuals ≡ length J.before.before.before.before.args.residuals.now
+as_long : (J : tie.Joined-number-eq0) → length J.if-number-eq0.residuals ≡ length J.before.before.before.before.args.residuals.now
 as_long J =
     ⊎_elim (λ t. ap length t.5)
     (⊎_elim
-    (λ t. let E : tie.Else2 = record { before = record { before = record { before = record { before = record { before = J.before; if1 = t.0 }; rows = t.1 }; columns = t.2 }; first-outside = t.3 }; if2 = t.4 } in
+    (λ t. let E : tie.Else-place-c = record { before = record { before = record { before = record { before = record { before = J.before; if1 = t.0 }; rows = t.1 }; columns = t.2 }; first-outside = t.3 }; if2 = t.4 } in
     ap length t.12 ∙ t.10.kept.1.1.1.1.0 ∙ kept (record { before = record { before = E; by-kernels-arg = t.5 }; by-kernels = t.6 }))
     (⊎_elim
-    (λ t. let E : tie.Else2 = record { before = record { before = record { before = record { before = record { before = J.before; if1 = t.0 }; rows = t.1 }; columns = t.2 }; first-outside = t.3 }; if2 = t.4 } in
+    (λ t. let E : tie.Else-place-c = record { before = record { before = record { before = record { before = record { before = J.before; if1 = t.0 }; rows = t.1 }; columns = t.2 }; first-outside = t.3 }; if2 = t.4 } in
     ap length t.9 ∙ kept (record { before = record { before = E; by-kernels-arg = t.5 }; by-kernels = t.6 }))
     (λ t. ap length t.1)))
-    J.if1.branch-raw
+    J.if-number-eq0.branch-raw
 
-same_length : tie.Need-same-length
+same_length : tie.Need-shape_of-residuals
 same_length c = as_long c.before
 
-pub inverse-spec : {M : Type 1} → statement M
-inverse-spec =
+pub inverse_spec : {M : Type 1} → statement M
+inverse_spec =
     tie.close
     (tie.spec
     sub-c

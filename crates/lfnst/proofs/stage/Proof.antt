@@ -1,11 +1,9 @@
 -- `stage` meets its contract: the corner, the values by a matrix, and these in their places. Assumes nothing.
 use borrow.Author.Rules.{rules}
 use native.Mathlib.Omega.{arith}
-use mathlib.Core.Path.{◌≡◌, refl, sym, ap, ◌∙◌, subst}
-use mathlib.Core.Bool.{Bool, true, false, cond}
-use Rattle.algebra.specs.Lists.{at}
-use Rattle.lfnst.specs.LowFrequency.{standing}
-use Rattle.lfnst.specs.Work.{Placed, side_of}
+use mathlib.Core.Path.{◌≡◌, refl, sym, ap, ◌∙◌}
+use mathlib.Core.Bool.{Bool, cond}
+use Rattle.lfnst.specs.Work.{side_of}
 use Rattle.lfnst.proofs.Whole.{four-in, side-in, ranged-corner, staged}
 use Rattle.lfnst.proofs.stage.Statement.{statement}
 use Rattle.lfnst.proofs.stage.Tie as tie

@@ -2,7 +2,7 @@
 use borrow.Author.Rules.{rules}
 use native.Mathlib.Omega.{arith}
 use mathlib.Core.Path.{refl}
-use mathlib.Core.Bool.{true, false}
+use mathlib.Core.Bool.{false}
 use Rattle.tables.proofs.Pairs.{laid_by}
 use Rattle.lfnst_tables.specs.Lfnst.{entry}
 use Rattle.lfnst_tables.specs.Lfnst4.{of16, of-3}

@@ -4,7 +4,6 @@ use mathlib.Core.Bool.{true}
 use mathlib.Core.List.{List}
 use Prim.Native.Nat.{ℕ, ◌-◌, ◌≤◌}
 use lib.ListN.{length, drop, drop_of_length-le}
-use borrow.Author.Tests.{not-true, not-false}
 use Rattle.picture_header.specs.Header.{behind_p5, read_from, is_p5, header_of}
 use Rattle.picture_header.proofs.Tests.{two_bytes}
 use Rattle.picture_header.proofs.Reading.{read_more, read-ended}
@@ -23,7 +22,7 @@ abbrev bytes : tie.Else-not-is_p5 invariant-loop decreases-loop → List ℕ
 bytes c = c.before.before.before.args.file.now
 
 starts : (c : tie.Else-not-is_p5 invariant-loop decreases-loop) → is_p5 (bytes c) ≡ true
-starts c = sym c.before.is_p5.ensures ∙ not-false _ c.if-not-is_p5.false
+starts c = sym c.before.is_p5.ensures ∙ c.if-not-is_p5.false
 
 is-p5-requires : tie.Need-is_p5-requires invariant-loop decreases-loop
 is-p5-requires c κs = search rules
@@ -33,7 +32,7 @@ no-header-requires c κs = search rules
 
 returns : tie.Need-returns-then-not-is_p5 invariant-loop decreases-loop
 unfolding header_of
-returns c = rw (sym c.before.before.is_p5.ensures ∙ not-true _ c.before.if-not-is_p5.true, c.no_Header.ensures)
+returns c = rw (sym c.before.before.is_p5.ensures ∙ c.before.if-not-is_p5.true, c.no_header-header.ensures)
 
 behind-p5-requires : tie.Need-behind_p5-header-requires invariant-loop decreases-loop
 behind-p5-requires c κs = search rules

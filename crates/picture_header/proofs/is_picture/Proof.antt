@@ -1,5 +1,5 @@
 -- `is_picture` meets its contract. Assumes nothing.
-use borrow.Author.Tests.{eq-eqb, ne_eqb, not-true, not-false}
+use borrow.Author.Tests.{eq-eqb, ne_eqb}
 use Rattle.picture_header.specs.Header.{is_picture}
 use mathlib.Core.Path.{sym, ◌∙◌}
 use borrow.Author.Rules.{rules}
@@ -23,14 +23,14 @@ is-size-requires c κs = search rules
 
 returns-4 : tie.Need-returns-then-not-is_size
 unfolding is_picture
-returns-4 c = rw (eq-eqb _ 3 c.before.before.before.before.before.if-header-ne3.false, c.before.before.before.before.if-header.false, eq-eqb _ 65535 c.before.before.if-header-ne65535.false, sym c.before.is_size.ensures ∙ not-true _ c.if-not-is_size.true)
+returns-4 c = rw (eq-eqb _ 3 c.before.before.before.before.before.if-header-ne3.false, c.before.before.before.before.if-header.false, eq-eqb _ 65535 c.before.before.if-header-ne65535.false, sym c.before.is_size.ensures ∙ c.if-not-is_size.true)
 
 is-size-requires-2 : tie.Need-is_size-requires-2
 is-size-requires-2 c κs = search rules
 
 returns-5 : tie.Need-returns
 unfolding is_picture
-returns-5 c = rw (eq-eqb _ 3 c.before.before.before.before.before.before.if-header-ne3.false, c.before.before.before.before.before.if-header.false, eq-eqb _ 65535 c.before.before.before.if-header-ne65535.false, sym c.before.before.is_size.ensures ∙ not-false _ c.before.if-not-is_size.false) c.is_size-2.ensures
+returns-5 c = rw (eq-eqb _ 3 c.before.before.before.before.before.before.if-header-ne3.false, c.before.before.before.before.before.if-header.false, eq-eqb _ 65535 c.before.before.before.if-header-ne65535.false, sym c.before.before.is_size.ensures ∙ c.before.if-not-is_size.false) c.is_size-2.ensures
 
 pub is_picture_spec : {M : Type 1} → statement M
 is_picture_spec =

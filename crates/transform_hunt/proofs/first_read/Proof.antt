@@ -1,8 +1,8 @@
 -- `first_read` meets its contract: where the look finds nothing, nothing that is read is refused. Assumes nothing.
 use borrow.Author.Rules.{rules}
 use native.Mathlib.Omega.{arith}
-use mathlib.Core.Path.{◌≡◌, sym}
-use Prim.Native.Nat.{ℕ, ◌+◌, ◌*◌, ◌≤◌}
+use mathlib.Core.Path.{sym}
+use Prim.Native.Nat.{◌+◌, ◌*◌, ◌≤◌}
 use native.Mathlib.Nat.{mul-le-mul_right, lt_of_lt_of_le}
 use lib.ListN.{length}
 use Rattle.algebra.proofs.Lists.{place_in}

@@ -1,6 +1,5 @@
 -- `is_clear` meets its contract. Assumes nothing.
 use borrow.Author.Rules.{rules}
-use native.Mathlib.Omega.{arith}
 use mathlib.Core.Path.{◌≡◌, sym, subst}
 use mathlib.Core.Bool.{false, false≢true}
 use Prim.Native.Nat.{ℕ}

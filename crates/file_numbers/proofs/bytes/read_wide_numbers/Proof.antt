@@ -62,7 +62,7 @@ loop-again c =
     let a = c.before.before.before.before.before.before.args in
     let v = to_z w32 (of_z w32 (to_z w16 (of_z w16 c.number-v.result))) in
     let k : l.i < length l.out = omega arith in
-    (search rules, simp length-set l.invariant.1, step signed16 a.body.now l.out l.i v (omega arith) k ((cast_v {w' = w32} (arg {w = w16} {z = c.number-v.result} (record { sfits = c.number-v.type_inv })) (lit< tt)).val ∙ c.number-v.ensures) l.invariant.2)
+    (search rules, simp length-set l.invariant.1, step signed16 a.body.now l.out l.i v (omega arith) k ((cast_v (arg {w = w16} {z = c.number-v.result} (record { sfits = c.number-v.type_inv })) {w' = w32} (lit< tt)).val ∙ c.number-v.ensures) l.invariant.2)
 
 same_length : tie.Need-shape_of-out invariant-loop decreases-loop
 same_length c = search rules

@@ -12,23 +12,23 @@ none : (b : Bool) → 0 ≡ cond b (0 - 1) 0
 none true = refl
 none false = refl
 
-returns : tie.Need-returns
+returns : tie.Need-returns-then-n-eq0
 unfolding left
-returns c = rw c.if1.true (none (is_data c.before.args.tag))
+returns c = rw c.if-n-eq0.true (none (is_data c.before.args.tag))
 
-is-data-requires : tie.Need-is-data-requires
+is-data-requires : tie.Need-is_data-requires
 is-data-requires c κs = search rules
 
-sub-result : tie.Need-overflow-sub-result
+sub-result : tie.Need-overflow_sub-result
 sub-result c = search rules
 
-returns-2 : tie.Need-returns-2
+returns-2 : tie.Need-returns-then-is_data
 unfolding left
-returns-2 c = rw (← c.before.is-data.ensures, c.if2.true)
+returns-2 c = rw (← c.before.is_data.ensures, c.if-is_data.true)
 
-returns-3 : tie.Need-returns-3
+returns-3 : tie.Need-returns
 unfolding left
-returns-3 c = rw (← c.before.is-data.ensures, c.if2.false)
+returns-3 c = rw (← c.before.is_data.ensures, c.if-is_data.false)
 
-pub left-spec : {M : Type 1} → statement M
-left-spec = tie.close (tie.spec returns is-data-requires sub-result returns-2 returns-3)
+pub left_spec : {M : Type 1} → statement M
+left_spec = tie.close (tie.spec returns is-data-requires sub-result returns-2 returns-3)

@@ -12,46 +12,46 @@ use borrow.Author.Rules.{rules}
 use Rattle.file_picture.proofs.shown.forward_shown.Statement.{statement}
 use Rattle.file_picture.proofs.shown.forward_shown.Tie as tie
 
-wide-zeros-requires : tie.Need-wide-zeros-requires
+wide-zeros-requires : tie.Need-wide_zeros-residuals-requires
 wide-zeros-requires c κs = search rules
 
-sub-read-wide-numbers : tie.Need-overflow-sub-read-wide-numbers
+sub-read-wide-numbers : tie.Need-slice_bounds-read_wide_numbers-count
 sub-read-wide-numbers c = search rules
 
-part-residuals-start : tie.Need-slice-bounds-residuals-start
+part-residuals-start : tie.Need-slice_bounds-residuals-start
 part-residuals-start c = search rules
 
-part-residuals-end : tie.Need-slice-bounds-residuals-end
-part-residuals-end c = omega (arith, half-most c.before.before.before.args.shape c.before.before.before.args.body.now c.before.before.before.requires, c.wide-zeros.ensures.0)
+part-residuals-end : tie.Need-slice_bounds-residuals-end
+part-residuals-end c = omega (arith, half-most c.args.shape c.args.body.now c.requires, c.wide_zeros-residuals.ensures.0)
 
-read-wide-numbers-requires : tie.Need-read-wide-numbers-requires
+read-wide-numbers-requires : tie.Need-read_wide_numbers-requires
 read-wide-numbers-requires c κs = search rules
 
-sub-drawn : tie.Need-overflow-sub-drawn
+sub-drawn : tie.Need-slice_bounds-drawn-count
 sub-drawn c = search rules
 
-part-drawn-start : tie.Need-slice-bounds-drawn-start
+part-drawn-start : tie.Need-slice_bounds-drawn-start
 part-drawn-start c = search rules
 
-part-drawn-end : tie.Need-slice-bounds-drawn-end
-part-drawn-end c = simp length-append (omega (arith, ap length c.before.before.read-wide-numbers.ensures ∙ half-long (c.before.before.before.before.before.before.before.args.shape.width * c.before.before.before.before.before.before.before.args.shape.height) c.before.before.before.before.before.before.before.args.body.now c.before.before.before.before.before.before.before.requires.long))
+part-drawn-end : tie.Need-slice_bounds-drawn-end
+part-drawn-end c = simp length-append (omega (arith, ap length c.read_wide_numbers.ensures ∙ half-long (c.args.shape.width * c.args.shape.height) c.args.body.now c.requires.long))
 
 drawn-requires : tie.Need-drawn-requires
 drawn-requires c κs = search rules
 
-same_length : tie.Need-same-length
+same_length : tie.Need-shape_of-picture
 same_length c = search rules
 
 returns : tie.Need-returns
 returns c =
-    let s = c.before.before.before.before.before.before.before.before.before.before.before.before in
+    let s = c in
     let a = s.args in
     let body = a.body.now in
     let out = a.picture.now in
-    c.before.before.drawn.ensures ∙ ap (λ (l : List ℤ). drawn_at a.shape l a.offset out) (read-part (a.shape.width * a.shape.height) body _ _ s.requires.long c.before.before.before.before.before.before.before.read-wide-numbers.ensures)
+    c.drawn.ensures ∙ ap (λ (l : List ℤ). drawn_at a.shape l a.offset out) (read-part (a.shape.width * a.shape.height) body _ _ s.requires.long c.read_wide_numbers.ensures)
 
-pub forward-shown-spec : {M : Type 1} → statement M
-forward-shown-spec =
+pub forward_shown_spec : {M : Type 1} → statement M
+forward_shown_spec =
     tie.close
     (tie.spec
     wide-zeros-requires

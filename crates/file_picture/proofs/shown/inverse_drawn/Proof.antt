@@ -6,42 +6,42 @@ use borrow.Author.Rules.{rules}
 use Rattle.file_picture.proofs.shown.inverse_drawn.Statement.{statement}
 use Rattle.file_picture.proofs.shown.inverse_drawn.Tie as tie
 
-inverse-requires : tie.Need-inverse-requires
+inverse-requires : tie.Need-inverse-answer-requires
 inverse-requires c κs = search rules
 
 refused-requires : tie.Need-refused-requires
 refused-requires c κs = search rules
 
-same_length : tie.Need-same-length
+same_length : tie.Need-shape_of-residuals-then-number-ne0
 same_length c = search rules
 
-returns : tie.Need-returns
+returns : tie.Need-returns-then-number-ne0
 returns c =
-    let s = c.before.before.before.before.before.before in
-    let call = c.before.before.before.inverse in
+    let s = c in
+    let call = c.inverse-answer in
     let out = s.args.picture.now in
     ap (λ (x : View). (x, out)) c.refused.ensures
-    ∙ inverse-refused s.args.shape s.args.coefficients.now s.args.residuals.now s.args.offset out call.result call.new.1.1.0 s.requires call.ensures c.before.if1.true
+    ∙ inverse-refused s.args.shape s.args.coefficients.now s.args.residuals.now s.args.offset out call.result call.new.residuals s.requires call.ensures c.if-number-ne0.true
 
 drawn-requires : tie.Need-drawn-requires
 drawn-requires c κs = search rules
 
-same-length-2 : tie.Need-same-length-2
+same-length-2 : tie.Need-shape_of-residuals
 same-length-2 c = search rules
 
-same-length-3 : tie.Need-same-length-3
+same-length-3 : tie.Need-shape_of-picture
 same-length-3 c = search rules
 
-returns-2 : tie.Need-returns-2
+returns-2 : tie.Need-returns
 returns-2 c =
-    let s = c.before.before.before.before.before.before.before.before.before.before in
-    let call = c.before.before.before.before.before.before.before.inverse in
+    let s = c in
+    let call = c.inverse-answer in
     let out = s.args.picture.now in
-    c.before.before.drawn.ensures
-    ∙ inverse-drawn s.args.shape s.args.coefficients.now s.args.residuals.now s.args.offset out call.result call.new.1.1.0 s.requires call.ensures c.before.before.before.before.before.if1.false
+    c.drawn.ensures
+    ∙ inverse-drawn s.args.shape s.args.coefficients.now s.args.residuals.now s.args.offset out call.result call.new.residuals s.requires call.ensures c.if-number-ne0.false
 
-pub inverse-drawn-spec : {M : Type 1} → statement M
-inverse-drawn-spec =
+pub inverse_drawn_spec : {M : Type 1} → statement M
+inverse_drawn_spec =
     tie.close
     (tie.spec
     inverse-requires

@@ -7,5 +7,5 @@ use Rattle.file_picture.proofs.shown.wide_zeros.Tie as tie
 returns : tie.Need-returns
 returns c = (refl, zeros-at 1024)
 
-pub wide-zeros-spec : {M : Type 1} → statement M
-wide-zeros-spec = tie.close (tie.spec returns)
+pub wide_zeros_spec : {M : Type 1} → statement M
+wide_zeros_spec = tie.close (tie.spec returns)

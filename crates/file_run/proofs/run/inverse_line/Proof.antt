@@ -7,43 +7,43 @@ use Rattle.file_run.proofs.Turns.{same_turn, at_most, inverse-refused, inverse-m
 use Rattle.file_run.proofs.run.inverse_line.Statement.{statement}
 use Rattle.file_run.proofs.run.inverse_line.Tie as tie
 
-inverse-requires : tie.Need-inverse-requires
+inverse-requires : tie.Need-inverse-answer-requires
 inverse-requires c κs = search rules
 
 refused-requires : tie.Need-refused-requires
 refused-requires c κs = search rules
 
-same_length : tie.Need-same-length
+same_length : tie.Need-shape_of-residuals-then-number-ne0
 same_length c = search rules
 
-same-length-2 : tie.Need-same-length-2
+same-length-2 : tie.Need-shape_of-text-then-number-ne0
 same-length-2 c = search rules
 
-returns : tie.Need-returns
+returns : tie.Need-returns-then-number-ne0
 returns c =
     let s = c.before.before.before.before.before.before.before.before.before in
-    let call = c.before.before.before.before.before.before.inverse in
-    at_most (same_turn (inverse-refused s.args.shape s.args.coefficients.now s.args.residuals.now s.args.offset s.args.next call.result call.new.1.1.0 s.requires.0 call.ensures c.before.before.before.before.if1.true) c.before.before.refused.ensures) (omega arith)
+    let call = c.before.before.before.before.before.before.inverse-answer in
+    at_most (same_turn (inverse-refused s.args.shape s.args.coefficients.now s.args.residuals.now s.args.offset s.args.next call.result call.new.residuals s.requires.0 call.ensures c.if-number-ne0.true) c.before.before.refused.ensures) (omega arith)
 
-put-inverse-requires : tie.Need-put-inverse-requires
+put-inverse-requires : tie.Need-put_inverse-end-requires
 put-inverse-requires c κs = search rules
 
-same-length-3 : tie.Need-same-length-3
+same-length-3 : tie.Need-shape_of-residuals
 same-length-3 c = search rules
 
-same-length-4 : tie.Need-same-length-4
+same-length-4 : tie.Need-shape_of-text
 same-length-4 c = search rules
 
-returns-2 : tie.Need-returns-2
+returns-2 : tie.Need-returns
 returns-2 c =
-    let s = c.before.before.before.before.before.before.before.before.before.before in
-    let call = c.before.before.before.before.before.before.before.inverse in
-    let put = c.before.before.put-inverse in
-    same_turn (inverse-made s.args.shape s.args.coefficients.now s.args.residuals.now s.args.offset s.args.next call.result call.new.1.1.0 s.requires.0 call.ensures c.before.before.before.before.before.if1.false)
+    let s = c.before.before.before.before.before.before.before.before.before in
+    let call = c.inverse-answer in
+    let put = c.before.before.put_inverse-end in
+    same_turn (inverse-made s.args.shape s.args.coefficients.now s.args.residuals.now s.args.offset s.args.next call.result call.new.residuals s.requires.0 call.ensures c.if-number-ne0.false)
     (record { wrote = within put.ensures (search rules); ends = refl; number = refl; next = refl })
 
-pub inverse-line-spec : {M : Type 1} → statement M
-inverse-line-spec =
+pub inverse_line_spec : {M : Type 1} → statement M
+inverse_line_spec =
     tie.close
     (tie.spec
     inverse-requires

@@ -7,5 +7,5 @@ use Rattle.file_run.proofs.run.narrow_zeros.Tie as tie
 returns : tie.Need-returns
 returns c = (refl, zeros-at 1024)
 
-pub narrow-zeros-spec : {M : Type 1} → statement M
-narrow-zeros-spec = tie.close (tie.spec returns)
+pub narrow_zeros_spec : {M : Type 1} → statement M
+narrow_zeros_spec = tie.close (tie.spec returns)

@@ -1,9 +1,8 @@
 -- `in_order` meets its contract: the coefficients before i are read. Assumes nothing.
 use borrow.Author.Rules.{rules}
 use native.Mathlib.Omega.{arith}
-use mathlib.Core.Path.{◌≡◌, ap, ◌∙◌}
-use Prim.Native.Nat.{ℕ, ◌+◌, ◌*◌, ◌-◌, ◌≤◌, ◌<◌}
-use lib.ListN.{length}
+use mathlib.Core.Path.{◌∙◌}
+use Prim.Native.Nat.{◌+◌, ◌*◌, ◌-◌, ◌≤◌}
 use mir.Syntax.{w32}
 use mir.ValLaws.{to_z-of_z}
 use Rattle.algebra.specs.Lists.{at}
@@ -17,7 +16,7 @@ abbrev invariant-loop : tie.invariant-loop-i
 invariant-loop corner u₀ order i₀ u i = (i ≤ 16) × (Filled 0 i u u₀ (input (λ x y. at corner (x + 4 * y))) × Ordered order)
 
 abbrev decreases-loop : tie.decreases-loop-i
-decreases-loop corner u₀ order i₀ u i = 16 - i
+decreases-loop corner u₀ _ i₀ u i = 16 - i
 
 loop-holds : tie.Need-loop-i-init invariant-loop decreases-loop
 unfolding order

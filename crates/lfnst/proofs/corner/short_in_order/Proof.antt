@@ -1,9 +1,9 @@
 -- `short_in_order` meets its contract: the coefficients before i are read, and are the same in 16 bits. Assumes nothing.
 use borrow.Author.Rules.{rules}
 use native.Mathlib.Omega.{arith}
-use mathlib.Core.Path.{◌≡◌, ap, ◌∙◌, subst}
-use Prim.Native.Nat.{ℕ, ◌+◌, ◌*◌, ◌-◌, ◌≤◌, ◌<◌}
-use mir.Syntax.{w16, w32}
+use mathlib.Core.Path.{◌∙◌}
+use Prim.Native.Nat.{◌+◌, ◌*◌, ◌-◌, ◌≤◌}
+use mir.Syntax.{w32}
 use Rattle.algebra.specs.Lists.{at}
 use Rattle.algebra.proofs.Lists.{Filled, fill_none, fill-first, filled-to}
 use Rattle.algebra.proofs.Word.{arg, cast_v!, cast-fits! }
@@ -16,7 +16,7 @@ abbrev invariant-loop : tie.invariant-loop-i
 invariant-loop corner u₀ order i₀ u i = (i ≤ 16) × (Filled 0 i u u₀ (input (λ x y. at corner (x + 4 * y))) × Ordered order)
 
 abbrev decreases-loop : tie.decreases-loop-i
-decreases-loop corner u₀ order i₀ u i = 16 - i
+decreases-loop corner u₀ _ i₀ u i = 16 - i
 
 loop-holds : tie.Need-loop-i-init invariant-loop decreases-loop
 unfolding order
@@ -37,7 +37,7 @@ element-copy-out-u c = omega (arith, in-corner c.before.loop-i.invariant.1.1 c.b
 cast-u : tie.Need-overflow_cast-u invariant-loop decreases-loop
 cast-u c =
     let L = c.before.before in
-    cast-fits! (arg (record { sfits = c.u-1.given })) (L.before.requires.1.1 _ (in-corner L.loop-i.invariant.1.1 L.loop-i.i c.before.loop-i-test.true))
+    cast-fits! {w = w32} (arg (record { sfits = c.u-1.given })) (L.before.requires.1.1 _ (in-corner L.loop-i.invariant.1.1 L.loop-i.i c.before.loop-i-test.true))
 
 mul-t16 : tie.Need-offset_bounds-u-i invariant-loop decreases-loop
 mul-t16 c = search rules
@@ -59,7 +59,7 @@ loop-again c =
       omega arith,
       (
         fill-first _ (omega (arith, s.requires.1.0, I.loop-i-test.true)) L.loop-i.invariant.1.0
-            ((cast_v! (arg (record { sfits = c.u-1.given })) (s.requires.1.1 _ (in-corner L.loop-i.invariant.1.1 L.loop-i.i I.loop-i-test.true))).val ∙ reads L.loop-i.invariant.1.1 L.loop-i.i I.loop-i-test.true s.args.corner.now),
+            ((cast_v! {w = w32} (arg (record { sfits = c.u-1.given })) (s.requires.1.1 _ (in-corner L.loop-i.invariant.1.1 L.loop-i.i I.loop-i-test.true))).val ∙ reads L.loop-i.invariant.1.1 L.loop-i.i I.loop-i-test.true s.args.corner.now),
         L.loop-i.invariant.1.1,
       ),
     )

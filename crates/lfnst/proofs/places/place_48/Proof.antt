@@ -1,11 +1,9 @@
 -- `place_48` meets its contract: the rows before y are done. Assumes nothing.
 use borrow.Author.Rules.{rules}
 use native.Mathlib.Omega.{arith}
-use mathlib.Core.Path.{◌≡◌}
-use mathlib.Core.Bool.{true, false}
-use Prim.Native.Nat.{◌+◌, ◌*◌, ◌-◌, ◌≤◌, ◌<◌}
+use mathlib.Core.Bool.{true}
+use Prim.Native.Nat.{◌*◌, ◌-◌, ◌≤◌}
 use native.Mathlib.Nat.{mul-le-mul_right}
-use lib.ListN.{length}
 use Rattle.algebra.specs.Lists.{at}
 use Rattle.kernel_steps.specs.Written.{Spread}
 use Rattle.kernel_steps.proofs.Writing.{spread_none, spread-to}

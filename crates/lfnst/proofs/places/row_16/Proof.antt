@@ -1,7 +1,5 @@
 -- `row_16` meets its contract: four values, one after another or every fourth. Assumes nothing.
-use borrow.Author.Rules.{rules}
 use native.Mathlib.Omega.{arith}
-use mathlib.Core.Bool.{true, false}
 use Rattle.lfnst.proofs.Placing.{wrote_as, straight-16, turned-16}
 use Rattle.lfnst.proofs.places.row_16.Statement.{statement}
 use Rattle.lfnst.proofs.places.row_16.Tie as tie

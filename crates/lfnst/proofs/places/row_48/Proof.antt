@@ -1,6 +1,4 @@
 -- `row_48` meets its contract. Assumes nothing.
-use borrow.Author.Rules.{rules}
-use native.Mathlib.Omega.{arith}
 use Rattle.lfnst.proofs.places.row_48.Statement.{statement}
 use Rattle.lfnst.proofs.places.row_48.Tie as tie
 

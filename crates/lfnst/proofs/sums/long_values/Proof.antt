@@ -1,5 +1,4 @@
 -- `long_values` meets its contract: the inputs in order, and the matrix that is as wide as asked for. Assumes nothing.
-use borrow.Author.Rules.{rules}
 use native.Mathlib.Omega.{arith}
 use mathlib.Core.Path.{refl, sym, subst}
 use Rattle.lfnst.specs.Work.{Ranged}

@@ -1,7 +1,5 @@
 -- `values` meets its contract: by 16-bit numbers where R is 15. Assumes nothing.
-use borrow.Author.Rules.{rules}
-use native.Mathlib.Omega.{arith}
-use mathlib.Core.Path.{◌≡◌, sym, subst}
+use mathlib.Core.Path.{subst}
 use Prim.Native.Nat.{ℕ}
 use Rattle.lfnst.specs.Work.{Ranged}
 use Rattle.lfnst.proofs.sums.values.Statement.{statement}

@@ -2,10 +2,10 @@
 use borrow.Author.Rules.{rules}
 use native.Mathlib.Omega.{arith}
 use mathlib.Core.Path.{◌≡◌, refl, sym, ap, ◌∙◌, subst}
-use Prim.Native.Nat.{◌+◌, ◌-◌, ◌≤◌, ◌<◌}
+use Prim.Native.Nat.{◌-◌, ◌≤◌, ◌<◌}
 use lib.Dec.{lit<}
 use lib.ListN.{length}
-use lib.IntN.{ℤ, pos, nat_abs}
+use lib.IntN.{ℤ, nat_abs}
 use mir.Syntax.{w32, w64}
 use mir.Val.{SFits, to_z, of_z}
 use mir.ValLaws.{to_z-of_z}
@@ -14,7 +14,6 @@ use Rattle.algebra.specs.Lists.{at}
 use Rattle.algebra.proofs.Word.{arg, cast_v, cast_fits}
 use Rattle.meaning.specs.Plan.{range_of}
 use Rattle.meaning.specs.Inverse.{middle, rounded}
-use Rattle.product.specs.Product.{shifted}
 use Rattle.kernel_steps.specs.Written.{WroteFrom}
 use Rattle.kernel_steps.proofs.Writing.{wrote_none, wrote_at, wrote-to}
 use Rattle.lfnst_tables.proofs.lines.finish.Statement.{statement}

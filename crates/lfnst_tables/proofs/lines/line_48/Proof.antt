@@ -1,5 +1,4 @@
 -- `line_48` meets its contract: the sums by as many pairs as there are, each made a value. Assumes nothing.
-use borrow.Author.Rules.{rules}
 use native.Mathlib.Omega.{arith}
 use mathlib.Core.Path.{◌∙◌}
 use Rattle.lfnst_tables.proofs.Lined.{not-four, some-given, small_line, line-done}

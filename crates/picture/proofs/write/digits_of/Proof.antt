@@ -18,11 +18,11 @@ two : (n : ℕ) → is_size n ≡ true → 10 ≤ n → 2 ≡ length (decimal n)
 unfolding digits decimal
 two = size-cases (λ n. 10 ≤ n → 2 ≡ length (decimal n)) (λ h. absurd (omega arith)) (λ h. absurd (omega arith)) (λ h. refl) (λ h. refl)
 
-returns : tie.Need-returns
-returns c = (one c.before.args.n c.before.requires c.if1.true, omega arith)
+returns : tie.Need-returns-then-n-lt10
+returns c = (one c.before.args.n c.before.requires c.if-n-lt10.true, omega arith)
 
-returns-2 : tie.Need-returns-2
-returns-2 c = (two c.before.args.n c.before.requires c.if1.false, omega arith)
+returns-2 : tie.Need-returns-else-n-lt10
+returns-2 c = (two c.before.args.n c.before.requires c.if-n-lt10.false, omega arith)
 
-pub digits-of-spec : {M : Type 1} → statement M
-digits-of-spec = tie.close (tie.spec returns returns-2)
+pub digits_of_spec : {M : Type 1} → statement M
+digits_of_spec = tie.close (tie.spec returns returns-2)

@@ -15,55 +15,55 @@ use native.Mathlib.Omega.{arith}
 use Rattle.picture_samples.proofs.put.any_beyond.Statement.{statement}
 use Rattle.picture_samples.proofs.put.any_beyond.Tie as tie
 
-abbrev invariant-loop : tie.invariant-loop
+abbrev invariant-loop : tie.invariant-loop-i
 invariant-loop residuals i₀ i = (i ≤ length residuals) × (any_beyond (drop i residuals) ≡ any_beyond residuals)
 
-abbrev decreases-loop : tie.decreases-loop
+abbrev decreases-loop : tie.decreases-loop-i
 decreases-loop residuals i₀ i = length residuals - i
 
 -- what the test said of the residual
-tested : (c : tie.After-is-beyond invariant-loop decreases-loop) (b : Bool) → c.is-beyond.result ≡ b → beyond short_range (get_or c.before.before.before.before.args.residuals.now c.before.before.before.loop.i (pos 0)) ≡ b
-tested c b e = rw (← to_z-of_z w32 (get_or c.before.before.before.before.args.residuals.now c.before.before.before.loop.i (pos 0)) (record { sfits = c.before.is-beyond-arg.given })) (sym c.is-beyond.ensures ∙ e)
+tested : (c : tie.After-is_beyond invariant-loop decreases-loop) (b : Bool) → c.is_beyond.result ≡ b → beyond short_range (get_or c.before.before.before.before.args.residuals.now c.before.before.before.loop-i.i (pos 0)) ≡ b
+tested c b e = rw (← to_z-of_z w32 (get_or c.before.before.before.before.args.residuals.now c.before.before.before.loop-i.i (pos 0)) (record { sfits = c.before.is_beyond-arg-1.given })) (sym c.is_beyond.ensures ∙ e)
 
-loop-holds : tie.Need-loop-init invariant-loop decreases-loop
+loop-holds : tie.Need-loop-i-init invariant-loop decreases-loop
 loop-holds c = (search rules, refl)
 
-mul-is-beyond : tie.Need-overflow-mul-is-beyond invariant-loop decreases-loop
+mul-is-beyond : tie.Need-offset_bounds-residuals-i invariant-loop decreases-loop
 mul-is-beyond c = search rules
 
-shared-slice-copy-out-is-beyond : tie.Need-shared-slice-copy-out-is-beyond invariant-loop decreases-loop
+shared-slice-copy-out-is-beyond : tie.Need-bounds-residuals-i invariant-loop decreases-loop
 shared-slice-copy-out-is-beyond c = search rules
 
-is-beyond-requires : tie.Need-is-beyond-requires invariant-loop decreases-loop
+is-beyond-requires : tie.Need-is_beyond-requires invariant-loop decreases-loop
 is-beyond-requires c κs = search rules
 
-returns : tie.Need-returns invariant-loop decreases-loop
+returns : tie.Need-returns-then-is_beyond invariant-loop decreases-loop
 returns c =
     let zs = c.before.before.before.before.before.args.residuals.now in
-    let l = c.before.before.before.before.loop in
-    sym (sym l.invariant.1 ∙ any-beyond zs l.i true (omega arith) (tested c.before true c.if1.true))
+    let l = c.before.before.before.before.loop-i in
+    sym (sym l.invariant.1 ∙ any-beyond zs l.i true (omega arith) (tested c.before true c.if-is_beyond.true))
 
-add-i : tie.Need-overflow-add-i invariant-loop decreases-loop
+add-i : tie.Need-overflow_add-i invariant-loop decreases-loop
 add-i c = search rules
 
-loop-less : tie.Need-loop-smaller invariant-loop decreases-loop
+loop-less : tie.Need-loop-i-smaller invariant-loop decreases-loop
 loop-less c = search rules
 
-loop-again : tie.Need-loop-preserved invariant-loop decreases-loop
+loop-again : tie.Need-loop-i-preserved invariant-loop decreases-loop
 loop-again c =
     let zs = c.before.before.before.before.before.args.residuals.now in
-    let l = c.before.before.before.before.loop in
-    (search rules, sym (any-beyond zs l.i false (omega arith) (tested c.before false c.if1.false)) ∙ l.invariant.1)
+    let l = c.before.before.before.before.loop-i in
+    (search rules, sym (any-beyond zs l.i false (omega arith) (tested c.before false c.if-is_beyond.false)) ∙ l.invariant.1)
 
-returns-2 : tie.Need-returns-2 invariant-loop decreases-loop
+returns-2 : tie.Need-returns invariant-loop decreases-loop
 unfolding any_beyond
 returns-2 c =
     let zs = c.before.before.args.residuals.now in
-    let l = c.before.loop in
+    let l = c.before.loop-i in
     rw (← l.invariant.1, drop_of_length-le zs {i = l.i} (omega arith))
 
-pub any-beyond-spec : {M : Type 1} → statement M
-any-beyond-spec =
+pub any_beyond_spec : {M : Type 1} → statement M
+any_beyond_spec =
     tie.close
     (tie.spec
     invariant-loop

@@ -8,19 +8,19 @@ use Rattle.meaning.specs.Plan.{short_range}
 use Rattle.picture_samples.proofs.put.is_beyond.Statement.{statement}
 use Rattle.picture_samples.proofs.put.is_beyond.Tie as tie
 
-returns : tie.Need-returns
+returns : tie.Need-returns-then-z-ltminus32768
 unfolding short_range
 returns c =
     let s = c.before in
-    let below : lt_z s.args.z short_range.low ≡ true = rw (to_z-of_z w32 s.args.z s.ranges.z) at c.if1.true in
+    let below : lt_z s.args.z short_range.low ≡ true = rw (to_z-of_z w32 s.args.z s.ranges.z) at c.if-z-ltminus32768.true in
     rw below
 
-returns-2 : tie.Need-returns-2
+returns-2 : tie.Need-returns
 unfolding short_range
 returns-2 c =
     let s = c.before in
-    let not-below : lt_z s.args.z short_range.low ≡ false = rw (to_z-of_z w32 s.args.z s.ranges.z) at c.if1.false in
+    let not-below : lt_z s.args.z short_range.low ≡ false = rw (to_z-of_z w32 s.args.z s.ranges.z) at c.if-z-ltminus32768.false in
     rw (to_z-of_z w32 s.args.z s.ranges.z, not-below)
 
-pub is-beyond-spec : {M : Type 1} → statement M
-is-beyond-spec = tie.close (tie.spec returns returns-2)
+pub is_beyond_spec : {M : Type 1} → statement M
+is_beyond_spec = tie.close (tie.spec returns returns-2)

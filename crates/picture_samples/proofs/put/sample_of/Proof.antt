@@ -13,14 +13,14 @@ z c = arg≤ c.ranges.z (inside c.args.z c.requires).size
 abbrev sum : tie.Start → MV w32
 sum c = add (z c) (lit w32 32768) tt
 
-add-result : tie.Need-overflow-add-result
+add-result : tie.Need-overflow_add-result
 add-result c = add-fits (z c) (lit w32 32768) tt
 
-cast-result : tie.Need-overflow-cast-result
+cast-result : tie.Need-overflow_cast-result
 cast-result c = let i = inside c.args.z c.requires in rw (val (sum c)) (i.whole, record { fits = omega (arith, i.low) })
 
 returns : tie.Need-returns
 returns c = let i = inside c.args.z c.requires in rw (val (sum c)) (refl, i.low)
 
-pub sample-of-spec : {M : Type 1} → statement M
-sample-of-spec = tie.close (tie.spec add-result cast-result returns)
+pub sample_of_spec : {M : Type 1} → statement M
+sample_of_spec = tie.close (tie.spec add-result cast-result returns)

@@ -10,38 +10,38 @@ use native.Mathlib.Omega.{arith}
 use Rattle.salvage.proofs.saving.copy.Statement.{statement}
 use Rattle.salvage.proofs.saving.copy.Tie as tie
 
-abbrev invariant-loop : tie.invariant-loop
+abbrev invariant-loop : tie.invariant-loop-i
 invariant-loop part out₀ at p₀ i₀ out p i = (i ≤ length part) × (length out ≡ length out₀) × Wrote (take i part) i at out₀ out p
 
-abbrev decreases-loop : tie.decreases-loop
+abbrev decreases-loop : tie.decreases-loop-i
 decreases-loop part out₀ at p₀ i₀ out p i = length part - i
 
-loop-holds : tie.Need-loop-init invariant-loop decreases-loop
+loop-holds : tie.Need-loop-i-init invariant-loop decreases-loop
 loop-holds c = (search rules, refl, nothing 0 c.before.before.args.at c.before.before.args.out.now)
 
-shared-slice-read-put : tie.Need-shared-slice-read-put invariant-loop decreases-loop
+shared-slice-read-put : tie.Need-bounds-part-i invariant-loop decreases-loop
 shared-slice-read-put c = search rules
 
-put-requires : tie.Need-put-requires invariant-loop decreases-loop
+put-requires : tie.Need-put-p-requires invariant-loop decreases-loop
 put-requires c κs = search rules
 
-add-i : tie.Need-overflow-add-i invariant-loop decreases-loop
+add-i : tie.Need-overflow_add-i invariant-loop decreases-loop
 add-i c = search rules
 
-loop-less : tie.Need-loop-smaller invariant-loop decreases-loop
+loop-less : tie.Need-loop-i-smaller invariant-loop decreases-loop
 loop-less c = search rules
 
-loop-again : tie.Need-loop-preserved invariant-loop decreases-loop
+loop-again : tie.Need-loop-i-preserved invariant-loop decreases-loop
 loop-again c =
     let part = c.before.before.before.before.before.before.before.before.before.args.part.now in
-    let l = c.before.before.before.before.before.before.loop in
-    (search rules, search rules, copied_more part l.i (omega arith) l.invariant.2 c.before.before.put.ensures)
+    let l = c.before.before.before.before.before.before.loop-i in
+    (search rules, search rules, copied_more part l.i (omega arith) l.invariant.2 c.before.before.put-p.ensures)
 
-same_length : tie.Need-same-length invariant-loop decreases-loop
+same_length : tie.Need-shape_of-out invariant-loop decreases-loop
 same_length c = search rules
 
 returns : tie.Need-returns invariant-loop decreases-loop
-returns c = copied_all c.before.before.before.before.args.part.now c.before.loop.i (omega arith) c.before.loop.invariant.2
+returns c = copied_all c.before.before.before.before.args.part.now c.before.loop-i.i (omega arith) c.before.loop-i.invariant.2
 
 pub copy_spec : {M : Type 1} → statement M
 copy_spec =

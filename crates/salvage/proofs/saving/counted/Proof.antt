@@ -7,14 +7,14 @@ use borrow.Author.Rules.{rules}
 use Rattle.salvage.proofs.saving.counted.Statement.{statement}
 use Rattle.salvage.proofs.saving.counted.Tie as tie
 
-returns : tie.Need-returns
-returns c = omega (arith, ap length (not-dropped c.before.args.piece c.if1.true))
+returns : tie.Need-returns-then-piece
+returns c = omega (arith, ap length (not-dropped c.before.args.piece c.if-piece.true))
 
-add-result : tie.Need-overflow-add-result
+add-result : tie.Need-overflow_add-result
 add-result c = search rules
 
-returns-2 : tie.Need-returns-2
-returns-2 c = omega (arith, ap length (is-dropped c.before.args.piece c.if1.false))
+returns-2 : tie.Need-returns
+returns-2 c = omega (arith, ap length (is-dropped c.before.args.piece c.if-piece.false))
 
 pub counted_spec : {M : Type 1} → statement M
 counted_spec = tie.close (tie.spec returns add-result returns-2)

@@ -11,51 +11,51 @@ use native.Mathlib.Omega.{arith}
 use Rattle.salvage.proofs.saving.put_kept.Statement.{statement}
 use Rattle.salvage.proofs.saving.put_kept.Tie as tie
 
-abbrev invariant-loop : tie.invariant-loop
+abbrev invariant-loop : tie.invariant-loop-cursor
 invariant-loop file out₀ cursor₀ p₀ out cursor p = Writing (written file) (rest (kept_of file) file cursor) out₀ out p × (cursor.at ≤ length file)
 
-abbrev decreases-loop : tie.decreases-loop
+abbrev decreases-loop : tie.decreases-loop-cursor
 decreases-loop file out₀ cursor₀ p₀ out cursor p = length file - cursor.at
 
-new-requires : tie.Need-new-requires invariant-loop decreases-loop
+new-requires : tie.Need-new-cursor-requires invariant-loop decreases-loop
 new-requires c κs = search rules
 
-loop-holds : tie.Need-loop-init invariant-loop decreases-loop
+loop-holds : tie.Need-loop-cursor-init invariant-loop decreases-loop
 loop-holds c =
     let s = c.before.before.before in
     let file = s.args.file.now in
-    (begun (kept_of file) file _ s.args.out.now c.new.ensures, omega (arith, ap (λ (k : Cursor). k.at) c.new.ensures))
+    (begun (kept_of file) file _ s.args.out.now c.new-cursor.ensures, omega (arith, ap (λ (k : Cursor). k.at) c.new-cursor.ensures))
 
-piece-at-requires : tie.Need-piece-at-requires invariant-loop decreases-loop
+piece-at-requires : tie.Need-piece_at-found-requires invariant-loop decreases-loop
 piece-at-requires c κs = search rules
 
-keep-requires : tie.Need-keep-requires invariant-loop decreases-loop
+keep-requires : tie.Need-keep-p-requires invariant-loop decreases-loop
 keep-requires c κs =
-    let f = c.before.piece-at in
-    let l = c.before.before.before.before.loop in
+    let f = c.before.piece_at-found in
+    let l = c.before.before.before.before.loop-cursor in
     let s = c.before.before.before.before.before.before.before.before in
     let file = s.args.file.now in
-    let h = c.before.before.if1.true in
+    let h = c.before.before.loop-cursor-test.true in
     let m = count-more (kept_of file) file l.cursor f.result.piece f.result.next h f.ensures.0 f.ensures.1.0 in
     (omega (arith, within file l.cursor f.result.piece h f.ensures.0, s.requires), omega (arith, m, l.invariant.0.count, l.invariant.0.long, written-short file, s.requires))
 
-loop-less : tie.Need-loop-smaller invariant-loop decreases-loop
+loop-less : tie.Need-loop-cursor-smaller invariant-loop decreases-loop
 loop-less c = search rules
 
-loop-again : tie.Need-loop-preserved invariant-loop decreases-loop
+loop-again : tie.Need-loop-cursor-preserved invariant-loop decreases-loop
 loop-again c =
-    let f = c.before.before.before.before.before.piece-at in
-    let l = c.before.before.before.before.before.before.before.before.loop in
-    (written-more (kept_of c.before.before.before.before.before.before.before.before.before.before.before.before.args.file.now) c.before.before.before.before.before.before.before.before.before.before.before.before.args.file.now l.cursor f.result.piece f.result.next c.before.before.before.before.before.before.if1.true f.ensures.0 f.ensures.1.0 l.invariant.0 c.before.before.before.keep.ensures (search rules), f.ensures.1.1.1)
+    let f = c.before.before.before.before.before.piece_at-found in
+    let l = c.before.before.before.before.before.before.before.before.loop-cursor in
+    (written-more (kept_of c.before.before.before.before.before.before.before.before.before.before.before.before.args.file.now) c.before.before.before.before.before.before.before.before.before.before.before.before.args.file.now l.cursor f.result.piece f.result.next c.before.before.before.before.before.before.loop-cursor-test.true f.ensures.0 f.ensures.1.0 l.invariant.0 c.before.before.before.keep-p.ensures (search rules), f.ensures.1.1.1)
 
-same_length : tie.Need-same-length invariant-loop decreases-loop
-same_length c = c.before.before.loop.invariant.0.long
+same_length : tie.Need-shape_of-out invariant-loop decreases-loop
+same_length c = c.before.before.loop-cursor.invariant.0.long
 
 returns : tie.Need-returns invariant-loop decreases-loop
-returns c = ended (kept_of c.before.before.before.before.before.before.args.file.now) c.before.before.before.before.before.before.args.file.now c.before.before.loop.cursor c.if1.false c.before.before.loop.invariant.0
+returns c = ended (kept_of c.before.before.before.before.before.before.args.file.now) c.before.before.before.before.before.before.args.file.now c.before.before.loop-cursor.cursor c.loop-cursor-test.false c.before.before.loop-cursor.invariant.0
 
-pub put-kept-spec : {M : Type 1} → statement M
-put-kept-spec =
+pub put_kept_spec : {M : Type 1} → statement M
+put_kept_spec =
     tie.close
     (tie.spec
     invariant-loop

@@ -5,25 +5,25 @@ use borrow.Author.Rules.{rules}
 use Rattle.salvage.proofs.search.goes_on.Statement.{statement}
 use Rattle.salvage.proofs.search.goes_on.Tie as tie
 
-new-requires : tie.Need-new-requires
+new-requires : tie.Need-new-start-requires
 new-requires c κs = search rules
 
-advance-requires : tie.Need-advance-requires
+advance-requires : tie.Need-advance-first-requires
 advance-requires c κs = search rules
 
-returns : tie.Need-returns
+returns : tie.Need-returns-then-first-ne1
 returns c =
     let s = c.before.before.before.before.before.before in
-    goes-on-so s.args.file.now s.args.at _ _ c.before.before.before.before.new.ensures c.before.before.advance.ensures (rw (ne_eqb _ 1 c.if1.true))
+    goes-on-so s.args.file.now s.args.at _ _ c.before.before.before.before.new-start.ensures c.before.before.advance-first.ensures (rw (ne_eqb _ 1 c.if-first-ne1.true))
 
-data-follows-requires : tie.Need-data-follows-requires
+data-follows-requires : tie.Need-data_follows-requires
 data-follows-requires c κs = search rules
 
-returns-2 : tie.Need-returns-2
+returns-2 : tie.Need-returns
 returns-2 c =
     let s = c.before.before.before.before.before.before.before in
-    goes-on-so s.args.file.now s.args.at _ _ c.before.before.before.before.before.new.ensures c.before.before.before.advance.ensures (rw (eq-eqb _ 1 c.before.if1.false) c.data-follows.ensures)
+    goes-on-so s.args.file.now s.args.at _ _ c.before.before.before.before.before.new-start.ensures c.before.before.before.advance-first.ensures (rw (eq-eqb _ 1 c.before.if-first-ne1.false) c.data_follows.ensures)
 
-pub goes-on-spec : {M : Type 1} → statement M
-goes-on-spec =
+pub goes_on_spec : {M : Type 1} → statement M
+goes_on_spec =
     tie.close (tie.spec new-requires advance-requires returns data-follows-requires returns-2)

@@ -17,7 +17,7 @@ pair-requires c κs = (weighs (pos 64) c.args.a (omega arith) c.ranges.a, weighs
 value : (c : tie.After-pair) → let s = c.before in to_z w32 (of_z w32 c.pair.result) ≡ pos 64 *ℤ s.args.a +ℤ negsuc 63 *ℤ s.args.b
 value c =
     let s = c.before in
-    to_z-of_z w32 c.pair.result (record { sfits = c.pair.type-inv }) ∙ c.pair.ensures
+    to_z-of_z w32 c.pair.result (record { sfits = c.pair.type_inv }) ∙ c.pair.ensures
     ∙ (λ i. pos 64 *ℤ to_z-of_z w16 s.args.a s.ranges.a i +ℤ negsuc 63 *ℤ to_z-of_z w16 s.args.b s.ranges.b i)
 
 round-requires : tie.Need-round-requires
@@ -30,7 +30,7 @@ round-requires c κs =
 returns : tie.Need-returns
 returns c =
     let s = c.before.before in
-    to_z-of_z w32 c.round.result (record { sfits = c.round.type-inv }) ∙ c.round.ensures ∙ (λ i. shifted (to_z-of_z w32 s.args.half s.ranges.half i) s.args.shift (value c.before i))
+    to_z-of_z w32 c.round.result (record { sfits = c.round.type_inv }) ∙ c.round.ensures ∙ (λ i. shifted (to_z-of_z w32 s.args.half s.ranges.half i) s.args.shift (value c.before i))
 
-pub difference-of-spec : {M : Type 1} → statement M
-difference-of-spec = tie.close (tie.spec pair-requires round-requires returns)
+pub difference_of_spec : {M : Type 1} → statement M
+difference_of_spec = tie.close (tie.spec pair-requires round-requires returns)

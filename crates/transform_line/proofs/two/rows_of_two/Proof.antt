@@ -15,108 +15,108 @@ use Rattle.transform_line.proofs.Points.{TwoDone, two_none, two-next, two-all, s
 use Rattle.transform_line.proofs.two.rows_of_two.Statement.{statement}
 use Rattle.transform_line.proofs.two.rows_of_two.Tie as tie
 
-abbrev invariant-loop : tie.invariant-loop
+abbrev invariant-loop : tie.invariant-loop-y
 invariant-loop z step apart h half shift out₀ y₀ out y = (y ≤ h) × TwoDone (two_at z step apart (to_z w32 half) shift) y out out₀
 
-abbrev decreases-loop : tie.decreases-loop
+abbrev decreases-loop : tie.decreases-loop-y
 decreases-loop z step apart h half shift out₀ y₀ out y = h - y
 
-here : (c : tie.In-loop invariant-loop decreases-loop) → let s = c.before.before.args in c.before.loop.y * s.step + s.apart < length s.z.now
-here c = c.before.before.requires.there c.before.loop.y c.loop-test.true
+here : (c : tie.In-loop-y invariant-loop decreases-loop) → let s = c.before.before.args in c.before.loop-y.y * s.step + s.apart < length s.z.now
+here c = c.before.before.requires.there c.before.loop-y.y c.loop-y-test.true
 
-room : (c : tie.In-loop invariant-loop decreases-loop) → 2 * c.before.loop.y + 1 < length c.before.before.args.out.now
-room c = omega (arith, c.before.before.requires.room, c.loop-test.true)
+room : (c : tie.In-loop-y invariant-loop decreases-loop) → 2 * c.before.loop-y.y + 1 < length c.before.before.args.out.now
+room c = omega (arith, c.before.before.requires.room, c.loop-y-test.true)
 
-loop-holds : tie.Need-loop-init invariant-loop decreases-loop
+loop-holds : tie.Need-loop-y-init invariant-loop decreases-loop
 loop-holds c = (omega arith, two_none _ _)
 
-mul-a : tie.Need-overflow-mul-a invariant-loop decreases-loop
+mul-a : tie.Need-overflow_mul-a invariant-loop decreases-loop
 mul-a c = omega (arith, here c)
 
-mul-a-2 : tie.Need-overflow-mul-a-2 invariant-loop decreases-loop
+mul-a-2 : tie.Need-offset_bounds-z-y invariant-loop decreases-loop
 mul-a-2 c = omega (arith, here c)
 
-shared-slice-copy-out-a : tie.Need-shared-slice-copy-out-a invariant-loop decreases-loop
+shared-slice-copy-out-a : tie.Need-bounds-z-y invariant-loop decreases-loop
 shared-slice-copy-out-a c = omega (arith, here c)
 
-mul-b : tie.Need-overflow-mul-b invariant-loop decreases-loop
+mul-b : tie.Need-overflow_mul-b invariant-loop decreases-loop
 mul-b c = omega (arith, here c.before)
 
-add-b : tie.Need-overflow-add-b invariant-loop decreases-loop
+add-b : tie.Need-overflow_add-b invariant-loop decreases-loop
 add-b c = omega (arith, here c.before)
 
-mul-b-2 : tie.Need-overflow-mul-b-2 invariant-loop decreases-loop
+mul-b-2 : tie.Need-offset_bounds-z-y-in-loop-y invariant-loop decreases-loop
 mul-b-2 c = omega (arith, here c.before)
 
-shared-slice-copy-out-b : tie.Need-shared-slice-copy-out-b invariant-loop decreases-loop
+shared-slice-copy-out-b : tie.Need-bounds-z-y-in-loop-y invariant-loop decreases-loop
 shared-slice-copy-out-b c = omega (arith, here c.before)
 
 rounding : (s : tie.Start invariant-loop decreases-loop) → Rounding (to_z w32 (of_z w32 s.args.half)) s.args.shift
 rounding s = subst (λ (z : ℤ). Rounding z s.args.shift) (sym (to_z-of_z w32 s.args.half s.ranges.half)) s.requires.rounding
 
-sum-of-requires : tie.Need-sum-of-requires invariant-loop decreases-loop
+sum-of-requires : tie.Need-sum_of-requires invariant-loop decreases-loop
 sum-of-requires c κs = rounding c.before.before.before.before
 
-mul-out : tie.Need-overflow-mul-out invariant-loop decreases-loop
+mul-out : tie.Need-overflow_mul-out invariant-loop decreases-loop
 mul-out c = omega (arith, room c.before.before.before)
 
-mul-out-2 : tie.Need-overflow-mul-out-2 invariant-loop decreases-loop
+mul-out-2 : tie.Need-offset_bounds-out-y invariant-loop decreases-loop
 mul-out-2 c = omega (arith, room c.before.before.before)
 
-slice-set-from-out : tie.Need-slice-set-from-out invariant-loop decreases-loop
-slice-set-from-out c = let L = c.before.before.before.before in omega (arith, room c.before.before.before, L.loop.invariant.1.long)
+slice-set-from-out : tie.Need-bounds-out-y invariant-loop decreases-loop
+slice-set-from-out c = let L = c.before.before.before.before in omega (arith, room c.before.before.before, L.loop-y.invariant.1.long)
 
-difference-of-requires : tie.Need-difference-of-requires invariant-loop decreases-loop
+difference-of-requires : tie.Need-difference_of-requires invariant-loop decreases-loop
 difference-of-requires c κs = rounding c.before.before.before.before.before
 
-mul-t16 : tie.Need-overflow-mul-t16 invariant-loop decreases-loop
+mul-t16 : tie.Need-overflow_mul-y invariant-loop decreases-loop
 mul-t16 c = omega (arith, room c.before.before.before.before)
 
-add-t12 : tie.Need-overflow-add-t12 invariant-loop decreases-loop
+add-t12 : tie.Need-overflow_add-y invariant-loop decreases-loop
 add-t12 c = omega (arith, room c.before.before.before.before)
 
-mul-t13 : tie.Need-overflow-mul-t13 invariant-loop decreases-loop
+mul-t13 : tie.Need-offset_bounds-out-y-in-loop-y invariant-loop decreases-loop
 mul-t13 c = omega (arith, room c.before.before.before.before)
 
-slice-set-from-out-2 : tie.Need-slice-set-from-out-2 invariant-loop decreases-loop
+slice-set-from-out-2 : tie.Need-bounds-out-y-in-loop-y invariant-loop decreases-loop
 slice-set-from-out-2 c =
     let L = c.before.before.before.before.before in
-    omega (arith, room c.before.before.before.before, L.loop.invariant.1.long, length-set L.loop.out (2 * L.loop.y) (to_z w32 (of_z w32 c.before.sum_of.result)))
+    omega (arith, room c.before.before.before.before, L.loop-y.invariant.1.long, length-set L.loop-y.out (2 * L.loop-y.y) (to_z w32 (of_z w32 c.before.sum_of.result)))
 
-add-y : tie.Need-overflow-add-y invariant-loop decreases-loop
+add-y : tie.Need-overflow_add-y-in-loop-y invariant-loop decreases-loop
 add-y c = search rules
 
-loop-less : tie.Need-loop-smaller invariant-loop decreases-loop
+loop-less : tie.Need-loop-y-smaller invariant-loop decreases-loop
 loop-less c = search rules
 
-loop-again : tie.Need-loop-preserved invariant-loop decreases-loop
+loop-again : tie.Need-loop-y-preserved invariant-loop decreases-loop
 loop-again c =
     let I = c.before.before.before.before in
     let L = I.before in
     let s = L.before in
     let z = s.args.z.now in
-    let y = L.loop.y in
+    let y = L.loop-y.y in
     let half = to_z w32 (of_z w32 s.args.half) in
-    let p = to_z-of_z w16 (at z (y * s.args.step)) (record { sfits = c.before.before.before.a.given }) in
-    let q = to_z-of_z w16 (at z (y * s.args.step + s.args.apart)) (record { sfits = c.before.before.b.given }) in (
-      omega (arith, I.loop-test.true),
-      two-next _ _ (room I) L.loop.invariant.1
-          (to_z-of_z w32 c.before.sum_of.result (record { sfits = c.before.sum_of.type-inv }) ∙ c.before.sum_of.ensures ∙ sum_is z s.args.step s.args.apart half s.args.shift y _ _ p q)
-          (to_z-of_z w32 c.difference-of.result (record { sfits = c.difference-of.type-inv }) ∙ c.difference-of.ensures ∙ difference-is z s.args.step s.args.apart half s.args.shift y _ _ p q),
+    let p = to_z-of_z w16 (at z (y * s.args.step)) (record { sfits = c.before.before.before.a-1.given }) in
+    let q = to_z-of_z w16 (at z (y * s.args.step + s.args.apart)) (record { sfits = c.before.before.b-1.given }) in (
+      omega (arith, I.loop-y-test.true),
+      two-next _ _ (room I) L.loop-y.invariant.1
+          (to_z-of_z w32 c.before.sum_of.result (record { sfits = c.before.sum_of.type_inv }) ∙ c.before.sum_of.ensures ∙ sum_is z s.args.step s.args.apart half s.args.shift y _ _ p q)
+          (to_z-of_z w32 c.difference_of.result (record { sfits = c.difference_of.type_inv }) ∙ c.difference_of.ensures ∙ difference-is z s.args.step s.args.apart half s.args.shift y _ _ p q),
     )
 
-same_length : tie.Need-same-length invariant-loop decreases-loop
-same_length c = c.before.loop.invariant.1.long
+same_length : tie.Need-shape_of-out invariant-loop decreases-loop
+same_length c = c.before.loop-y.invariant.1.long
 
 returns : tie.Need-returns invariant-loop decreases-loop
 returns c =
     let L = c.before in
     let s = L.before in
-    two-all s.args.h (omega (arith, L.loop.invariant.0, c.loop-test.false)) s.requires.room L.loop.invariant.1
+    two-all s.args.h (omega (arith, L.loop-y.invariant.0, c.loop-y-test.false)) s.requires.room L.loop-y.invariant.1
     ∙ ap (λ (z : ℤ). block 2 s.args.h (two_at s.args.z.now s.args.step s.args.apart z s.args.shift)) (to_z-of_z w32 s.args.half s.ranges.half)
 
-pub rows-of-two-spec : {M : Type 1} → statement M
-rows-of-two-spec =
+pub rows_of_two_spec : {M : Type 1} → statement M
+rows_of_two_spec =
     tie.close
     (tie.spec
     invariant-loop

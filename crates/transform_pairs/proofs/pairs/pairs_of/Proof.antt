@@ -24,21 +24,21 @@ sixteen : (k : ℕ) → 16 < k → 16 ≡ pairs_of k
 unfolding pairs_of
 sixteen k a = rw (lt-leb k 2 (omega arith), lt-leb k 4 (omega arith), lt-leb k 8 (omega arith), lt-leb k 16 a) refl
 
-returns : tie.Need-returns
+returns : tie.Need-returns-then-k-le2
 unfolding pairs_of
-returns c = rw (le-leb c.before.args.k 2 c.if1.true) refl
+returns c = rw (le-leb c.before.args.k 2 c.if-k-le2.true) refl
 
-returns-2 : tie.Need-returns-2
-returns-2 c = two _ c.before.if1.false c.if2.true
+returns-2 : tie.Need-returns-then-k-le4
+returns-2 c = two _ c.before.if-k-le2.false c.if-k-le4.true
 
-returns-3 : tie.Need-returns-3
-returns-3 c = four _ c.before.if2.false c.if3.true
+returns-3 : tie.Need-returns-then-k-le8
+returns-3 c = four _ c.before.if-k-le4.false c.if-k-le8.true
 
-returns-4 : tie.Need-returns-4
-returns-4 c = eight _ c.before.if3.false c.if4.true
+returns-4 : tie.Need-returns-then-k-le16
+returns-4 c = eight _ c.before.if-k-le8.false c.if-k-le16.true
 
-returns-5 : tie.Need-returns-5
-returns-5 c = sixteen _ c.if4.false
+returns-5 : tie.Need-returns
+returns-5 c = sixteen _ c.if-k-le16.false
 
-pub pairs-of-spec : {M : Type 1} → statement M
-pairs-of-spec = tie.close (tie.spec returns returns-2 returns-3 returns-4 returns-5)
+pub pairs_of_spec : {M : Type 1} → statement M
+pairs_of_spec = tie.close (tie.spec returns returns-2 returns-3 returns-4 returns-5)

@@ -46,39 +46,39 @@ width-in s = let a = s.args in whole.width-in a.w a.h a.horizontal a.vertical a.
 height-in : (s : tie.Start) → s.args.h ≤ 64
 height-in s = let a = s.args in whole.height-in a.w a.h a.horizontal a.vertical a.columns a.rows a.last a.numbers.now s.requires.0 a.high a.wide s.requires.1.0 s.requires.1.1
 
-mul-broad : tie.Need-overflow-mul-broad
+mul-broad : tie.Need-overflow_mul-broad
 mul-broad c = omega (arith, broad-few c)
 
-mul-apart : tie.Need-overflow-mul-apart
+mul-apart : tie.Need-overflow_mul-apart
 mul-apart c = omega (arith, broad-few c)
 
-mul-tall : tie.Need-overflow-mul-tall
+mul-tall : tie.Need-overflow_mul-tall
 mul-tall c = omega (arith, height-in c)
 
-mul-full : tie.Need-overflow-mul-full
+mul-full : tie.Need-overflow_mul-full
 mul-full c = omega (arith, width-in c)
 
-mul-elements : tie.Need-overflow-mul-elements
+mul-elements : tie.Need-overflow_mul-elements
 mul-elements c = omega (arith, (fits c).between)
 
-slice-aggregate-narrow : tie.Need-slice-aggregate-narrow
+slice-aggregate-narrow : tie.Need-slice_bounds-narrow-end
 slice-aggregate-narrow c = search rules
 
 narrow-requires : tie.Need-narrow-requires
-narrow-requires c κs = let s = c.before.before in let a = s.args in whole.narrow-given a.w a.h a.horizontal a.vertical a.columns a.rows a.last a.numbers.now s.requires.0 a.high a.wide s.requires.1.0 s.requires.1.1 (whole.tiled a.w a.h a.horizontal a.vertical a.columns a.rows a.last a.numbers.now s.requires.0 a.high a.wide s.requires.1.0 s.requires.1.1) refl (zeros-at 1024)
+narrow-requires c κs = let s = c.before in let a = s.args in whole.narrow-given a.w a.h a.horizontal a.vertical a.columns a.rows a.last a.numbers.now s.requires.0 a.high a.wide s.requires.1.0 s.requires.1.1 (whole.tiled a.w a.h a.horizontal a.vertical a.columns a.rows a.last a.numbers.now s.requires.0 a.high a.wide s.requires.1.0 s.requires.1.1) refl (zeros-at 1024)
 
 -- what is read, narrowed
 abbrev begin : tie.After-narrow → tie.Start
-begin c = c.before.before.before
+begin c = c.before.before
 
-slice-aggregate-zip : tie.Need-slice-aggregate-zip
+slice-aggregate-zip : tie.Need-slice_bounds-zip-end
 slice-aggregate-zip c = sym c.before.before.narrow.ensures.long
 
-slice-aggregate-zip-2 : tie.Need-slice-aggregate-zip-2
+slice-aggregate-zip-2 : tie.Need-slice_bounds-zip-end-2
 slice-aggregate-zip-2 c = search rules
 
 zip-requires : tie.Need-zip-requires
-zip-requires c κs = let N = c.before.before.before in let s = begin N in let a = s.args in whole.zip-given a.w a.h a.horizontal a.vertical a.columns a.rows a.last a.numbers.now s.pre.0 a.high a.wide s.pre.1.0 s.pre.1.1 (whole.tiled a.w a.h a.horizontal a.vertical a.columns a.rows a.last a.numbers.now s.pre.0 a.high a.wide s.pre.1.0 s.pre.1.1) (omega arith) N.narrow.ensures.long refl
+zip-requires c κs = let N = c.before.before.before in let s = begin N in let a = s.args in whole.zip-given a.w a.h a.horizontal a.vertical a.columns a.rows a.last a.numbers.now s.requires.0 a.high a.wide s.requires.1.0 s.requires.1.1 (whole.tiled a.w a.h a.horizontal a.vertical a.columns a.rows a.last a.numbers.now s.requires.0 a.high a.wide s.requires.1.0 s.requires.1.1) (omega arith) N.narrow.ensures.long refl
 
 weights-requires : tie.Need-weights-requires
 weights-requires c κs = let N = c.before.before.before.before.before.before.before in ((begin N).requires.0.sized.down, (N.narrow.ensures.long, refl))
@@ -91,7 +91,7 @@ abbrev laid : After → tie.After-narrow
 laid c = c.before.before.before.before.before.before.before.before
 
 abbrev zipped : After → List ℤ
-zipped c = c.before.before.before.before.zip.new.1.1.1.1.0
+zipped c = c.before.before.before.before.zip.new.z
 
 zipped-long : (c : After) → length (zipped c) ≡ 2048
 zipped-long c = let e : 2048 ≡ length (zipped c) = search rules in sym e
@@ -104,8 +104,8 @@ down c =
     let s = of c in
     let a = s.args in
     record {
-      weights = whole.down-weights a.w a.h a.horizontal a.vertical a.columns a.rows a.last a.numbers.now s.pre.0 a.high a.wide s.pre.1.0 s.pre.1.1 c.weights.ensures.1.1;
-      zipped = whole.zipped a.w a.h a.horizontal a.vertical a.columns a.rows a.last a.numbers.now s.pre.0 a.high a.wide s.pre.1.0 s.pre.1.1 (laid c).narrow.ensures c.before.before.before.before.zip.ensures;
+      weights = whole.down-weights a.w a.h a.horizontal a.vertical a.columns a.rows a.last a.numbers.now s.requires.0 a.high a.wide s.requires.1.0 s.requires.1.1 c.weights.ensures.1.1;
+      zipped = whole.zipped a.w a.h a.horizontal a.vertical a.columns a.rows a.last a.numbers.now s.requires.0 a.high a.wide s.requires.1.0 s.requires.1.1 (laid c).narrow.ensures c.before.before.before.before.zip.ensures;
     }
 
 -- the last of the branches
@@ -115,53 +115,53 @@ last-rows c p q r t = let e = (of c).requires.1.0 in e ∙ sixteen-pairs (of c).
 last-columns : (c : After) → (wide (of c) ≡ 1 → ⊥) → (wide (of c) ≡ 2 → ⊥) → (wide (of c) ≡ 4 → ⊥) → (wide (of c) ≡ 8 → ⊥) → wide (of c) ≡ 16
 last-columns c p q r t = let e = (of c).requires.1.1 in e ∙ sixteen-pairs (of c).args.columns (λ k. p (e ∙ k)) (λ k. q (e ∙ k)) (λ k. r (e ∙ k)) (λ k. t (e ∙ k))
 
-slice-aggregate-lines : tie.Need-slice-aggregate-lines
+slice-aggregate-lines : tie.Need-slice_bounds-lines-end
 slice-aggregate-lines c = sym c.before.before.weights.ensures.1.0
 
-slice-aggregate-lines-2 : tie.Need-slice-aggregate-lines-2
+slice-aggregate-lines-2 : tie.Need-slice_bounds-lines-end-then-high-eq1
 slice-aggregate-lines-2 c = sym (zipped-long c.before.before.before)
 
 lines-requires : tie.Need-lines-requires
-lines-requires c κs = let I = c.before.before.before in let W = I.before in down-asks (down W) 1 (omega (arith, I.if1.true))
+lines-requires c κs = let I = c.before.before.before in let W = I.before in down-asks (down W) 1 (omega (arith, I.if-high-eq1.true))
 
-slice-aggregate-lines-3 : tie.Need-slice-aggregate-lines-3
+slice-aggregate-lines-3 : tie.Need-slice_bounds-lines-end-then-high-eq2
 slice-aggregate-lines-3 c = sym c.before.before.before.weights.ensures.1.0
 
-slice-aggregate-lines-4 : tie.Need-slice-aggregate-lines-4
+slice-aggregate-lines-4 : tie.Need-slice_bounds-lines-end-then-high-eq2-2
 slice-aggregate-lines-4 c = sym (zipped-long c.before.before.before.before)
 
-lines-requires-2 : tie.Need-lines-requires-2
-lines-requires-2 c κs = let I = c.before.before.before in let W = I.before.before in down-asks (down W) 2 (omega (arith, I.if2.true))
+lines-requires-2 : tie.Need-lines-requires-then-high-eq2
+lines-requires-2 c κs = let I = c.before.before.before in let W = I.before.before in down-asks (down W) 2 (omega (arith, I.if-high-eq2.true))
 
-slice-aggregate-lines-5 : tie.Need-slice-aggregate-lines-5
+slice-aggregate-lines-5 : tie.Need-slice_bounds-lines-end-then-high-eq4
 slice-aggregate-lines-5 c = sym c.before.before.before.before.weights.ensures.1.0
 
-slice-aggregate-lines-6 : tie.Need-slice-aggregate-lines-6
+slice-aggregate-lines-6 : tie.Need-slice_bounds-lines-end-then-high-eq4-2
 slice-aggregate-lines-6 c = sym (zipped-long c.before.before.before.before.before)
 
-lines-requires-3 : tie.Need-lines-requires-3
-lines-requires-3 c κs = let I = c.before.before.before in let W = I.before.before.before in down-asks (down W) 4 (omega (arith, I.if3.true))
+lines-requires-3 : tie.Need-lines-requires-then-high-eq4
+lines-requires-3 c κs = let I = c.before.before.before in let W = I.before.before.before in down-asks (down W) 4 (omega (arith, I.if-high-eq4.true))
 
-slice-aggregate-lines-7 : tie.Need-slice-aggregate-lines-7
+slice-aggregate-lines-7 : tie.Need-slice_bounds-lines-end-then-high-eq8
 slice-aggregate-lines-7 c = sym c.before.before.before.before.before.weights.ensures.1.0
 
-slice-aggregate-lines-8 : tie.Need-slice-aggregate-lines-8
+slice-aggregate-lines-8 : tie.Need-slice_bounds-lines-end-then-high-eq8-2
 slice-aggregate-lines-8 c = sym (zipped-long c.before.before.before.before.before.before)
 
-lines-requires-4 : tie.Need-lines-requires-4
-lines-requires-4 c κs = let I = c.before.before.before in let W = I.before.before.before.before in down-asks (down W) 8 (omega (arith, I.if4.true))
+lines-requires-4 : tie.Need-lines-requires-then-high-eq8
+lines-requires-4 c κs = let I = c.before.before.before in let W = I.before.before.before.before in down-asks (down W) 8 (omega (arith, I.if-high-eq8.true))
 
-slice-aggregate-lines-9 : tie.Need-slice-aggregate-lines-9
+slice-aggregate-lines-9 : tie.Need-slice_bounds-lines-end-else-high-eq8
 slice-aggregate-lines-9 c = sym c.before.before.before.before.before.weights.ensures.1.0
 
-slice-aggregate-lines-10 : tie.Need-slice-aggregate-lines-10
+slice-aggregate-lines-10 : tie.Need-slice_bounds-lines-end-else-high-eq8-2
 slice-aggregate-lines-10 c = sym (zipped-long c.before.before.before.before.before.before)
 
-lines-requires-5 : tie.Need-lines-requires-5
-lines-requires-5 c κs = let I = c.before.before.before in let W = I.before.before.before.before in down-asks (down W) 16 (omega (arith, last-rows W I.before.before.before.if1.false I.before.before.if2.false I.before.if3.false I.if4.false))
+lines-requires-5 : tie.Need-lines-requires-else-high-eq8
+lines-requires-5 c κs = let I = c.before.before.before in let W = I.before.before.before.before in down-asks (down W) 16 (omega (arith, last-rows W I.before.before.before.if-high-eq1.false I.before.before.if-high-eq2.false I.before.if-high-eq4.false I.if-high-eq8.false))
 
 -- what stands in the numbers after the first stage
-first : (c : tie.Joined1) → First (given (of c.before)) c.if1.numbers
+first : (c : tie.Joined-high-eq1) → First (given (of c.before)) c.if-high-eq1.numbers
 first c =
     let W = c.before in
     let d = down W in
@@ -174,53 +174,53 @@ first c =
     (⊎_elim
     (λ t. down-leaves d 8 (omega (arith, t.3.taken)) (t.9 ∙ t.7.ensures))
     (λ t. down-leaves d 16 (omega (arith, last-rows W t.0.left t.1.left t.2.left t.3.left)) (t.9 ∙ t.7.ensures)))))
-    c.if1.branch-raw
+    c.if-high-eq1.branch-raw
 
-sub-settle : tie.Need-overflow-sub-settle
+sub-settle : tie.Need-slice_bounds-settle-count
 sub-settle c = omega arith
 
-part-settle-start : tie.Need-slice-bounds-settle-start
+part-settle-start : tie.Need-slice_bounds-settle-start
 part-settle-start c = omega arith
 
-part-settle-end : tie.Need-slice-bounds-settle-end
-part-settle-end c = let J = c.before in first-room (given (of J.before)) (first J)
+part-settle-end : tie.Need-slice_bounds-settle-end
+part-settle-end c = let J = c.before in first-room (given (of J)) (first J)
 
-sub-settle-2 : tie.Need-overflow-sub-settle-2
+sub-settle-2 : tie.Need-slice_bounds-settle-count-2
 sub-settle-2 c = omega arith
 
-part-z-start : tie.Need-slice-bounds-z-start
+part-z-start : tie.Need-slice_bounds-z-start
 part-z-start c = omega arith
 
-part-z-end : tie.Need-slice-bounds-z-end
-part-z-end c = let W = c.before.before.before in omega (arith, (fits (of W)).between, zipped-long W)
+part-z-end : tie.Need-slice_bounds-z-end
+part-z-end c = let W = c.before.before in omega (arith, (fits (of W)).between, zipped-long W)
 
-settle-requires : tie.Need-settle-requires
-settle-requires c κs = let J = c.before.before.before in let W = J.before in settle-given (given (of W)) (first J) (zipped W) (fits (of W)) (zipped-long W) (omega arith)
+settle-requires : tie.Need-settle-rails-requires
+settle-requires c κs = let J = c.before.before.before in let W = J in settle-given (given (of W)) (first J) (zipped W) (fits (of W)) (zipped-long W) (omega arith)
 
-abbrev joined : tie.After-settle → tie.Joined1
-joined c = c.before.before.before.before
+abbrev joined : tie.After-settle-rails → tie.Joined-high-eq1
+joined c = c.before.before.before
 
-abbrev work : tie.After-settle → After
+abbrev work : tie.After-settle-rails → After
 work c = (joined c).before
 
-abbrev origin : tie.After-settle → tie.Start
+abbrev origin : tie.After-settle-rails → tie.Start
 origin c = of (work c)
 
-half-requires : tie.Need-half-requires
-half-requires c κs = let s = origin c.before in (s.pre.0.some, s.pre.0.short)
+half-requires : tie.Need-half-half-requires
+half-requires c κs = let s = origin c.before in (s.requires.0.some, s.requires.0.short)
 
 weights-requires-2 : tie.Need-weights-requires-2
 weights-requires-2 c κs = let S = c.before.before.before.before in ((origin S).requires.0.sized.along, ((work S).weights.ensures.0, (work S).weights.ensures.1.0))
 
 -- the lines along the rows
 abbrev Behind : Type 0
-Behind = tie.After-weights2
+Behind = tie.After-weights-2
 
-abbrev middle : Behind → tie.After-settle
+abbrev middle : Behind → tie.After-settle-rails
 middle c = c.before.before.before.before.before
 
 along : (c : Behind) → let S = middle c in
-    Along (given (of (work S))) 2048 (joined S).if1.numbers S.settle.last.1.0 (zipped (work S)) c.weights2.new.1.1.1.0 c.before.before.before.half.result (origin S).args.last
+    Along (given (of (work S))) 2048 (joined S).if-high-eq1.numbers S.settle-rails.new.m (zipped (work S)) c.weights-2.new.1.1.1.0 c.before.before.before.half-half.result (origin S).args.last
 along c =
     let S = middle c in
     let s = origin S in
@@ -228,137 +228,137 @@ along c =
     record {
       fits = fits s;
       first = first (joined S);
-      settled = settled (given s) (first_part (given s) (first (joined S))) S.settle.ensures;
+      settled = settled (given s) (first_part (given s) (first (joined S))) S.settle-rails.ensures;
       long = zipped-long (work S);
-      weights = whole.along-weights a.w a.h a.horizontal a.vertical a.columns a.rows a.last a.numbers.now s.pre.0 a.high a.wide s.pre.1.0 s.pre.1.1 c.weights2.ensures.1.1;
-      rounding = c.before.before.before.half.ensures;
+      weights = whole.along-weights a.w a.h a.horizontal a.vertical a.columns a.rows a.last a.numbers.now s.requires.0 a.high a.wide s.requires.1.0 s.requires.1.1 c.weights-2.ensures.1.1;
+      rounding = c.before.before.before.half-half.ensures;
       shift = refl;
     }
 
-slice-aggregate-lines-11 : tie.Need-slice-aggregate-lines-11
+slice-aggregate-lines-11 : tie.Need-slice_bounds-lines-end-then-wide-eq1
 slice-aggregate-lines-11 c = held-long (along c.before.before)
 
-slice-aggregate-lines-12 : tie.Need-slice-aggregate-lines-12
-slice-aggregate-lines-12 c = sym c.before.before.before.weights2.ensures.1.0
+slice-aggregate-lines-12 : tie.Need-slice_bounds-lines-end-then-wide-eq1-2
+slice-aggregate-lines-12 c = sym c.before.before.before.weights-2.ensures.1.0
 
-lines-requires-6 : tie.Need-lines-requires-6
-lines-requires-6 c κs = let I = c.before.before.before in let W = I.before in along-asks (along W) 1 (omega (arith, I.if5.true))
+lines-requires-6 : tie.Need-lines-requires-then-wide-eq1
+lines-requires-6 c κs = let I = c.before.before.before in let W = I.before in along-asks (along W) 1 (omega (arith, I.if-wide-eq1.true))
 
-slice-aggregate-lines-13 : tie.Need-slice-aggregate-lines-13
+slice-aggregate-lines-13 : tie.Need-slice_bounds-lines-end-then-wide-eq2
 slice-aggregate-lines-13 c = held-long (along c.before.before.before)
 
-slice-aggregate-lines-14 : tie.Need-slice-aggregate-lines-14
-slice-aggregate-lines-14 c = sym c.before.before.before.before.weights2.ensures.1.0
+slice-aggregate-lines-14 : tie.Need-slice_bounds-lines-end-then-wide-eq2-2
+slice-aggregate-lines-14 c = sym c.before.before.before.before.weights-2.ensures.1.0
 
-lines-requires-7 : tie.Need-lines-requires-7
-lines-requires-7 c κs = let I = c.before.before.before in let W = I.before.before in along-asks (along W) 2 (omega (arith, I.if6.true))
+lines-requires-7 : tie.Need-lines-requires-then-wide-eq2
+lines-requires-7 c κs = let I = c.before.before.before in let W = I.before.before in along-asks (along W) 2 (omega (arith, I.if-wide-eq2.true))
 
-slice-aggregate-lines-15 : tie.Need-slice-aggregate-lines-15
+slice-aggregate-lines-15 : tie.Need-slice_bounds-lines-end-then-wide-eq4
 slice-aggregate-lines-15 c = held-long (along c.before.before.before.before)
 
-slice-aggregate-lines-16 : tie.Need-slice-aggregate-lines-16
-slice-aggregate-lines-16 c = sym c.before.before.before.before.before.weights2.ensures.1.0
+slice-aggregate-lines-16 : tie.Need-slice_bounds-lines-end-then-wide-eq4-2
+slice-aggregate-lines-16 c = sym c.before.before.before.before.before.weights-2.ensures.1.0
 
-lines-requires-8 : tie.Need-lines-requires-8
-lines-requires-8 c κs = let I = c.before.before.before in let W = I.before.before.before in along-asks (along W) 4 (omega (arith, I.if7.true))
+lines-requires-8 : tie.Need-lines-requires-then-wide-eq4
+lines-requires-8 c κs = let I = c.before.before.before in let W = I.before.before.before in along-asks (along W) 4 (omega (arith, I.if-wide-eq4.true))
 
-slice-aggregate-lines-17 : tie.Need-slice-aggregate-lines-17
+slice-aggregate-lines-17 : tie.Need-slice_bounds-lines-end-then-wide-eq8
 slice-aggregate-lines-17 c = held-long (along c.before.before.before.before.before)
 
-slice-aggregate-lines-18 : tie.Need-slice-aggregate-lines-18
-slice-aggregate-lines-18 c = sym c.before.before.before.before.before.before.weights2.ensures.1.0
+slice-aggregate-lines-18 : tie.Need-slice_bounds-lines-end-then-wide-eq8-2
+slice-aggregate-lines-18 c = sym c.before.before.before.before.before.before.weights-2.ensures.1.0
 
-lines-requires-9 : tie.Need-lines-requires-9
-lines-requires-9 c κs = let I = c.before.before.before in let W = I.before.before.before.before in along-asks (along W) 8 (omega (arith, I.if8.true))
+lines-requires-9 : tie.Need-lines-requires-then-wide-eq8
+lines-requires-9 c κs = let I = c.before.before.before in let W = I.before.before.before.before in along-asks (along W) 8 (omega (arith, I.if-wide-eq8.true))
 
-slice-aggregate-lines-19 : tie.Need-slice-aggregate-lines-19
+slice-aggregate-lines-19 : tie.Need-slice_bounds-lines-end-else-wide-eq8
 slice-aggregate-lines-19 c = held-long (along c.before.before.before.before.before)
 
-slice-aggregate-lines-20 : tie.Need-slice-aggregate-lines-20
-slice-aggregate-lines-20 c = sym c.before.before.before.before.before.before.weights2.ensures.1.0
+slice-aggregate-lines-20 : tie.Need-slice_bounds-lines-end-else-wide-eq8-2
+slice-aggregate-lines-20 c = sym c.before.before.before.before.before.before.weights-2.ensures.1.0
 
-lines-requires-10 : tie.Need-lines-requires-10
-lines-requires-10 c κs = let I = c.before.before.before in let W = I.before.before.before.before in along-asks (along W) 16 (omega (arith, last-columns (work (middle W)) I.before.before.before.if5.false I.before.before.if6.false I.before.if7.false I.if8.false))
+lines-requires-10 : tie.Need-lines-requires-else-wide-eq8
+lines-requires-10 c κs = let I = c.before.before.before in let W = I.before.before.before.before in along-asks (along W) 16 (omega (arith, last-columns (work (middle W)) I.before.before.before.if-wide-eq1.false I.before.before.if-wide-eq2.false I.before.if-wide-eq4.false I.if-wide-eq8.false))
 
 -- what is handed back
-rails-are : (c : tie.After-settle) → c.settle.result ≡ rails (plan (origin c)) (origin c).args.numbers.now
+rails-are : (c : tie.After-settle-rails) → c.settle-rails.result ≡ rails (plan (origin c)) (origin c).args.numbers.now
 rails-are c =
     let s = origin c in
     let a = s.args in
-    counted (given s) (first_part (given s) (first (joined c))) c.settle.ensures ∙ whole.rails-read a.w a.h a.horizontal a.vertical a.columns a.rows a.last a.numbers.now s.pre.0 a.high a.wide s.pre.1.0 s.pre.1.1
+    counted (given s) (first_part (given s) (first (joined c))) c.settle-rails.ensures ∙ whole.rails-read a.w a.h a.horizontal a.vertical a.columns a.rows a.last a.numbers.now s.requires.0 a.high a.wide s.requires.1.0 s.requires.1.1
 
-returns : tie.Need-returns
+returns : tie.Need-returns-then-wide-eq1
 returns c =
     let I = c.before.before.before.before.before in
     let W = I.before in
     let s = origin (middle W) in
     let a = s.args in
-    (rails-are (middle W), along-leaves (along W) 1 (omega (arith, I.if5.true)) c.before.lines6.ensures ∙ whole.block-is a.w a.h a.horizontal a.vertical a.columns a.rows a.last a.numbers.now s.pre.0 a.high a.wide s.pre.1.0 s.pre.1.1)
+    (rails-are (middle W), along-leaves (along W) 1 (omega (arith, I.if-wide-eq1.true)) c.before.lines-then-wide-eq1.ensures ∙ whole.block-is a.w a.h a.horizontal a.vertical a.columns a.rows a.last a.numbers.now s.requires.0 a.high a.wide s.requires.1.0 s.requires.1.1)
 
-same_length : tie.Need-same-length
+same_length : tie.Need-shape_of-numbers-then-wide-eq1
 same_length c =
     let s = origin (middle c.before.before.before.before.before.before) in
     let a = s.args in
-    block-long (given s) ((returns c).1 ∙ sym (whole.block-is a.w a.h a.horizontal a.vertical a.columns a.rows a.last a.numbers.now s.pre.0 a.high a.wide s.pre.1.0 s.pre.1.1))
+    block-long (given s) ((returns c).1 ∙ sym (whole.block-is a.w a.h a.horizontal a.vertical a.columns a.rows a.last a.numbers.now s.requires.0 a.high a.wide s.requires.1.0 s.requires.1.1))
 
-returns-2 : tie.Need-returns-2
+returns-2 : tie.Need-returns-then-wide-eq2
 returns-2 c =
     let I = c.before.before.before.before.before in
     let W = I.before.before in
     let s = origin (middle W) in
     let a = s.args in
-    (rails-are (middle W), along-leaves (along W) 2 (omega (arith, I.if6.true)) c.before.lines7.ensures ∙ whole.block-is a.w a.h a.horizontal a.vertical a.columns a.rows a.last a.numbers.now s.pre.0 a.high a.wide s.pre.1.0 s.pre.1.1)
+    (rails-are (middle W), along-leaves (along W) 2 (omega (arith, I.if-wide-eq2.true)) c.before.lines-then-wide-eq2.ensures ∙ whole.block-is a.w a.h a.horizontal a.vertical a.columns a.rows a.last a.numbers.now s.requires.0 a.high a.wide s.requires.1.0 s.requires.1.1)
 
-same-length-2 : tie.Need-same-length-2
+same-length-2 : tie.Need-shape_of-numbers-then-wide-eq2
 same-length-2 c =
     let s = origin (middle c.before.before.before.before.before.before.before) in
     let a = s.args in
-    block-long (given s) ((returns-2 c).1 ∙ sym (whole.block-is a.w a.h a.horizontal a.vertical a.columns a.rows a.last a.numbers.now s.pre.0 a.high a.wide s.pre.1.0 s.pre.1.1))
+    block-long (given s) ((returns-2 c).1 ∙ sym (whole.block-is a.w a.h a.horizontal a.vertical a.columns a.rows a.last a.numbers.now s.requires.0 a.high a.wide s.requires.1.0 s.requires.1.1))
 
-returns-3 : tie.Need-returns-3
+returns-3 : tie.Need-returns-then-wide-eq4
 returns-3 c =
     let I = c.before.before.before.before.before in
     let W = I.before.before.before in
     let s = origin (middle W) in
     let a = s.args in
-    (rails-are (middle W), along-leaves (along W) 4 (omega (arith, I.if7.true)) c.before.lines8.ensures ∙ whole.block-is a.w a.h a.horizontal a.vertical a.columns a.rows a.last a.numbers.now s.pre.0 a.high a.wide s.pre.1.0 s.pre.1.1)
+    (rails-are (middle W), along-leaves (along W) 4 (omega (arith, I.if-wide-eq4.true)) c.before.lines-then-wide-eq4.ensures ∙ whole.block-is a.w a.h a.horizontal a.vertical a.columns a.rows a.last a.numbers.now s.requires.0 a.high a.wide s.requires.1.0 s.requires.1.1)
 
-same-length-3 : tie.Need-same-length-3
+same-length-3 : tie.Need-shape_of-numbers-then-wide-eq4
 same-length-3 c =
     let s = origin (middle c.before.before.before.before.before.before.before.before) in
     let a = s.args in
-    block-long (given s) ((returns-3 c).1 ∙ sym (whole.block-is a.w a.h a.horizontal a.vertical a.columns a.rows a.last a.numbers.now s.pre.0 a.high a.wide s.pre.1.0 s.pre.1.1))
+    block-long (given s) ((returns-3 c).1 ∙ sym (whole.block-is a.w a.h a.horizontal a.vertical a.columns a.rows a.last a.numbers.now s.requires.0 a.high a.wide s.requires.1.0 s.requires.1.1))
 
-returns-4 : tie.Need-returns-4
+returns-4 : tie.Need-returns-then-wide-eq8
 returns-4 c =
     let I = c.before.before.before.before.before in
     let W = I.before.before.before.before in
     let s = origin (middle W) in
     let a = s.args in
-    (rails-are (middle W), along-leaves (along W) 8 (omega (arith, I.if8.true)) c.before.lines9.ensures ∙ whole.block-is a.w a.h a.horizontal a.vertical a.columns a.rows a.last a.numbers.now s.pre.0 a.high a.wide s.pre.1.0 s.pre.1.1)
+    (rails-are (middle W), along-leaves (along W) 8 (omega (arith, I.if-wide-eq8.true)) c.before.lines-then-wide-eq8.ensures ∙ whole.block-is a.w a.h a.horizontal a.vertical a.columns a.rows a.last a.numbers.now s.requires.0 a.high a.wide s.requires.1.0 s.requires.1.1)
 
-same-length-4 : tie.Need-same-length-4
+same-length-4 : tie.Need-shape_of-numbers-then-wide-eq8
 same-length-4 c =
     let s = origin (middle c.before.before.before.before.before.before.before.before.before) in
     let a = s.args in
-    block-long (given s) ((returns-4 c).1 ∙ sym (whole.block-is a.w a.h a.horizontal a.vertical a.columns a.rows a.last a.numbers.now s.pre.0 a.high a.wide s.pre.1.0 s.pre.1.1))
+    block-long (given s) ((returns-4 c).1 ∙ sym (whole.block-is a.w a.h a.horizontal a.vertical a.columns a.rows a.last a.numbers.now s.requires.0 a.high a.wide s.requires.1.0 s.requires.1.1))
 
-returns-5 : tie.Need-returns-5
+returns-5 : tie.Need-returns-else-wide-eq8
 returns-5 c =
     let I = c.before.before.before.before.before in
     let W = I.before.before.before.before in
     let s = origin (middle W) in
     let a = s.args in
-    (rails-are (middle W), along-leaves (along W) 16 (omega (arith, last-columns (work (middle W)) I.before.before.before.if5.false I.before.before.if6.false I.before.if7.false I.if8.false)) c.before.lines10.ensures ∙ whole.block-is a.w a.h a.horizontal a.vertical a.columns a.rows a.last a.numbers.now s.pre.0 a.high a.wide s.pre.1.0 s.pre.1.1)
+    (rails-are (middle W), along-leaves (along W) 16 (omega (arith, last-columns (work (middle W)) I.before.before.before.if-wide-eq1.false I.before.before.if-wide-eq2.false I.before.if-wide-eq4.false I.if-wide-eq8.false)) c.before.lines-else-wide-eq8.ensures ∙ whole.block-is a.w a.h a.horizontal a.vertical a.columns a.rows a.last a.numbers.now s.requires.0 a.high a.wide s.requires.1.0 s.requires.1.1)
 
-same-length-5 : tie.Need-same-length-5
+same-length-5 : tie.Need-shape_of-numbers-else-wide-eq8
 same-length-5 c =
     let s = origin (middle c.before.before.before.before.before.before.before.before.before) in
     let a = s.args in
-    block-long (given s) ((returns-5 c).1 ∙ sym (whole.block-is a.w a.h a.horizontal a.vertical a.columns a.rows a.last a.numbers.now s.pre.0 a.high a.wide s.pre.1.0 s.pre.1.1))
+    block-long (given s) ((returns-5 c).1 ∙ sym (whole.block-is a.w a.h a.horizontal a.vertical a.columns a.rows a.last a.numbers.now s.requires.0 a.high a.wide s.requires.1.0 s.requires.1.1))
 
-pub large-spec : {M : Type 1} → statement M
-large-spec =
+pub large_spec : {M : Type 1} → statement M
+large_spec =
     tie.close
     (tie.spec
     mul-broad

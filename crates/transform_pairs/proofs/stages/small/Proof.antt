@@ -40,52 +40,52 @@ fits s = let a = s.args in whole.small-rooms a.w a.h a.horizontal a.vertical a.c
 broad-few : (s : tie.Start) → (1 ≤ wide s) × (wide s ≤ 16)
 broad-few s = let a = s.args in whole.broad-few a.w a.h a.horizontal a.vertical a.columns a.rows a.last a.numbers.now s.requires.0.0 a.high a.wide s.requires.0.1.0 s.requires.0.1.1
 
-mul-broad : tie.Need-overflow-mul-broad
+mul-broad : tie.Need-overflow_mul-broad
 mul-broad c = omega (arith, broad-few c)
 
-mul-apart : tie.Need-overflow-mul-apart
+mul-apart : tie.Need-overflow_mul-apart
 mul-apart c = omega (arith, broad-few c)
 
-mul-tall : tie.Need-overflow-mul-tall
+mul-tall : tie.Need-overflow_mul-tall
 mul-tall c = omega (arith, c.requires.1.1)
 
-mul-full : tie.Need-overflow-mul-full
+mul-full : tie.Need-overflow_mul-full
 mul-full c = omega (arith, c.requires.1.0)
 
-mul-elements : tie.Need-overflow-mul-elements
+mul-elements : tie.Need-overflow_mul-elements
 mul-elements c = omega (arith, (fits c).between)
 
-slice-aggregate-narrow : tie.Need-slice-aggregate-narrow
+slice-aggregate-narrow : tie.Need-slice_bounds-narrow-end
 slice-aggregate-narrow c = search rules
 
 narrow-requires : tie.Need-narrow-requires
-narrow-requires c κs = let s = c.before.before in let a = s.args in whole.narrow-given a.w a.h a.horizontal a.vertical a.columns a.rows a.last a.numbers.now s.requires.0.0 a.high a.wide s.requires.0.1.0 s.requires.0.1.1 (whole.small-tiled a.w a.h a.horizontal a.vertical a.columns a.rows a.last a.numbers.now s.requires.0.0 a.high a.wide s.requires.0.1.0 s.requires.0.1.1 s.requires.1.0 s.requires.1.1) refl (zeros-at 256)
+narrow-requires c κs = let s = c.before in let a = s.args in whole.narrow-given a.w a.h a.horizontal a.vertical a.columns a.rows a.last a.numbers.now s.requires.0.0 a.high a.wide s.requires.0.1.0 s.requires.0.1.1 (whole.small-tiled a.w a.h a.horizontal a.vertical a.columns a.rows a.last a.numbers.now s.requires.0.0 a.high a.wide s.requires.0.1.0 s.requires.0.1.1 s.requires.1.0 s.requires.1.1) refl (zeros-at 256)
 
 -- what is read, narrowed
 abbrev begin : tie.After-narrow → tie.Start
-begin c = c.before.before.before
+begin c = c.before.before
 
-slice-aggregate-zip : tie.Need-slice-aggregate-zip
+slice-aggregate-zip : tie.Need-slice_bounds-zip-end
 slice-aggregate-zip c = sym c.before.before.narrow.ensures.long
 
-slice-aggregate-zip-2 : tie.Need-slice-aggregate-zip-2
+slice-aggregate-zip-2 : tie.Need-slice_bounds-zip-end-2
 slice-aggregate-zip-2 c = search rules
 
 zip-requires : tie.Need-zip-requires
-zip-requires c κs = let N = c.before.before.before in let s = begin N in let a = s.args in whole.zip-given a.w a.h a.horizontal a.vertical a.columns a.rows a.last a.numbers.now s.pre.0.0 a.high a.wide s.pre.0.1.0 s.pre.0.1.1 (whole.small-tiled a.w a.h a.horizontal a.vertical a.columns a.rows a.last a.numbers.now s.pre.0.0 a.high a.wide s.pre.0.1.0 s.pre.0.1.1 s.pre.1.0 s.pre.1.1) (omega arith) N.narrow.ensures.long refl
+zip-requires c κs = let N = c.before.before.before in let s = begin N in let a = s.args in whole.zip-given a.w a.h a.horizontal a.vertical a.columns a.rows a.last a.numbers.now s.requires.0.0 a.high a.wide s.requires.0.1.0 s.requires.0.1.1 (whole.small-tiled a.w a.h a.horizontal a.vertical a.columns a.rows a.last a.numbers.now s.requires.0.0 a.high a.wide s.requires.0.1.0 s.requires.0.1.1 s.requires.1.0 s.requires.1.1) (omega arith) N.narrow.ensures.long refl
 
-small-weights-requires : tie.Need-small-weights-requires
-small-weights-requires c κs = let s = begin c.before.before.before.before.before.before in (s.pre.0.0.sized.down, (s.pre.1.1, refl))
+small-weights-requires : tie.Need-small_weights-requires
+small-weights-requires c κs = let s = begin c.before.before.before.before.before.before in (s.requires.0.0.sized.down, (s.requires.1.1, refl))
 
 -- the lines down the columns
 abbrev After : Type 0
-After = tie.After-small-weights
+After = tie.After-small_weights
 
 abbrev laid : After → tie.After-narrow
 laid c = c.before.before.before.before.before.before.before
 
 abbrev zipped : After → List ℤ
-zipped c = c.before.before.before.zip.new.1.1.1.1.0
+zipped c = c.before.before.before.zip.new.z
 
 zipped-long : (c : After) → length (zipped c) ≡ 256
 zipped-long c = let e : 256 ≡ length (zipped c) = search rules in sym e
@@ -93,13 +93,13 @@ zipped-long c = let e : 256 ≡ length (zipped c) = search rules in sym e
 abbrev of : After → tie.Start
 of c = begin (laid c)
 
-down : (c : After) → Down (given (of c)) c.small-weights.new.1.1.0 (zipped c)
+down : (c : After) → Down (given (of c)) c.small_weights.new.u (zipped c)
 down c =
     let s = of c in
     let a = s.args in
     record {
-      weights = whole.down-weights a.w a.h a.horizontal a.vertical a.columns a.rows a.last a.numbers.now s.pre.0.0 a.high a.wide s.pre.0.1.0 s.pre.0.1.1 c.small-weights.ensures.1;
-      zipped = whole.zipped a.w a.h a.horizontal a.vertical a.columns a.rows a.last a.numbers.now s.pre.0.0 a.high a.wide s.pre.0.1.0 s.pre.0.1.1 (laid c).narrow.ensures c.before.before.before.zip.ensures;
+      weights = whole.down-weights a.w a.h a.horizontal a.vertical a.columns a.rows a.last a.numbers.now s.requires.0.0 a.high a.wide s.requires.0.1.0 s.requires.0.1.1 c.small_weights.ensures.1;
+      zipped = whole.zipped a.w a.h a.horizontal a.vertical a.columns a.rows a.last a.numbers.now s.requires.0.0 a.high a.wide s.requires.0.1.0 s.requires.0.1.1 (laid c).narrow.ensures c.before.before.before.zip.ensures;
     }
 
 -- the last of the branches
@@ -108,53 +108,53 @@ last-rows c p q r =
     let s = of c in
     let a = s.args in
     let e = (of c).requires.0.1.0 in
-    e ∙ eight-pairs a.rows (omega (arith, e, whole.tall-in a.w a.h a.horizontal a.vertical a.columns a.rows a.last a.numbers.now s.pre.0.0 a.high a.wide s.pre.0.1.0 s.pre.0.1.1, s.pre.1.1)) (λ k. p (e ∙ k)) (λ k. q (e ∙ k)) (λ k. r (e ∙ k))
+    e ∙ eight-pairs a.rows (omega (arith, e, whole.tall-in a.w a.h a.horizontal a.vertical a.columns a.rows a.last a.numbers.now s.requires.0.0 a.high a.wide s.requires.0.1.0 s.requires.0.1.1, s.requires.1.1)) (λ k. p (e ∙ k)) (λ k. q (e ∙ k)) (λ k. r (e ∙ k))
 
 last-columns : (c : After) → (wide (of c) ≡ 1 → ⊥) → (wide (of c) ≡ 2 → ⊥) → (wide (of c) ≡ 4 → ⊥) → wide (of c) ≡ 8
 last-columns c p q r =
     let s = of c in
     let a = s.args in
     let e = (of c).requires.0.1.1 in
-    e ∙ eight-pairs a.columns (omega (arith, e, whole.broad-in a.w a.h a.horizontal a.vertical a.columns a.rows a.last a.numbers.now s.pre.0.0 a.high a.wide s.pre.0.1.0 s.pre.0.1.1, s.pre.1.0)) (λ k. p (e ∙ k)) (λ k. q (e ∙ k)) (λ k. r (e ∙ k))
+    e ∙ eight-pairs a.columns (omega (arith, e, whole.broad-in a.w a.h a.horizontal a.vertical a.columns a.rows a.last a.numbers.now s.requires.0.0 a.high a.wide s.requires.0.1.0 s.requires.0.1.1, s.requires.1.0)) (λ k. p (e ∙ k)) (λ k. q (e ∙ k)) (λ k. r (e ∙ k))
 
-slice-aggregate-lines : tie.Need-slice-aggregate-lines
-slice-aggregate-lines c = sym c.before.before.small-weights.ensures.0
+slice-aggregate-lines : tie.Need-slice_bounds-lines-end
+slice-aggregate-lines c = sym c.before.before.small_weights.ensures.0
 
-slice-aggregate-lines-2 : tie.Need-slice-aggregate-lines-2
+slice-aggregate-lines-2 : tie.Need-slice_bounds-lines-end-then-high-eq1
 slice-aggregate-lines-2 c = sym (zipped-long c.before.before.before)
 
 lines-requires : tie.Need-lines-requires
-lines-requires c κs = let I = c.before.before.before in let W = I.before in down-asks (down W) 1 (omega (arith, I.if1.true))
+lines-requires c κs = let I = c.before.before.before in let W = I.before in down-asks (down W) 1 (omega (arith, I.if-high-eq1.true))
 
-slice-aggregate-lines-3 : tie.Need-slice-aggregate-lines-3
-slice-aggregate-lines-3 c = sym c.before.before.before.small-weights.ensures.0
+slice-aggregate-lines-3 : tie.Need-slice_bounds-lines-end-then-high-eq2
+slice-aggregate-lines-3 c = sym c.before.before.before.small_weights.ensures.0
 
-slice-aggregate-lines-4 : tie.Need-slice-aggregate-lines-4
+slice-aggregate-lines-4 : tie.Need-slice_bounds-lines-end-then-high-eq2-2
 slice-aggregate-lines-4 c = sym (zipped-long c.before.before.before.before)
 
-lines-requires-2 : tie.Need-lines-requires-2
-lines-requires-2 c κs = let I = c.before.before.before in let W = I.before.before in down-asks (down W) 2 (omega (arith, I.if2.true))
+lines-requires-2 : tie.Need-lines-requires-then-high-eq2
+lines-requires-2 c κs = let I = c.before.before.before in let W = I.before.before in down-asks (down W) 2 (omega (arith, I.if-high-eq2.true))
 
-slice-aggregate-lines-5 : tie.Need-slice-aggregate-lines-5
-slice-aggregate-lines-5 c = sym c.before.before.before.before.small-weights.ensures.0
+slice-aggregate-lines-5 : tie.Need-slice_bounds-lines-end-then-high-eq4
+slice-aggregate-lines-5 c = sym c.before.before.before.before.small_weights.ensures.0
 
-slice-aggregate-lines-6 : tie.Need-slice-aggregate-lines-6
+slice-aggregate-lines-6 : tie.Need-slice_bounds-lines-end-then-high-eq4-2
 slice-aggregate-lines-6 c = sym (zipped-long c.before.before.before.before.before)
 
-lines-requires-3 : tie.Need-lines-requires-3
-lines-requires-3 c κs = let I = c.before.before.before in let W = I.before.before.before in down-asks (down W) 4 (omega (arith, I.if3.true))
+lines-requires-3 : tie.Need-lines-requires-then-high-eq4
+lines-requires-3 c κs = let I = c.before.before.before in let W = I.before.before.before in down-asks (down W) 4 (omega (arith, I.if-high-eq4.true))
 
-slice-aggregate-lines-7 : tie.Need-slice-aggregate-lines-7
-slice-aggregate-lines-7 c = sym c.before.before.before.before.small-weights.ensures.0
+slice-aggregate-lines-7 : tie.Need-slice_bounds-lines-end-else-high-eq4
+slice-aggregate-lines-7 c = sym c.before.before.before.before.small_weights.ensures.0
 
-slice-aggregate-lines-8 : tie.Need-slice-aggregate-lines-8
+slice-aggregate-lines-8 : tie.Need-slice_bounds-lines-end-else-high-eq4-2
 slice-aggregate-lines-8 c = sym (zipped-long c.before.before.before.before.before)
 
-lines-requires-4 : tie.Need-lines-requires-4
-lines-requires-4 c κs = let I = c.before.before.before in let W = I.before.before.before in down-asks (down W) 8 (omega (arith, last-rows W I.before.before.if1.false I.before.if2.false I.if3.false))
+lines-requires-4 : tie.Need-lines-requires-else-high-eq4
+lines-requires-4 c κs = let I = c.before.before.before in let W = I.before.before.before in down-asks (down W) 8 (omega (arith, last-rows W I.before.before.if-high-eq1.false I.before.if-high-eq2.false I.if-high-eq4.false))
 
 -- what stands in the numbers after the first stage
-first : (c : tie.Joined1) → First (given (of c.before)) c.if1.numbers
+first : (c : tie.Joined-high-eq1) → First (given (of c.before)) c.if-high-eq1.numbers
 first c =
     let W = c.before in
     let d = down W in
@@ -165,53 +165,53 @@ first c =
     (⊎_elim
     (λ t. down-leaves d 4 (omega (arith, t.2.taken)) (t.8 ∙ t.6.ensures))
     (λ t. down-leaves d 8 (omega (arith, last-rows W t.0.left t.1.left t.2.left)) (t.8 ∙ t.6.ensures))))
-    c.if1.branch-raw
+    c.if-high-eq1.branch-raw
 
-sub-settle : tie.Need-overflow-sub-settle
+sub-settle : tie.Need-slice_bounds-settle-count
 sub-settle c = omega arith
 
-part-settle-start : tie.Need-slice-bounds-settle-start
+part-settle-start : tie.Need-slice_bounds-settle-start
 part-settle-start c = omega arith
 
-part-settle-end : tie.Need-slice-bounds-settle-end
-part-settle-end c = let J = c.before in first-room (given (of J.before)) (first J)
+part-settle-end : tie.Need-slice_bounds-settle-end
+part-settle-end c = let J = c.before in first-room (given (of J)) (first J)
 
-sub-settle-2 : tie.Need-overflow-sub-settle-2
+sub-settle-2 : tie.Need-slice_bounds-settle-count-2
 sub-settle-2 c = omega arith
 
-part-z-start : tie.Need-slice-bounds-z-start
+part-z-start : tie.Need-slice_bounds-z-start
 part-z-start c = omega arith
 
-part-z-end : tie.Need-slice-bounds-z-end
-part-z-end c = let W = c.before.before.before in omega (arith, (fits (of W)).between, zipped-long W)
+part-z-end : tie.Need-slice_bounds-z-end
+part-z-end c = let W = c.before.before in omega (arith, (fits (of W)).between, zipped-long W)
 
-settle-requires : tie.Need-settle-requires
-settle-requires c κs = let J = c.before.before.before in let W = J.before in settle-given (given (of W)) (first J) (zipped W) (fits (of W)) (zipped-long W) (omega arith)
+settle-requires : tie.Need-settle-rails-requires
+settle-requires c κs = let J = c.before.before.before in let W = J in settle-given (given (of W)) (first J) (zipped W) (fits (of W)) (zipped-long W) (omega arith)
 
-abbrev joined : tie.After-settle → tie.Joined1
-joined c = c.before.before.before.before
+abbrev joined : tie.After-settle-rails → tie.Joined-high-eq1
+joined c = c.before.before.before
 
-abbrev work : tie.After-settle → After
+abbrev work : tie.After-settle-rails → After
 work c = (joined c).before
 
-abbrev origin : tie.After-settle → tie.Start
+abbrev origin : tie.After-settle-rails → tie.Start
 origin c = of (work c)
 
-half-requires : tie.Need-half-requires
-half-requires c κs = let s = origin c.before in (s.pre.0.0.some, s.pre.0.0.short)
+half-requires : tie.Need-half-half-requires
+half-requires c κs = let s = origin c.before in (s.requires.0.0.some, s.requires.0.0.short)
 
-small-weights-requires-2 : tie.Need-small-weights-requires-2
-small-weights-requires-2 c κs = let S = c.before.before.before in ((origin S).requires.0.0.sized.along, ((origin S).requires.1.0, (work S).small-weights.ensures.0))
+small-weights-requires-2 : tie.Need-small_weights-requires-2
+small-weights-requires-2 c κs = let S = c.before.before.before in ((origin S).requires.0.0.sized.along, ((origin S).requires.1.0, (work S).small_weights.ensures.0))
 
 -- the lines along the rows
 abbrev Behind : Type 0
-Behind = tie.After-small-weights2
+Behind = tie.After-small_weights-2
 
-abbrev middle : Behind → tie.After-settle
+abbrev middle : Behind → tie.After-settle-rails
 middle c = c.before.before.before.before
 
 along : (c : Behind) → let S = middle c in
-    Along (given (of (work S))) 256 (joined S).if1.numbers S.settle.last.1.0 (zipped (work S)) c.small-weights2.new.1.1.0 c.before.before.half.result (origin S).args.last
+    Along (given (of (work S))) 256 (joined S).if-high-eq1.numbers S.settle-rails.new.m (zipped (work S)) c.small_weights-2.new.u c.before.before.half-half.result (origin S).args.last
 along c =
     let S = middle c in
     let s = origin S in
@@ -219,111 +219,111 @@ along c =
     record {
       fits = fits s;
       first = first (joined S);
-      settled = settled (given s) (first_part (given s) (first (joined S))) S.settle.ensures;
+      settled = settled (given s) (first_part (given s) (first (joined S))) S.settle-rails.ensures;
       long = zipped-long (work S);
-      weights = whole.along-weights a.w a.h a.horizontal a.vertical a.columns a.rows a.last a.numbers.now s.pre.0.0 a.high a.wide s.pre.0.1.0 s.pre.0.1.1 c.small-weights2.ensures.1;
-      rounding = c.before.before.half.ensures;
+      weights = whole.along-weights a.w a.h a.horizontal a.vertical a.columns a.rows a.last a.numbers.now s.requires.0.0 a.high a.wide s.requires.0.1.0 s.requires.0.1.1 c.small_weights-2.ensures.1;
+      rounding = c.before.before.half-half.ensures;
       shift = refl;
     }
 
-slice-aggregate-lines-9 : tie.Need-slice-aggregate-lines-9
+slice-aggregate-lines-9 : tie.Need-slice_bounds-lines-end-then-wide-eq1
 slice-aggregate-lines-9 c = held-long (along c.before.before)
 
-slice-aggregate-lines-10 : tie.Need-slice-aggregate-lines-10
-slice-aggregate-lines-10 c = sym c.before.before.before.small-weights2.ensures.0
+slice-aggregate-lines-10 : tie.Need-slice_bounds-lines-end-then-wide-eq1-2
+slice-aggregate-lines-10 c = sym c.before.before.before.small_weights-2.ensures.0
 
-lines-requires-5 : tie.Need-lines-requires-5
-lines-requires-5 c κs = let I = c.before.before.before in let W = I.before in along-asks (along W) 1 (omega (arith, I.if4.true))
+lines-requires-5 : tie.Need-lines-requires-then-wide-eq1
+lines-requires-5 c κs = let I = c.before.before.before in let W = I.before in along-asks (along W) 1 (omega (arith, I.if-wide-eq1.true))
 
-slice-aggregate-lines-11 : tie.Need-slice-aggregate-lines-11
+slice-aggregate-lines-11 : tie.Need-slice_bounds-lines-end-then-wide-eq2
 slice-aggregate-lines-11 c = held-long (along c.before.before.before)
 
-slice-aggregate-lines-12 : tie.Need-slice-aggregate-lines-12
-slice-aggregate-lines-12 c = sym c.before.before.before.before.small-weights2.ensures.0
+slice-aggregate-lines-12 : tie.Need-slice_bounds-lines-end-then-wide-eq2-2
+slice-aggregate-lines-12 c = sym c.before.before.before.before.small_weights-2.ensures.0
 
-lines-requires-6 : tie.Need-lines-requires-6
-lines-requires-6 c κs = let I = c.before.before.before in let W = I.before.before in along-asks (along W) 2 (omega (arith, I.if5.true))
+lines-requires-6 : tie.Need-lines-requires-then-wide-eq2
+lines-requires-6 c κs = let I = c.before.before.before in let W = I.before.before in along-asks (along W) 2 (omega (arith, I.if-wide-eq2.true))
 
-slice-aggregate-lines-13 : tie.Need-slice-aggregate-lines-13
+slice-aggregate-lines-13 : tie.Need-slice_bounds-lines-end-then-wide-eq4
 slice-aggregate-lines-13 c = held-long (along c.before.before.before.before)
 
-slice-aggregate-lines-14 : tie.Need-slice-aggregate-lines-14
-slice-aggregate-lines-14 c = sym c.before.before.before.before.before.small-weights2.ensures.0
+slice-aggregate-lines-14 : tie.Need-slice_bounds-lines-end-then-wide-eq4-2
+slice-aggregate-lines-14 c = sym c.before.before.before.before.before.small_weights-2.ensures.0
 
-lines-requires-7 : tie.Need-lines-requires-7
-lines-requires-7 c κs = let I = c.before.before.before in let W = I.before.before.before in along-asks (along W) 4 (omega (arith, I.if6.true))
+lines-requires-7 : tie.Need-lines-requires-then-wide-eq4
+lines-requires-7 c κs = let I = c.before.before.before in let W = I.before.before.before in along-asks (along W) 4 (omega (arith, I.if-wide-eq4.true))
 
-slice-aggregate-lines-15 : tie.Need-slice-aggregate-lines-15
+slice-aggregate-lines-15 : tie.Need-slice_bounds-lines-end-else-wide-eq4
 slice-aggregate-lines-15 c = held-long (along c.before.before.before.before)
 
-slice-aggregate-lines-16 : tie.Need-slice-aggregate-lines-16
-slice-aggregate-lines-16 c = sym c.before.before.before.before.before.small-weights2.ensures.0
+slice-aggregate-lines-16 : tie.Need-slice_bounds-lines-end-else-wide-eq4-2
+slice-aggregate-lines-16 c = sym c.before.before.before.before.before.small_weights-2.ensures.0
 
-lines-requires-8 : tie.Need-lines-requires-8
-lines-requires-8 c κs = let I = c.before.before.before in let W = I.before.before.before in along-asks (along W) 8 (omega (arith, last-columns (work (middle W)) I.before.before.if4.false I.before.if5.false I.if6.false))
+lines-requires-8 : tie.Need-lines-requires-else-wide-eq4
+lines-requires-8 c κs = let I = c.before.before.before in let W = I.before.before.before in along-asks (along W) 8 (omega (arith, last-columns (work (middle W)) I.before.before.if-wide-eq1.false I.before.if-wide-eq2.false I.if-wide-eq4.false))
 
 -- what is handed back
-rails-are : (c : tie.After-settle) → c.settle.result ≡ rails (plan (origin c)) (origin c).args.numbers.now
+rails-are : (c : tie.After-settle-rails) → c.settle-rails.result ≡ rails (plan (origin c)) (origin c).args.numbers.now
 rails-are c =
     let s = origin c in
     let a = s.args in
-    counted (given s) (first_part (given s) (first (joined c))) c.settle.ensures ∙ whole.rails-read a.w a.h a.horizontal a.vertical a.columns a.rows a.last a.numbers.now s.pre.0.0 a.high a.wide s.pre.0.1.0 s.pre.0.1.1
+    counted (given s) (first_part (given s) (first (joined c))) c.settle-rails.ensures ∙ whole.rails-read a.w a.h a.horizontal a.vertical a.columns a.rows a.last a.numbers.now s.requires.0.0 a.high a.wide s.requires.0.1.0 s.requires.0.1.1
 
-returns : tie.Need-returns
+returns : tie.Need-returns-then-wide-eq1
 returns c =
     let I = c.before.before.before.before.before in
     let W = I.before in
     let s = origin (middle W) in
     let a = s.args in
-    (rails-are (middle W), along-leaves (along W) 1 (omega (arith, I.if4.true)) c.before.lines5.ensures ∙ whole.block-is a.w a.h a.horizontal a.vertical a.columns a.rows a.last a.numbers.now s.pre.0.0 a.high a.wide s.pre.0.1.0 s.pre.0.1.1)
+    (rails-are (middle W), along-leaves (along W) 1 (omega (arith, I.if-wide-eq1.true)) c.before.lines-then-wide-eq1.ensures ∙ whole.block-is a.w a.h a.horizontal a.vertical a.columns a.rows a.last a.numbers.now s.requires.0.0 a.high a.wide s.requires.0.1.0 s.requires.0.1.1)
 
-same_length : tie.Need-same-length
+same_length : tie.Need-shape_of-numbers-then-wide-eq1
 same_length c =
     let s = origin (middle c.before.before.before.before.before.before) in
     let a = s.args in
-    block-long (given s) ((returns c).1 ∙ sym (whole.block-is a.w a.h a.horizontal a.vertical a.columns a.rows a.last a.numbers.now s.pre.0.0 a.high a.wide s.pre.0.1.0 s.pre.0.1.1))
+    block-long (given s) ((returns c).1 ∙ sym (whole.block-is a.w a.h a.horizontal a.vertical a.columns a.rows a.last a.numbers.now s.requires.0.0 a.high a.wide s.requires.0.1.0 s.requires.0.1.1))
 
-returns-2 : tie.Need-returns-2
+returns-2 : tie.Need-returns-then-wide-eq2
 returns-2 c =
     let I = c.before.before.before.before.before in
     let W = I.before.before in
     let s = origin (middle W) in
     let a = s.args in
-    (rails-are (middle W), along-leaves (along W) 2 (omega (arith, I.if5.true)) c.before.lines6.ensures ∙ whole.block-is a.w a.h a.horizontal a.vertical a.columns a.rows a.last a.numbers.now s.pre.0.0 a.high a.wide s.pre.0.1.0 s.pre.0.1.1)
+    (rails-are (middle W), along-leaves (along W) 2 (omega (arith, I.if-wide-eq2.true)) c.before.lines-then-wide-eq2.ensures ∙ whole.block-is a.w a.h a.horizontal a.vertical a.columns a.rows a.last a.numbers.now s.requires.0.0 a.high a.wide s.requires.0.1.0 s.requires.0.1.1)
 
-same-length-2 : tie.Need-same-length-2
+same-length-2 : tie.Need-shape_of-numbers-then-wide-eq2
 same-length-2 c =
     let s = origin (middle c.before.before.before.before.before.before.before) in
     let a = s.args in
-    block-long (given s) ((returns-2 c).1 ∙ sym (whole.block-is a.w a.h a.horizontal a.vertical a.columns a.rows a.last a.numbers.now s.pre.0.0 a.high a.wide s.pre.0.1.0 s.pre.0.1.1))
+    block-long (given s) ((returns-2 c).1 ∙ sym (whole.block-is a.w a.h a.horizontal a.vertical a.columns a.rows a.last a.numbers.now s.requires.0.0 a.high a.wide s.requires.0.1.0 s.requires.0.1.1))
 
-returns-3 : tie.Need-returns-3
+returns-3 : tie.Need-returns-then-wide-eq4
 returns-3 c =
     let I = c.before.before.before.before.before in
     let W = I.before.before.before in
     let s = origin (middle W) in
     let a = s.args in
-    (rails-are (middle W), along-leaves (along W) 4 (omega (arith, I.if6.true)) c.before.lines7.ensures ∙ whole.block-is a.w a.h a.horizontal a.vertical a.columns a.rows a.last a.numbers.now s.pre.0.0 a.high a.wide s.pre.0.1.0 s.pre.0.1.1)
+    (rails-are (middle W), along-leaves (along W) 4 (omega (arith, I.if-wide-eq4.true)) c.before.lines-then-wide-eq4.ensures ∙ whole.block-is a.w a.h a.horizontal a.vertical a.columns a.rows a.last a.numbers.now s.requires.0.0 a.high a.wide s.requires.0.1.0 s.requires.0.1.1)
 
-same-length-3 : tie.Need-same-length-3
+same-length-3 : tie.Need-shape_of-numbers-then-wide-eq4
 same-length-3 c =
     let s = origin (middle c.before.before.before.before.before.before.before.before) in
     let a = s.args in
-    block-long (given s) ((returns-3 c).1 ∙ sym (whole.block-is a.w a.h a.horizontal a.vertical a.columns a.rows a.last a.numbers.now s.pre.0.0 a.high a.wide s.pre.0.1.0 s.pre.0.1.1))
+    block-long (given s) ((returns-3 c).1 ∙ sym (whole.block-is a.w a.h a.horizontal a.vertical a.columns a.rows a.last a.numbers.now s.requires.0.0 a.high a.wide s.requires.0.1.0 s.requires.0.1.1))
 
-returns-4 : tie.Need-returns-4
+returns-4 : tie.Need-returns-else-wide-eq4
 returns-4 c =
     let I = c.before.before.before.before.before in
     let W = I.before.before.before in
     let s = origin (middle W) in
     let a = s.args in
-    (rails-are (middle W), along-leaves (along W) 8 (omega (arith, last-columns (work (middle W)) I.before.before.if4.false I.before.if5.false I.if6.false)) c.before.lines8.ensures ∙ whole.block-is a.w a.h a.horizontal a.vertical a.columns a.rows a.last a.numbers.now s.pre.0.0 a.high a.wide s.pre.0.1.0 s.pre.0.1.1)
+    (rails-are (middle W), along-leaves (along W) 8 (omega (arith, last-columns (work (middle W)) I.before.before.if-wide-eq1.false I.before.if-wide-eq2.false I.if-wide-eq4.false)) c.before.lines-else-wide-eq4.ensures ∙ whole.block-is a.w a.h a.horizontal a.vertical a.columns a.rows a.last a.numbers.now s.requires.0.0 a.high a.wide s.requires.0.1.0 s.requires.0.1.1)
 
-same-length-4 : tie.Need-same-length-4
+same-length-4 : tie.Need-shape_of-numbers-else-wide-eq4
 same-length-4 c =
     let s = origin (middle c.before.before.before.before.before.before.before.before) in
     let a = s.args in
-    block-long (given s) ((returns-4 c).1 ∙ sym (whole.block-is a.w a.h a.horizontal a.vertical a.columns a.rows a.last a.numbers.now s.pre.0.0 a.high a.wide s.pre.0.1.0 s.pre.0.1.1))
+    block-long (given s) ((returns-4 c).1 ∙ sym (whole.block-is a.w a.h a.horizontal a.vertical a.columns a.rows a.last a.numbers.now s.requires.0.0 a.high a.wide s.requires.0.1.0 s.requires.0.1.1))
 
 pub small_spec : {M : Type 1} → statement M
 small_spec =

@@ -1,7 +1,6 @@
 -- `line_of` meets its contract. Assumes nothing.
 use borrow.Author.Rules.{rules}
 use native.Mathlib.Omega.{arith}
-use mathlib.Core.Path.{◌≡◌}
 use Rattle.transform_stages.proofs.Copying.{copied-line}
 use Rattle.transform_stages.proofs.read.line_of.Statement.{statement}
 use Rattle.transform_stages.proofs.read.line_of.Tie as tie

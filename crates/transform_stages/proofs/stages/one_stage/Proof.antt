@@ -3,17 +3,16 @@ use borrow.Author.Rules.{rules}
 use native.Mathlib.Omega.{arith}
 use mathlib.Core.Path.{◌≡◌, sym, ap, ◌∙◌, subst}
 use mathlib.Core.List.{List}
-use Prim.Native.Nat.{ℕ, ◌+◌, ◌*◌, ◌/◌, ◌≤◌, ◌<◌}
+use Prim.Native.Nat.{ℕ, ◌+◌, ◌*◌, ◌/◌, ◌<◌}
 use lib.ListN.{length}
 use lib.IntN.{ℤ}
 use mir.Syntax.{w32}
 use mir.Val.{SFits}
 use Rattle.algebra.specs.Shift.{nearest}
-use Rattle.algebra.specs.Lists.{at, tabulate}
 use Rattle.algebra.proofs.Lists.{tab-cong}
 use Rattle.meaning.proofs.Cases.{line-in}
 use Rattle.long_stages.specs.Sums.{dotted}
-use Rattle.transform_stages.specs.Work.{line_from, rounded_sum}
+use Rattle.transform_stages.specs.Work.{rounded_sum}
 use Rattle.transform_stages.proofs.Copying.{line-long}
 use Rattle.transform_stages.proofs.OneRow.{row-given}
 use Rattle.transform_stages.proofs.Whole.{pairs-few, odd-held, whole-line, line-fits}

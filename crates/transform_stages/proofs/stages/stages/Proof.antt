@@ -1,6 +1,6 @@
 -- `stages` meets its contract: the line of the side that is not 1, or both stages. Assumes nothing.
 use borrow.Author.Rules.{rules}
-use mathlib.Core.Path.{◌≡◌, refl}
+use mathlib.Core.Path.{refl}
 use Rattle.transform_stages.proofs.stages.stages.Statement.{statement}
 use Rattle.transform_stages.proofs.stages.stages.Tie as tie
 

@@ -3,14 +3,14 @@ use borrow.Author.Rules.{rules}
 use native.Mathlib.Omega.{arith}
 use mathlib.Core.Path.{◌≡◌, sym, ◌∙◌}
 use mathlib.Core.List.{List}
-use Prim.Native.Nat.{ℕ, ◌+◌, ◌*◌, ◌/◌, ◌≤◌, ◌<◌}
+use Prim.Native.Nat.{◌*◌, ◌≤◌}
 use native.Mathlib.Nat.{mul_comm, mul-le-mul, mul-le-mul_right, le_refl}
 use lib.ListN.{length}
 use lib.IntN.{ℤ}
 use Rattle.algebra.proofs.Lists.{Rows, rows-room}
 use Rattle.transform_stages.specs.Work.{worked, GivenTwo}
 use Rattle.transform_stages.proofs.Copying.{read_none}
-use Rattle.transform_stages.proofs.Whole.{wide, high, columns-given, rails-read, rows-given, block_read}
+use Rattle.transform_stages.proofs.Whole.{wide, columns-given, rails-read, rows-given, block_read}
 use Rattle.transform_stages.proofs.stages.two_stages.Statement.{statement}
 use Rattle.transform_stages.proofs.stages.two_stages.Tie as tie
 

@@ -1,7 +1,6 @@
 -- `middling` meets its contract: the weights of a size, copied. Assumes nothing.
-use borrow.Author.Rules.{rules}
 use native.Mathlib.Omega.{arith}
-use mathlib.Core.Path.{◌≡◌, ◌∙◌}
+use mathlib.Core.Path.{◌∙◌}
 use Rattle.transform_stages.proofs.Lines.{of_size}
 use Rattle.transform_stages.proofs.weights.middling.Statement.{statement}
 use Rattle.transform_stages.proofs.weights.middling.Tie as tie

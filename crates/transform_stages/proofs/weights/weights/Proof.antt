@@ -2,9 +2,7 @@
 use borrow.Author.Rules.{rules}
 use native.Mathlib.Omega.{arith}
 use mathlib.Core.Path.{◌≡◌, sym, subst, ◌∙◌}
-use Prim.Native.Nat.{ℕ, ◌*◌, ◌≤◌, min}
-use Rattle.product.specs.Product.{Laid}
-use Rattle.meaning.specs.Weights.{weight}
+use Prim.Native.Nat.{ℕ}
 use Rattle.stage_weights.proofs.Rooms.{front}
 use Rattle.transform_stages.specs.Work.{LineWeights}
 use Rattle.transform_stages.proofs.Lines.{size-left, kind-of-64, kind-of-2, of-dct2}

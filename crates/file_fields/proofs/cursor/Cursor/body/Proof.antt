@@ -17,7 +17,7 @@ add-end : tie.Need-overflow_add-end
 add-end c =
     let s = c.before.before.before.args in
     let f = s.file.now in
-    let h : c.before.found-field.result-1.start + c.before.found-field.result-1.bytes ≤ length f = rw c.before.found-field.ensures (body-within f s.self) in
+    let h : c.before.found-field.result.start + c.before.found-field.result.bytes ≤ length f = rw c.before.found-field.ensures (body-within f s.self) in
     omega arith
 
 sub-result : tie.Need-slice_bounds-result-count
@@ -30,16 +30,16 @@ part-result-end : tie.Need-slice_bounds-result-end
 part-result-end c =
     let s = c.before.before.before.args in
     let f = s.file.now in
-    let h : c.before.found-field.result-1.start + c.before.found-field.result-1.bytes ≤ length f = rw c.before.found-field.ensures (body-within f s.self) in
+    let h : c.before.found-field.result.start + c.before.found-field.result.bytes ≤ length f = rw c.before.found-field.ensures (body-within f s.self) in
     omega arith
 
 returns : tie.Need-returns
 returns c =
     let s = c.before.before.before.before.args in
     let f = s.file.now in
-    let r = c.before.before.found-field.result-1 in
+    let r = c.before.before.found-field.result in
     let e : r.start + r.bytes - r.start ≡ r.bytes = omega arith in
-    rw (e, c.before.before.found-field.ensures, add_comm (body_start f s.self) s.file.ptr.1)
+    rw (e, c.before.before.found-field.ensures, add_comm (body_start f s.self) s.file.ref_ptr.1)
 
 pub body_spec : {M : Type 1} → statement M
 body_spec =

@@ -1,0 +1,5 @@
+-- The number falls.
+use Rattle.file_text.proofs.text.+put_digits.Given as goal
+
+abbrev pub decreases-put_digits : goal.decreases-put_digits
+decreases-put_digits l = l.n
