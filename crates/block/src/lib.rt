@@ -1,6 +1,7 @@
 // Blocks, in both directions, over any numbers and any buffers. The work behind them stands in `inverse_hunt`, `dct2_block`,
 // `inverse_block`, `forward_hunt` and `forward_block`.
 #![tactic(auto)]
+
 ghost use Rattle.std.specs.Prelude.{◌≡◌};
 ghost use Rattle.meaning.specs.Answer.{Outcome};
 ghost use Rattle.meaning.specs.Forward.{forward_outcome};

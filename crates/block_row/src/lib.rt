@@ -2,5 +2,6 @@
 // Numbers and Row, then of proofs/ OneByOne (the calls made one by one, over specs/Calls), NearExact (demand 3 of each block) and
 // Unique; then row.
 #![tactic(auto)]
+
 mod numbers;
 pub mod row;

@@ -1,6 +1,7 @@
 // Internal: what is read of a block, clipped to 16 bits on its way into a room: where nothing stands at an end of the range there, nothing
 // was outside of it, so one pass is both the look for 27 and the narrowing. `narrowing` has what the room is to hold.
 #![tactic(auto)]
+
 ghost use Rattle.std.specs.Prelude.{◌≡◌, true, ℕ, ◌+◌, ◌*◌, ◌≤◌, ◌<◌, pos, length};
 ghost use Rattle.std.specs.Int.{w16};
 ghost use Rattle.std.proofs.Common.{SFits};

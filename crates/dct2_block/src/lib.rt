@@ -3,6 +3,7 @@
 // a middle value stands at an end of its range; stages, both; alone, a block with one coefficient; worked, which of these a
 // block takes; kernels, which blocks are worked here.
 #![tactic(auto)]
+
 pub mod alone;
 pub mod along;
 pub mod down;

@@ -2,6 +2,7 @@
 // works four columns or rows side by side, by even and odd halves with literal weights, and leaves what it made turned. So the first
 // stage reads the block and leaves it turned, and the second turns it back. Read `kernel_levels` first.
 #![tactic(auto)]
+
 ghost use Rattle.std.specs.Prelude.{◌≡◌, false, ℕ, ◌≤◌, ◌<◌, length};
 ghost use Rattle.algebra.specs.Lists.{block};
 ghost use Rattle.product.specs.Product.{shifted};

@@ -2,4 +2,5 @@
 // Run, what a file prints (Does serves the functions inside that do a turn); then the theorems of proofs/: Unique, Fuel, Counted,
 // Printed, Numbers; then run.
 #![tactic(auto)]
+
 pub mod run;

@@ -1,6 +1,7 @@
 // Internal: one block, forward and back, and how far it strays: what `report` adds up. `trip` says nothing of its numbers where the
 // block is refused. Read specs/Trip; of proofs/, Back (the way back refuses nothing).
 #![tactic(auto)]
+
 ghost use Rattle.std.specs.Prelude.{◌≡◌, ◌*◌, ◌≤◌, max, min, nat_abs, ◌-ℤ◌, length};
 ghost use Rattle.algebra.specs.Sum.{sumℕ};
 ghost use Rattle.meaning.specs.Taken.{NoneAbove};

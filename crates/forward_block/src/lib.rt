@@ -2,4 +2,5 @@
 // but `block` depends on it. Read `forward_stage` first; specs/Stage, what a stage is given and what it leaves; then stages,
 // both of them.
 #![tactic(auto)]
+
 pub mod stages;

@@ -2,6 +2,7 @@
 // functions ask that sizes and lengths were tested before, so they have a `requires`; every function that a user calls stands in
 // `line` and has none. Read specs/Lines.
 #![tactic(auto)]
+
 ghost use Rattle.std.specs.Prelude.{◌≡◌, ◌+◌, ◌*◌, ◌<◌, length};
 ghost use Rattle.algebra.specs.Lists.{at};
 ghost use Rattle.meaning.specs.Weights.{weight};

@@ -2,5 +2,6 @@
 // given; specs/Settled with settle, what is done to the sums between them; shift, how far the last one shifts; proofs/Work, what their
 // lines are.
 #![tactic(auto)]
+
 pub mod settle;
 pub mod shift;

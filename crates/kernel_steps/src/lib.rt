@@ -7,6 +7,7 @@
 // Every count is a literal of the kernel and an argument here, so that LLVM unrolls the steps before it makes vectors of the
 // kernel's loop, and each weight is a constant of an instruction that multiplies and adds pairs of 16-bit numbers (pmaddwd).
 #![tactic(auto)]
+
 ghost use Rattle.std.specs.Prelude.{◌≡◌, ℕ, ◌+◌, ◌*◌, ◌-◌, ◌/◌, ◌%◌, ◌≤◌, ◌<◌, ◌+ℤ◌, ◌-ℤ◌, ◌*ℤ◌, nat_abs, length};
 ghost use Rattle.algebra.specs.Sum.{sum};
 ghost use Rattle.algebra.specs.Clip.{clip};

@@ -3,6 +3,7 @@
 // sums, specs/Work and stages. `wide` takes coefficients of
 // 16 bits to long numbers.
 #![tactic(auto)]
+
 pub mod arith;
 pub mod hunt;
 pub mod live;

@@ -3,6 +3,7 @@
 // (proofs/). Read specs/ in that order, then of proofs/ Numbers, Sharing, H266, Sizes, PlanSizes, Stages, Parts, NoRails, NearExact,
 // of long numbers LongRules, LongSizes, LongCall and LongOff, and Unique; the others serve these or the crates above.
 #![tactic(auto)]
+
 ghost use Rattle.std.specs.Prelude.{◌≡◌, ◌++◌, ◌*◌, min};
 ghost use Rattle.algebra.specs.Refusals.{number_of};
 ghost use Rattle.meaning.specs.Shape.{is_size, is_kind, is_depth, is_long_depth, most_kept, is_kept, keeps, shape_of, keeping};

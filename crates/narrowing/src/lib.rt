@@ -1,6 +1,7 @@
 // Internal: what is read of a block of 32-bit numbers, as 16-bit numbers in a room that is 0 beside and below them: the stages write
 // where it stood. Read specs/Narrow; of proofs/ Unread says that what is not read does not matter.
 #![tactic(auto)]
+
 ghost use Rattle.std.specs.Prelude.{◌≡◌, ℕ, ◌+◌, ◌<◌, length};
 ghost use Rattle.algebra.specs.Lists.{at, tabulate};
 ghost use Rattle.std.specs.Int.{w16};

@@ -6,6 +6,7 @@
 // (`products`) and added by a second one (`total`), the odd number named first, and the number of pairs a literal of the caller
 // of `lines`. docs/DECISIONS.md has what loses it.
 #![tactic(auto)]
+
 ghost use Rattle.std.specs.Prelude.{◌≡◌, ℕ, ◌+◌, ◌*◌, ◌-◌, ◌^◌, ◌≤◌, ◌<◌, pos, ◌+ℤ◌, ◌*ℤ◌, nat_abs, length, drop, ◌++◌};
 ghost use Rattle.algebra.specs.Sum.{sum};
 ghost use Rattle.algebra.specs.Lists.{at, tabulate, block};

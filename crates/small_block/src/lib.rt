@@ -1,6 +1,7 @@
 // 4 by 4 blocks by value: four lines of four go in and come back, and nothing is lent. Read specs/Small; of proofs/, FourByFour and
 // Unique.
 #![tactic(auto)]
+
 ghost use Rattle.std.specs.Prelude.{◌≡◌, ◌+◌, ◌≤◌};
 ghost use Rattle.algebra.specs.Lists.{at, tabulate, flat};
 ghost use Rattle.meaning.specs.Answer.{Outcome};

@@ -2,6 +2,7 @@
 // 32 points take them too. It asks that the size was tested. A room of 128 does for small blocks and for small parts of large ones;
 // one of 1024 has all. Read specs/Stage; of proofs/, Rooms.
 #![tactic(auto)]
+
 ghost use Rattle.std.specs.Prelude.{◌≡◌, true, ◌≤◌, min, length};
 ghost use Rattle.meaning.specs.Shape.{is_size};
 ghost use Rattle.stage_weights.specs.Stage.{Front, Weights};

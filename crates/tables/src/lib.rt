@@ -4,6 +4,7 @@
 // functions of this file, whose proofs have the checker test the fold rule over the whole table (proofs/Stored); specs/Term with
 // zipped; of proofs/, Unique. crates/tables/make writes weights and zipped.
 #![tactic(auto)]
+
 mod weights;
 pub mod zipped;
 

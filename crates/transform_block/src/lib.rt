@@ -5,6 +5,7 @@
 // `transform_line`), short (blocks of document 01, by `transform_short`), paired (other blocks of two stages with the switch off, by
 // `transform_pairs`, and by `transform_two` where a side is 2), long (the rest, by `transform_stages`).
 #![tactic(auto)]
+
 mod calm;
 mod check;
 mod hunt;

@@ -2,5 +2,6 @@
 // of which the first columns and rows are read. Read specs/Pairs; pairs, how many pairs a line of so many inputs takes; stages, both
 // stages, as `inverse_block` has them, on what `narrowing` has made 16-bit numbers of.
 #![tactic(auto)]
+
 pub mod pairs;
 pub mod stages;

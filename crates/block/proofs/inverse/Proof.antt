@@ -152,8 +152,8 @@ none-refused c =
 by-kernels-requires : tie.Need-by_kernels-requires
 by-kernels-requires c κs = given c.before
 
-kept : (c : tie.After-by_kernels) → length c.by_kernels.new.1.1.1.1.0 ≡ length c.before.before.before.before.before.before.before.before.before.before.args.residuals.now
-kept c = c.by_kernels.auto.1.1.1.1.0
+kept : (c : tie.After-by_kernels) → length c.by_kernels.new.r ≡ length c.before.before.before.before.before.before.before.before.before.before.args.residuals.now
+kept c = c.by_kernels.auto.r
 
 stages-requires : tie.Need-stages-rails-requires
 stages-requires c κs =
@@ -210,23 +210,19 @@ by_way : (c : tie.Else-place-c) {rail : ℕ} {l : List ℤ} → let s = c.before
 by_way c {rail} {l} p q =
     ap (λ (n : ℕ). (answer_of n rail, l)) (nothing c.before.before.before.before) ∙ (λ i. (accepted (p i), q i)) ∙ sym (none-refused c)
 
-flipped : (b : Bool) → not b ≡ false → b ≡ true
-flipped true e = refl
-flipped false e = absurd (true≢false e)
-
 settled : (J : tie.Joined-number-eq0) → (answer_of J.if-number-eq0.code J.if-number-eq0.rails, J.if-number-eq0.residuals) ≡ outcome J.before.before
 settled J =
     ⊎_elim
-    (λ t. (λ i. (answer_of (t.6 i) (t.7 i), t.5 i))
-    ∙ by_place (record { before = record { before = record { before = record { before = record { before = J.before; if1 = t.0 }; rows = t.1 }; columns = t.2 }; first-outside = t.3 }; if2 = t.4 }))
+    (λ t. (λ i. (answer_of (t.code-is i) (t.rails-is i), t.residuals-is i))
+    ∙ by_place (record { before = record { before = record { before = record { before = record { before = J.before; if-number-eq0 = t.if-number-eq0 }; rows-rows = t.rows-rows }; columns-columns = t.columns-columns }; first_outside-place = t.first_outside-place }; if-place-c = t.if-place-c }))
     (⊎_elim
-    (λ t. let E : tie.Else-place-c = record { before = record { before = record { before = record { before = record { before = J.before; if1 = t.0 }; rows = t.1 }; columns = t.2 }; first-outside = t.3 }; if2 = t.4 } in
-    (λ i. (answer_of (t.13 i) (t.14 i), t.12 i)) ∙ by_way E t.10.ensures.0 t.10.ensures.1)
+    (λ t. let E : tie.Else-place-c = record { before = record { before = record { before = record { before = record { before = J.before; if-number-eq0 = t.if-number-eq0 }; rows-rows = t.rows-rows }; columns-columns = t.columns-columns }; first_outside-place = t.first_outside-place }; if-place-c = t.if-place-c } in
+    (λ i. (answer_of (t.code-is i) (t.rails-is i), t.residuals-is i)) ∙ by_way E t.stages-rails.ensures.0 t.stages-rails.ensures.1)
     (⊎_elim
-    (λ t. let E : tie.Else-place-c = record { before = record { before = record { before = record { before = record { before = J.before; if1 = t.0 }; rows = t.1 }; columns = t.2 }; first-outside = t.3 }; if2 = t.4 } in
-    let d = t.6.ensures (flipped _ t.8.left) in
-    (λ i. (answer_of (t.10 i) (t.11 i), t.9 i)) ∙ by_way E (sym d.0) d.1)
-    (λ t. (λ i. (answer_of (t.2 i) (t.3 i), t.1 i)) ∙ by_number (record { before = J.before; if1 = t.0 }))))
+    (λ t. let E : tie.Else-place-c = record { before = record { before = record { before = record { before = record { before = J.before; if-number-eq0 = t.if-number-eq0 }; rows-rows = t.rows-rows }; columns-columns = t.columns-columns }; first_outside-place = t.first_outside-place }; if-place-c = t.if-place-c } in
+    let d = t.by_kernels.ensures t.if-not-by_kernels.false in
+    (λ i. (answer_of (t.code-is i) (t.rails-is i), t.residuals-is i)) ∙ by_way E (sym d.0) d.1)
+    (λ t. (λ i. (answer_of (t.code-is i) (t.rails-is i), t.residuals-is i)) ∙ by_number (record { before = J.before; if-number-eq0 = t.if-number-eq0 }))))
     J.if-number-eq0.branch-raw
 
 answered-requires : tie.Need-answered-requires
@@ -240,14 +236,14 @@ returns c =
 -- none of the ways changes how many residuals there are
 as_long : (J : tie.Joined-number-eq0) → length J.if-number-eq0.residuals ≡ length J.before.before.before.before.args.residuals.now
 as_long J =
-    ⊎_elim (λ t. ap length t.5)
+    ⊎_elim (λ t. ap length t.residuals-is)
     (⊎_elim
-    (λ t. let E : tie.Else-place-c = record { before = record { before = record { before = record { before = record { before = J.before; if1 = t.0 }; rows = t.1 }; columns = t.2 }; first-outside = t.3 }; if2 = t.4 } in
-    ap length t.12 ∙ t.10.kept.1.1.1.1.0 ∙ kept (record { before = record { before = E; by-kernels-arg = t.5 }; by-kernels = t.6 }))
+    (λ t. let E : tie.Else-place-c = record { before = record { before = record { before = record { before = record { before = J.before; if-number-eq0 = t.if-number-eq0 }; rows-rows = t.rows-rows }; columns-columns = t.columns-columns }; first_outside-place = t.first_outside-place }; if-place-c = t.if-place-c } in
+    ap length t.residuals-is ∙ t.stages-rails.auto.r ∙ kept (record { before = record { before = E; by_kernels-arg-1 = t.by_kernels-arg-1 }; by_kernels = t.by_kernels }))
     (⊎_elim
-    (λ t. let E : tie.Else-place-c = record { before = record { before = record { before = record { before = record { before = J.before; if1 = t.0 }; rows = t.1 }; columns = t.2 }; first-outside = t.3 }; if2 = t.4 } in
-    ap length t.9 ∙ kept (record { before = record { before = E; by-kernels-arg = t.5 }; by-kernels = t.6 }))
-    (λ t. ap length t.1)))
+    (λ t. let E : tie.Else-place-c = record { before = record { before = record { before = record { before = record { before = J.before; if-number-eq0 = t.if-number-eq0 }; rows-rows = t.rows-rows }; columns-columns = t.columns-columns }; first_outside-place = t.first_outside-place }; if-place-c = t.if-place-c } in
+    ap length t.residuals-is ∙ kept (record { before = record { before = E; by_kernels-arg-1 = t.by_kernels-arg-1 }; by_kernels = t.by_kernels }))
+    (λ t. ap length t.residuals-is)))
     J.if-number-eq0.branch-raw
 
 same_length : tie.Need-shape_of-residuals

@@ -44,8 +44,8 @@ loop-again c =
       (
         omega arith,
         λ e. elim c.if-c-i-ne0.branch [
-          then-c-i-ne0 w ↦ absurd (true≢false (sym w.found-is ∙ e))
-        | else-c-i-ne0 w ↦ clear-more l L.before.args.a L.loop-i.i (L.loop-i.invariant.1.1 (sym w.found-is ∙ e)) (sym v ∙ ap (to_z w16) w.if-c-i-ne0.false)
+          | then-c-i-ne0 w ↦ absurd (true≢false (sym w.found-is ∙ e))
+          | else-c-i-ne0 w ↦ clear-more l L.before.args.a L.loop-i.i (L.loop-i.invariant.1.1 (sym w.found-is ∙ e)) (sym v ∙ ap (to_z w16) w.if-c-i-ne0.false)
         ],
       ),
     )
