@@ -148,11 +148,16 @@ fn is_standard_input(path: &[u8]) -> bool {
     path[0] == b'-'
 }
 
-// Opens a file by its name. std's names are text.
-fn open<R: Files>(rt: &R, path: &[u8]) -> io::Result<R::File> {
+// Opens the file that word i names.
+fn open<R: Files>(rt: &R, path: &[u8], i: usize, lent: bool) -> io::Result<R::File> {
     match std::str::from_utf8(path) {
-        Ok(text) => File::open(rt, text),
-        Err(_) => Err(io::Error::from(ErrorKind::InvalidFilename)),
+        Ok(name) => File::open(rt, name),
+        Err(_) => {
+            if lent {
+                return descriptor::open(rt, i.saturating_add(10));
+            }
+            Err(io::Error::from(ErrorKind::InvalidFilename))
+        }
     }
 }
 
@@ -163,6 +168,7 @@ pub fn take<R: Env + Files>(
     err: &impl Print,
     totals: &mut [u64; 578],
     i: usize,
+    lent: bool,
     progress: bool,
 ) -> u32 {
     let mut space = word_buffer();
@@ -171,7 +177,7 @@ pub fn take<R: Env + Files>(
     if is_standard_input(path) {
         return take_input(rt, input, err, totals, i, path, progress);
     }
-    match open(rt, path) {
+    match open(rt, path, i, lent) {
         Ok(mut file) => take_input(rt, &mut file, err, totals, i, path, progress),
         Err(_) => {
             ending::unread(rt, i);

@@ -1,6 +1,7 @@
 // Prints totals of the tag 03 blocks of block files, each run forward and back: `blocks_report FILE... PROGRESS`. A block that is
 // refused is counted; a field that is refused ends its file, and a line on standard error says so. With 4 for PROGRESS, how many
-// files are done is written to that descriptor. Nothing is proved here but that it ends: `tests/report` holds what is printed to
+// files are done is written to that descriptor. std opens a file whose name is UTF-8 text; with a d behind, as -d or 4d, another one is
+// open on the descriptor 10 above its word's number. Nothing is proved here but that it ends: `tests/report` holds what is printed to
 // the harness's model.
 #![tactic(auto)]
 
@@ -30,6 +31,16 @@ fn wanted(rt: &impl Env, i: usize) -> bool {
     space[0] == b'4'
 }
 
+// Whether a word says that files without a name in text are open.
+fn lent(rt: &impl Env, i: usize) -> bool {
+    let mut space = word_buffer();
+    let n = word(rt, i, &mut space);
+    if n < 2 {
+        return false;
+    }
+    space[1] == b'd'
+}
+
 // All files, up to one that cannot be read; whether a refusal ended one of them.
 fn take_all<R: Env + Files>(
     rt: &R,
@@ -39,10 +50,11 @@ fn take_all<R: Env + Files>(
     last: usize,
     progress: bool,
 ) -> u32 {
+    let lent = lent(rt, last);
     let mut how = files::ENDED;
     let mut i = 1;
     while i < last {
-        let taken = files::take(rt, input, err, totals, i, progress);
+        let taken = files::take(rt, input, err, totals, i, lent, progress);
         if taken == files::STOPPED {
             return files::STOPPED;
         }

@@ -1,6 +1,6 @@
 // A descriptor by its number. std reaches one by its path alone, which opens it anew: what it is open on is written at its end.
-use std::fs::OpenOptions;
-use std::io::Write;
+use std::fs::{File, OpenOptions};
+use std::io::{Cursor, ErrorKind, Write};
 use std::rt::Files;
 use std::{fs, io};
 
@@ -21,5 +21,17 @@ fn append(rt: &impl Files, path: &str, words: &[u8]) -> io::Result<()> {
 pub fn write(rt: &impl Files, path: &str, words: &[u8]) {
     if is_written(rt, path) {
         let _ = append(rt, path, words);
+    }
+}
+
+// For reading, from the start of what it is open on.
+pub fn open<R: Files>(rt: &R, number: usize) -> io::Result<R::File> {
+    let mut room = [0u8; 40];
+    let mut text = Cursor::new(&mut room[..]);
+    write!(text, "/proc/self/fd/{number}")?;
+    let end = text.position() as usize;
+    match std::str::from_utf8(&room[..end.min(40)]) {
+        Ok(path) => File::open(rt, path),
+        Err(_) => Err(io::Error::from(ErrorKind::InvalidFilename)),
     }
 }

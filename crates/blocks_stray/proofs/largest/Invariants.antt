@@ -1,4 +1,4 @@
-use Rattle.std.proofs.Common.{length, ◌-◌, ◌≡◌, ◌≤◌, ◌*◌, ◌<◌}
+use Rattle.std.proofs.Common.{◌-◌}
 use Rattle.blocks_stray.proofs.largest.Given as goal
 
 abbrev pub decreases-loop-j : goal.decreases-loop-j

@@ -1,4 +1,4 @@
-use Rattle.std.proofs.Common.{length, ◌-◌, ◌≡◌, ◌≤◌, ◌*◌, ◌<◌}
+use Rattle.std.proofs.Common.{length, ◌-◌, ◌≡◌}
 use Rattle.blocks_stray.proofs.put_places.Given as goal
 
 abbrev pub invariant-loop-j : goal.invariant-loop-j

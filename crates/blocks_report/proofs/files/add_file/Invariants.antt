@@ -1,4 +1,3 @@
-use Rattle.std.proofs.Common.{length, ◌-◌, ◌≡◌, ◌≤◌, ◌*◌, ◌<◌}
 use Rattle.blocks_report.proofs.files.add_file.Given as goal
 
 abbrev pub decreases-loop-left : goal.decreases-loop-left

@@ -1,4 +1,4 @@
-use Rattle.std.proofs.Common.{length, ◌-◌, ◌≡◌, ◌≤◌, ◌*◌, ◌<◌}
+use Rattle.std.proofs.Common.{length, ◌-◌, ◌≡◌, ◌≤◌}
 use Rattle.blocks_report.proofs.table.put_lines.Given as goal
 
 abbrev pub invariant-loop-class : goal.invariant-loop-class

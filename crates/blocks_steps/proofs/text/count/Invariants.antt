@@ -1,4 +1,4 @@
-use Rattle.std.proofs.Common.{length, ◌-◌, ◌≡◌, ◌≤◌, ◌*◌, ◌<◌}
+use Rattle.std.proofs.Common.{length, ◌-◌, ◌≤◌}
 use Rattle.blocks_steps.proofs.text.count.Given as goal
 
 abbrev pub invariant-loop-i : goal.invariant-loop-i

@@ -1,4 +1,4 @@
-use Rattle.std.proofs.Common.{length, ◌-◌, ◌≡◌, ◌≤◌, ◌*◌, ◌<◌}
+use Rattle.std.proofs.Common.{length, ◌-◌, ◌≡◌}
 use Rattle.blocks_steps.proofs.text.put_inputs.Given as goal
 
 abbrev pub invariant-loop-k : goal.invariant-loop-k

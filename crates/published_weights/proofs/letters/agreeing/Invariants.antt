@@ -1,4 +1,4 @@
-use Rattle.std.proofs.Common.{length, ◌-◌, ◌≡◌, ◌≤◌, ◌*◌, ◌<◌}
+use Rattle.std.proofs.Common.{length, ◌-◌, ◌≤◌}
 use Rattle.published_weights.proofs.letters.agreeing.Given as goal
 
 abbrev pub invariant-loop-k : goal.invariant-loop-k
