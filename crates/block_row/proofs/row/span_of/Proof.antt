@@ -13,7 +13,7 @@ is-size-requires : tie.Need-is_size-requires
 is-size-requires c κs = search rules
 
 returns : tie.Need-returns-then-not-is_size
-returns c = sym (span-wide c.before.before.args.shape (sym c.before.is_size.ensures ∙ not-true c.before.is_size.result c.if-not-is_size.true))
+returns c = sym (span-wide c.before.before.args.shape (sym c.before.is_size.ensures ∙ c.if-not-is_size.true))
 
 is-size-requires-2 : tie.Need-is_size-requires-2
 is-size-requires-2 c κs = search rules
@@ -21,8 +21,8 @@ is-size-requires-2 c κs = search rules
 returns-2 : tie.Need-returns-then-not-is_size-2
 returns-2 c =
     let s = c.before.before.before.before.args.shape in
-    sym (span-high s (sym c.before.before.before.is_size.ensures ∙ not-false c.before.before.before.is_size.result c.before.before.if-not-is_size.false)
-    (sym c.before.is_size-2.ensures ∙ not-true c.before.is_size-2.result c.if-not-is_size-2.true))
+    sym (span-high s (sym c.before.before.before.is_size.ensures ∙ c.before.before.if-not-is_size.false)
+    (sym c.before.is_size-2.ensures ∙ c.if-not-is_size-2.true))
 
 cast-result : tie.Need-overflow_cast-result
 cast-result c = search rules
@@ -39,8 +39,8 @@ mul-result c =
 returns-3 : tie.Need-returns
 returns-3 c =
     let s = c.before.before.before.before.before.before.args.shape in
-    sym (span-sized s (sym c.before.before.before.before.before.is_size.ensures ∙ not-false c.before.before.before.before.before.is_size.result c.before.before.before.before.if-not-is_size.false)
-    (sym c.before.before.before.is_size-2.ensures ∙ not-false c.before.before.before.is_size-2.result c.before.before.if-not-is_size-2.false))
+    sym (span-sized s (sym c.before.before.before.before.before.is_size.ensures ∙ c.before.before.before.before.if-not-is_size.false)
+    (sym c.before.before.before.is_size-2.ensures ∙ c.before.before.if-not-is_size-2.false))
 
 pub span_of_spec : {M : Type 1} → statement M
 span_of_spec =

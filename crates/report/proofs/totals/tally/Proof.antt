@@ -41,7 +41,7 @@ returns-2 c =
     let z = c.before.before.before.before.if-answer-ne0.false in
     let n = sym (ap (λ (a : Answer). a.number) w.ensures.0) ∙ z in
     let m = w.ensures.1 z in
-    let rails = ap (λ (a : Answer). a.rails) (w.ensures.0 ∙ (took sh r n).answer-1) in (
+    let rails = ap (λ (a : Answer). a.rails) (w.ensures.0 ∙ (took sh r n).answer) in (
       w.ensures.0,
       c.enter.ensures ∙ (λ i. entered (c.before.before.place.ensures.0 i) (rails i) (m.0 i) (m.1 i) s.args.totals.now) ∙ sym (counted-taken sh r s.args.totals.now n),
     )

@@ -51,10 +51,10 @@ module _ (c : tie.Else-not-clip_read) where
   front = take (length n) room
 
   held : Narrowed (length (replicate 16 (pos 0))) n s.args.width s.args.columns s.args.rows s.args.width room
-  held = (c.before.before.clip_read.ensures (not-false _ c.if-not-clip_read.false)).0
+  held = (c.before.before.clip_read.ensures c.if-not-clip_read.false).0
 
   read : GivenRead (shape s) n
-  read = record { taken = s.requires.taken; long = s.requires.long; fits = (c.before.before.clip_read.ensures (not-false _ c.if-not-clip_read.false)).1 }
+  read = record { taken = s.requires.taken; long = s.requires.long; fits = (c.before.before.clip_read.ensures c.if-not-clip_read.false).1 }
 
   there : length n ≤ length room
   there = narrowed.there (shape s) n read (length (replicate 16 (pos 0))) (enough s) room held

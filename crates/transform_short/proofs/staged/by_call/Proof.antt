@@ -19,7 +19,7 @@ returns c =
     let s = c.before.before.before in
     let b = s.args.shape in
     let l = s.args.c.now in
-    let done : ◌≡◌ {A = Outcome} (c.before.inverse.result, c.before.inverse.new.1.1.0) (accepted (rails (plan_of b) l), inverse_block (plan_of b) l) =
+    let done : ◌≡◌ {A = Outcome} (c.before.inverse.result, c.before.inverse.new.residuals) (accepted (rails (plan_of b) l), inverse_block (plan_of b) l) =
     c.before.inverse.ensures ∙ called b l s.args.r.now s.requires in
     (ap (λ (o : Outcome). o.0.rails) done, ap (λ (o : Outcome). o.1) done)
 

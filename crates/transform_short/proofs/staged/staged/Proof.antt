@@ -40,7 +40,7 @@ larger-requires c κs =
     let C = W.before.before.before.before in
     let R = C.before.before in
     let s = R.before.before in
-    given-stages s.args.shape s.args.c.now W.worked.new.1.1.1.1.0 (given-again s.args.shape s.args.c.now s.args.r.now W.worked.new.1.1.1.1.0 W.worked.auto.1.1.1.1.0 s.requires) R.size_for_lem.result C.size_for-columns.result R.size_for_lem.ensures C.size_for-columns.ensures
+    given-stages s.args.shape s.args.c.now W.worked.new.r (given-again s.args.shape s.args.c.now s.args.r.now W.worked.new.r W.worked.auto.r s.requires) R.size_for-rows.result C.size_for-columns.result R.size_for-rows.ensures C.size_for-columns.ensures
 
 same-length-2 : tie.Need-shape_of-r-then-is_dct2
 same-length-2 c = search rules
