@@ -46,10 +46,10 @@ module _ (c : tie.Else-not-clip_read) where
   room = c.before.before.clip_read.new.room
 
   held : Narrowed (length (replicate 64 (pos 0))) n s.args.width s.args.columns s.args.rows s.args.width room
-  held = (c.before.before.clip_read.ensures (not-false _ c.if-not-clip_read.false)).0
+  held = (c.before.before.clip_read.ensures c.if-not-clip_read.false).0
 
   read : GivenRead (shape s) n
-  read = record { taken = s.requires.taken; long = s.requires.long; fits = (c.before.before.clip_read.ensures (not-false _ c.if-not-clip_read.false)).1 }
+  read = record { taken = s.requires.taken; long = s.requires.long; fits = (c.before.before.clip_read.ensures c.if-not-clip_read.false).1 }
 
 array-share-prefix-room : tie.Need-slice_bounds-room-end
 array-share-prefix-room c = there (shape (s c)) (n c) (read c) (length (replicate 64 (pos 0))) (enough (s c)) (room c) (held c)

@@ -21,7 +21,7 @@ returns : tie.Need-returns-then-four_quick
 returns c = c.before.before.four_quick.ensures.done c.if-four_quick.true
 
 -- the numbers are as they were
-same : (c : tie.Else-four_quick) → c.before.before.four_quick.new.1.0 ≡ c.before.before.before.before.before.args.numbers.now
+same : (c : tie.Else-four_quick) → c.before.before.four_quick.new.numbers ≡ c.before.before.before.before.before.args.numbers.now
 same c = c.before.before.four_quick.ensures.left c.if-four_quick.false
 
 called-requires : tie.Need-called-requires

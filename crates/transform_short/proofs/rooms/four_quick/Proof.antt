@@ -14,7 +14,7 @@ returns : tie.Need-returns-then-not-is_dct2
 returns c = record { left = λ _. refl; fits = λ e. absurd (true≢false (sym e)); done = λ e. absurd (true≢false (sym e)) }
 
 kinds : (c : tie.Else-not-is_dct2) → let s = c.before.before in (s.args.shape.horizontal ≡ 0) × (s.args.shape.vertical ≡ 0)
-kinds c = c.before.is_dct2.ensures (not-false _ c.if-not-is_dct2.false)
+kinds c = c.before.is_dct2.ensures c.if-not-is_dct2.false
 
 quick-four-requires : tie.Need-quick_four-requires
 quick-four-requires c κs =

@@ -16,7 +16,7 @@ enough : (s : tie.Start) → length s.args.numbers.now ≤ length (replicate 102
 enough s = omega (arith, length-replicate 1024 (pos 0), few s.args.shape s.args.numbers.now s.requires)
 
 abbrev room : tie.After-read → List ℤ
-room c = c.read.new.1.1.0
+room c = c.read.new.room
 
 slice-aggregate-read : tie.Need-slice_bounds-read-end
 slice-aggregate-read c = search rules
