@@ -22,7 +22,7 @@ use Rattle.meaning.proofs.Cases.{or_cases, and_cases, size-cases, depth-cases}
 use Rattle.meaning.proofs.KeptPart.{columns-kept, rows-kept}
 use Rattle.thin_block.specs.Thin as thin
 use Rattle.thin_block.proofs.Passed.{TakenThin}
-use Rattle.thin_block.proofs.Areas.{taken, after_one}
+use Rattle.thin_block.proofs.Areas.{taken, after_one_lem}
 use Rattle.transform_block.specs.declared.TransformBlock.{TransformBlock}
 use Rattle.transform_block.specs.TransformBlock.{is_block_side, is_pair, no_line, is_on, is_thin, reach_of, last_of, side_sum, side_residual, side_block, has_low, is_corner, is_low, transform_outcome}
 use Rattle.transform_block.specs.Given.{TakenFields, GivenWork}
@@ -104,4 +104,4 @@ module _ (b : TransformBlock) (none : has_low b ≡ false) (low : is_low b ≡ t
       → (transform_outcome b c ≡ (accepted 0, thin.thin_block (shaped b) c)) × ((thin.thin_outcome (shaped b) c first second).first ≡ thin.thin_block (shaped b) c ++ drop (b.width * b.height) first)
   unfolding is_thin thin.one_stage
   same-as-thin one =
-      (plain_done b c given none ∙ rw one (ap (λ (l : List ℤ). (accepted 0, l)) (sym (same_line one))), ap (λ (o : thin.Areas). o.first) (after_one (shaped b) c first second number one))
+      (plain_done b c given none ∙ rw one (ap (λ (l : List ℤ). (accepted 0, l)) (sym (same_line one))), ap (λ (o : thin.Areas). o.first) (after_one_lem (shaped b) c first second number one))

@@ -9,7 +9,7 @@ use Rattle.transform_block.proofs.calm.short_of.Tie as tie
 last-requires : tie.Need-last-requires
 last-requires c κs = c.requires.1.1.1
 
-sub-t3 : tie.Need-overflow-sub-t3
+sub-t3 : tie.Need-overflow_sub-result
 sub-t3 c = let s = c.before in omega (arith, c.last.ensures, last_on s.args.block s.requires.0 s.requires.1.0 s.requires.1.1.0 s.requires.1.1.1)
 
 returns : tie.Need-returns
@@ -29,5 +29,5 @@ returns c =
       transposed = b.transposed;
     }
 
-pub short-of-spec : {M : Type 1} → statement M
-short-of-spec = tie.close (tie.spec last-requires sub-t3 returns)
+pub short_of_spec : {M : Type 1} → statement M
+short_of_spec = tie.close (tie.spec last-requires sub-t3 returns)

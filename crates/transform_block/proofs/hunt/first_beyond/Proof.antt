@@ -9,19 +9,19 @@ use Rattle.transform_block.proofs.Taken.{columns-read, rows-read, far}
 use Rattle.transform_block.proofs.hunt.first_beyond.Statement.{statement}
 use Rattle.transform_block.proofs.hunt.first_beyond.Tie as tie
 
-cast-first-read : tie.Need-overflow-cast-first-read
+cast-first-read : tie.Need-overflow_cast-block
 cast-first-read c = search rules
 
-cast-first-read-2 : tie.Need-overflow-cast-first-read-2
+cast-first-read-2 : tie.Need-overflow_cast-block-2
 cast-first-read-2 c = search rules
 
-cast-first-read-3 : tie.Need-overflow-cast-first-read-3
+cast-first-read-3 : tie.Need-overflow_cast-block-3
 cast-first-read-3 c = search rules
 
 reach-requires : tie.Need-reach-requires
 reach-requires c κs = search rules
 
-first-read-requires : tie.Need-first-read-requires
+first-read-requires : tie.Need-first_read-requires
 first-read-requires c κs =
     let s = c.before.before.before.before in
     let b = s.args.block in
@@ -41,5 +41,5 @@ returns c =
     let b = s.args.block in
     c.first_read.ensures ∙ ap (λ (r : ℕ). first_read b.width b.columns b.rows r s.args.c.now) R.reach.ensures
 
-pub first-beyond-spec : {M : Type 1} → statement M
-first-beyond-spec = tie.close (tie.spec cast-first-read cast-first-read-2 cast-first-read-3 reach-requires first-read-requires returns)
+pub first_beyond_spec : {M : Type 1} → statement M
+first_beyond_spec = tie.close (tie.spec cast-first-read cast-first-read-2 cast-first-read-3 reach-requires first-read-requires returns)

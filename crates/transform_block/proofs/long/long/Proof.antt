@@ -24,7 +24,7 @@ stages-requires c κs =
     subst (λ (r : ℕ). stage.Given b.width b.height b.horizontal b.vertical b.columns b.rows r A.last.result s.args.numbers.now) (sym R.reach.ensures)
     (subst (λ (l : ℕ). stage.Given b.width b.height b.horizontal b.vertical b.columns b.rows (reach_of b) l s.args.numbers.now) (sym A.last.ensures) (given-stages b s.args.numbers.now s.requires))
 
-same_length : tie.Need-same-length
+same_length : tie.Need-shape_of-numbers
 same_length c = search rules
 
 returns : tie.Need-returns
@@ -35,10 +35,10 @@ returns c =
     let b = s.args.block in
     let n = s.args.numbers.now in
     let k = c.before.stages.result in
-    let out = c.before.stages.new.1.1.1.1.1.1.1.1.0 in
+    let out = c.before.stages.new.numbers in
     staged b n s.requires k out
     (subst (λ (l : ℕ). stage.Staged b.width b.height b.horizontal b.vertical b.columns b.rows (reach_of b) l n k out) A.last.ensures
     (subst (λ (r : ℕ). stage.Staged b.width b.height b.horizontal b.vertical b.columns b.rows r A.last.result n k out) R.reach.ensures c.before.stages.ensures))
 
-pub long-spec : {M : Type 1} → statement M
-long-spec = tie.close (tie.spec reach-requires last-requires stages-requires same_length returns)
+pub long_spec : {M : Type 1} → statement M
+long_spec = tie.close (tie.spec reach-requires last-requires stages-requires same_length returns)

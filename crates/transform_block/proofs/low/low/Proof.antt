@@ -18,7 +18,7 @@ stage-requires c κs =
     let b = s.args.block in
     subst (λ (r : ℕ). GivenStage b.width b.height b.lfnst b.set r b.columns b.rows s.args.numbers.now) (sym R.reach.ensures) (stage-given b s.args.numbers.now s.requires.0.0 s.requires.0.1)
 
-same_length : tie.Need-same-length
+same_length : tie.Need-shape_of-numbers
 same_length c = c.before.stage.ensures.long
 
 returns : tie.Need-returns
@@ -44,5 +44,5 @@ returns c =
       stage-left b s.requires.0.0.taken s.requires.0.1 R.reach.ensures S.stage.ensures,
     )
 
-pub low-spec : {M : Type 1} → statement M
-low-spec = tie.close (tie.spec reach-requires stage-requires same_length returns)
+pub low_spec : {M : Type 1} → statement M
+low_spec = tie.close (tie.spec reach-requires stage-requires same_length returns)

@@ -4,11 +4,11 @@ use borrow.Author.Tests.{eqb-true}
 use Rattle.transform_block.proofs.paired.has_two.Statement.{statement}
 use Rattle.transform_block.proofs.paired.has_two.Tie as tie
 
-returns : tie.Need-returns
-returns c = λ e. inl c.if1.true
+returns : tie.Need-returns-then-block-eq2
+returns c = λ e. inl c.if-block-eq2.true
 
-returns-2 : tie.Need-returns-2
+returns-2 : tie.Need-returns
 returns-2 c = λ e. inr (eqb-true _ _ e)
 
-pub has-two-spec : {M : Type 1} → statement M
-has-two-spec = tie.close (tie.spec returns returns-2)
+pub has_two_spec : {M : Type 1} → statement M
+has_two_spec = tie.close (tie.spec returns returns-2)

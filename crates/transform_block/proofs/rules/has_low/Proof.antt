@@ -8,5 +8,5 @@ returns : tie.Need-returns
 unfolding has_low
 returns c = refl
 
-pub has-low-spec : {M : Type 1} → statement M
-has-low-spec = tie.close (tie.spec returns)
+pub has_low_spec : {M : Type 1} → statement M
+has_low_spec = tie.close (tie.spec returns)

@@ -8,5 +8,5 @@ returns : tie.Need-returns
 unfolding is_on
 returns c = refl
 
-pub is-on-spec : {M : Type 1} → statement M
-is-on-spec = tie.close (tie.spec returns)
+pub is_on_spec : {M : Type 1} → statement M
+is_on_spec = tie.close (tie.spec returns)

@@ -10,7 +10,7 @@ use Rattle.transform_block.proofs.short.short.Tie as tie
 stages-requires : tie.Need-stages-requires
 stages-requires c κs = let s = c.before in given-read s.args.block s.requires.1 s.args.numbers.now s.requires.0
 
-same_length : tie.Need-same-length
+same_length : tie.Need-shape_of-numbers
 same_length c = search rules
 
 returns : tie.Need-returns
@@ -21,5 +21,5 @@ returns c =
     let e = c.before.stages.ensures in
     (e.0 ∙ ap (λ (p : Plan). rails p n) p, e.1 ∙ ap (λ (p : Plan). inverse_block p n) p)
 
-pub short-spec : {M : Type 1} → statement M
-short-spec = tie.close (tie.spec stages-requires same_length returns)
+pub short_spec : {M : Type 1} → statement M
+short_spec = tie.close (tie.spec stages-requires same_length returns)

@@ -5,11 +5,11 @@ use borrow.Author.Tests.{eqb-true}
 use Rattle.transform_block.proofs.usual.is_one.Statement.{statement}
 use Rattle.transform_block.proofs.usual.is_one.Tie as tie
 
-returns : tie.Need-returns
+returns : tie.Need-returns-then-block-ne1
 returns c e = absurd (true≢false (sym e))
 
-returns-2 : tie.Need-returns-2
-returns-2 c e = (c.before.if1.false, eqb-true _ _ e)
+returns-2 : tie.Need-returns
+returns-2 c e = (c.before.if-block-ne1.false, eqb-true _ _ e)
 
-pub is-one-spec : {M : Type 1} → statement M
-is-one-spec = tie.close (tie.spec returns returns-2)
+pub is_one_spec : {M : Type 1} → statement M
+is_one_spec = tie.close (tie.spec returns returns-2)

@@ -9,28 +9,28 @@ use Rattle.transform_block.proofs.UsualBlock.{given-quick, quick-done}
 use Rattle.transform_block.proofs.usual.tried.Statement.{statement}
 use Rattle.transform_block.proofs.usual.tried.Tie as tie
 
-is-usual-requires : tie.Need-is-usual-requires
+is-usual-requires : tie.Need-is_usual-requires
 is-usual-requires c κs = search rules
 
-returns : tie.Need-returns
+returns : tie.Need-returns-then-not-is_usual
 returns c = record { left = λ _. refl; done = λ e. absurd (true≢false (sym e)) }
 
-usual : (c : tie.Else1) → let s = c.before.before in Usual s.args.block (length s.args.numbers.now)
-usual c = c.before.is-usual.ensures (not-false _ c.if1.false)
+usual : (c : tie.Else-not-is_usual) → let s = c.before.before in Usual s.args.block (length s.args.numbers.now)
+usual c = c.before.is_usual.ensures (c.if-not-is_usual.false)
 
-is-one-requires : tie.Need-is-one-requires
+is-one-requires : tie.Need-is_one-requires
 is-one-requires c κs = search rules
 
 filled-requires : tie.Need-filled-requires
 filled-requires c κs =
     let T = c.before.before in
     let I = T.before.before in
-    (usual I, T.before.is_one.ensures T.if2.true)
+    (usual I, T.before.is_one.ensures T.if-is_one.true)
 
-same_length : tie.Need-same-length
+same_length : tie.Need-shape_of-numbers-then-is_one
 same_length c = search rules
 
-returns-2 : tie.Need-returns-2
+returns-2 : tie.Need-returns-then-is_one
 returns-2 c = c.before.filled.ensures
 
 quick-requires : tie.Need-quick-requires
@@ -39,15 +39,15 @@ quick-requires c κs =
     let s = I.before.before in
     given-quick s.args.block s.args.numbers.now (usual I)
 
-same-length-2 : tie.Need-same-length-2
+same-length-2 : tie.Need-shape_of-numbers
 same-length-2 c = search rules
 
-returns-3 : tie.Need-returns-3
+returns-3 : tie.Need-returns
 returns-3 c =
     let Q = c.before in
     let I = Q.before.before.before.before.before in
     let s = I.before.before in
     record { left = Q.quick.ensures.left; done = quick-done s.args.block s.args.numbers.now (usual I) Q.quick.ensures }
 
-pub tried-spec : {M : Type 1} → statement M
-tried-spec = tie.close (tie.spec is-usual-requires returns is-one-requires filled-requires same_length returns-2 quick-requires same-length-2 returns-3)
+pub tried_spec : {M : Type 1} → statement M
+tried_spec = tie.close (tie.spec is-usual-requires returns is-one-requires filled-requires same_length returns-2 quick-requires same-length-2 returns-3)

@@ -22,27 +22,27 @@ use Rattle.transform_block.proofs.FlatBlock.{small, flat-done}
 use Rattle.transform_block.proofs.work.work.Statement.{statement}
 use Rattle.transform_block.proofs.work.work.Tie as tie
 
-one-stage-requires : tie.Need-one-stage-requires
+one-stage-requires : tie.Need-one_stage-requires
 one-stage-requires c κs = search rules
 
 -- ---- one stage
 side-requires : tie.Need-side-requires
-side-requires c κs = let I = c.before in (I.before.before.requires, sym I.before.one-stage.ensures ∙ I.if1.true)
+side-requires c κs = let I = c.before in (I.before.before.requires, sym I.before.one_stage.ensures ∙ I.if-one_stage.true)
 
-same_length : tie.Need-same-length
+same_length : tie.Need-shape_of-numbers-then-one_stage
 same_length c = search rules
 
-returns : tie.Need-returns
+returns : tie.Need-returns-then-one_stage
 returns c = c.before.side.ensures
 
-is-flat-requires : tie.Need-is-flat-requires
+is-flat-requires : tie.Need-is_flat-requires
 is-flat-requires c κs = search rules
 
 -- ---- a fill
-is_one : (c : tie.Then2) → Flat c.before.before.before.before.args.block
-is_one c = c.before.is-flat.ensures c.if2.true
+is_one : (c : tie.Then-is_flat) → Flat c.before.before.before.before.args.block
+is_one c = c.before.is_flat.ensures c.if-is_flat.true
 
-slice-copy-out-first : tie.Need-slice-copy-out-first
+slice-copy-out-first : tie.Need-slice_copy_out-first
 slice-copy-out-first c =
     let s = c.before.before.before.before in
     let b = s.args.block in
@@ -53,8 +53,8 @@ slice-copy-out-first c =
 last-requires : tie.Need-last-requires
 last-requires c κs = let s = c.before.before.before.before.before in (deep s.args.block s.args.numbers.now s.requires.taken).1
 
-value : (c : tie.After-first) → let n = c.before.before.before.before.before.args.numbers.now in to_z w32 (of_z w32 (at n 0)) ≡ at n 0
-value c = to_z-of_z w32 (at c.before.before.before.before.before.args.numbers.now 0) (record { sfits = c.first.given })
+value : (c : tie.After-first-1) → let n = c.before.before.before.before.before.args.numbers.now in to_z w32 (of_z w32 (at n 0)) ≡ at n 0
+value c = to_z-of_z w32 (at c.before.before.before.before.before.args.numbers.now 0) (record { sfits = c.first-1.given })
 
 flat-requires : tie.Need-flat-requires
 flat-requires c κs =
@@ -69,10 +69,10 @@ flat-requires c κs =
       (omega (arith, A.last.ensures, l), omega (arith, A.last.ensures, last-short b n s.requires.taken (is_one I).two)),
     )
 
-same-length-2 : tie.Need-same-length-2
+same-length-2 : tie.Need-shape_of-numbers-then-is_flat
 same-length-2 c = search rules
 
-returns-2 : tie.Need-returns-2
+returns-2 : tie.Need-returns-then-is_flat
 returns-2 c =
     let A = c.before.before.before in
     let K = A.before in
@@ -83,51 +83,51 @@ returns-2 c =
     flat-done b n s.requires (is_one I) (c.before.flat.ensures ∙ (λ i. tabulate (length n) (λ _. flat_of (A.last.ensures i) (value K i))))
 
 -- ---- document 01's call
-is-short-requires : tie.Need-is-short-requires
+is-short-requires : tie.Need-is_short-requires
 is-short-requires c κs = search rules
 
 short-requires : tie.Need-short-requires
-short-requires c κs = let I = c.before in (I.before.before.before.before.before.before.requires, sym I.before.is-short.ensures ∙ I.if3.true)
+short-requires c κs = let I = c.before in (I.before.before.before.before.before.before.requires, sym I.before.is_short.ensures ∙ I.if-is_short.true)
 
-same-length-3 : tie.Need-same-length-3
+same-length-3 : tie.Need-shape_of-numbers-then-is_short
 same-length-3 c = search rules
 
-returns-3 : tie.Need-returns-3
+returns-3 : tie.Need-returns-then-is_short
 returns-3 c =
     let I = c.before.before.before in
     let s = I.before.before.before.before.before.before in
     let e = c.before.short.ensures in
-    (λ i. (accepted (e.0 i), e.1 i)) ∙ rw (two s.args.block (sym I.before.is-short.ensures ∙ I.if3.true))
+    (λ i. (accepted (e.0 i), e.1 i)) ∙ rw (two s.args.block (sym I.before.is_short.ensures ∙ I.if-is_short.true))
 
 -- ---- the stages by pairs
-is-paired-requires : tie.Need-is-paired-requires
+is-paired-requires : tie.Need-is_paired-requires
 is-paired-requires c κs = search rules
 
 paired-requires : tie.Need-paired-requires
-paired-requires c κs = let I = c.before in (I.before.before.before.before.before.before.before.before.requires, sym I.before.is-paired.ensures ∙ I.if4.true)
+paired-requires c κs = let I = c.before in (I.before.before.before.before.before.before.before.before.requires, sym I.before.is_paired.ensures ∙ I.if-is_paired.true)
 
-same-length-4 : tie.Need-same-length-4
+same-length-4 : tie.Need-shape_of-numbers-then-is_paired
 same-length-4 c = search rules
 
-returns-4 : tie.Need-returns-4
+returns-4 : tie.Need-returns-then-is_paired
 returns-4 c =
     let I = c.before.before.before in
     let s = I.before.before.before.before.before.before.before.before in
     let e = c.before.paired.ensures in
-    (λ i. (accepted (e.0 i), e.1 i)) ∙ rw (two-stages s.args.block (sym I.before.is-paired.ensures ∙ I.if4.true))
+    (λ i. (accepted (e.0 i), e.1 i)) ∙ rw (two-stages s.args.block (sym I.before.is_paired.ensures ∙ I.if-is_paired.true))
 
 -- ---- every other block
 long-requires : tie.Need-long-requires
 long-requires c κs = c.before.before.before.before.before.before.before.before.before.requires
 
-same-length-5 : tie.Need-same-length-5
+same-length-5 : tie.Need-shape_of-numbers
 same-length-5 c = search rules
 
-returns-5 : tie.Need-returns-5
+returns-5 : tie.Need-returns
 returns-5 c = c.before.long.ensures
 
-pub work-spec : {M : Type 1} → statement M
-work-spec =
+pub work_spec : {M : Type 1} → statement M
+work_spec =
     tie.close
     (tie.spec
     one-stage-requires
