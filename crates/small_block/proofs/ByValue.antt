@@ -1,5 +1,4 @@
--- Four lines of four by value, as the machine has them, for the walks by hand of the functions that make and take apart a
--- struct with such a field. Assumes nothing.
+-- Four lines of four by value, as the machine has them, and what a struct's field has of them. Assumes nothing.
 use mathlib.Core.Path.{◌≡◌, refl, ap}
 use mathlib.Core.List.{List, [], ◌∷◌, map}
 use lib.IntN.{ℤ}

@@ -41,7 +41,7 @@ array-copy-out-t22 c = search rules
 returns : tie.Need-returns
 returns c =
     let s = c.before.before.before.before in
-    line_read w16 s.args.t1 s.args.from (number_fits w16 s.args.t1 _ s.well-formed.0.1.1)
+    line_read w16 s.args.c s.args.from (number_fits w16 s.args.c _ s.well_formed.0.1.1)
 
 pub coefficient_line_spec : {M : Type 1} → statement M
 coefficient_line_spec =

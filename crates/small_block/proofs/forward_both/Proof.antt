@@ -16,7 +16,7 @@ by_value c =
     (λ i. (c.before.before.before.before.before.before.before.before.before.forward_4x4-small.result.answer, (c.joined-by_value_block.ensures ∙ ap flat c.before.coefficients_of.ensures) i))
     ∙ c.before.before.before.before.before.before.before.before.before.forward_4x4-small.ensures
 
-lent : (c : tie.After-joined-by_value_block) → ◌≡◌ {A = Outcome} (c.before.before.before.before.forward-lent.result, c.before.before.before.before.forward-lent.new.1.1.0) (expected c.before.before.before.before.before.before.before.before.before.before)
+lent : (c : tie.After-joined-by_value_block) → ◌≡◌ {A = Outcome} (c.before.before.before.before.forward-lent.result, c.before.before.before.before.forward-lent.new.coefficients) (expected c.before.before.before.before.before.before.before.before.before.before)
 unfolding tabulate
 lent c = c.before.before.before.before.forward-lent.ensures ∙ (λ i. forward_outcome (c.before.before.before.before.before.before.before.new-shape.ensures i) (c.before.before.before.before.before.before.before.before.joined-residuals.ensures i) zeros)
 

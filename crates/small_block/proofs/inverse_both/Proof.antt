@@ -16,7 +16,7 @@ by_value c =
     (λ i. (c.before.before.before.before.before.before.before.before.before.inverse_4x4-small.result.answer, (c.joined_residuals-by_value_block.ensures ∙ ap flat c.before.residuals_of.ensures) i))
     ∙ c.before.before.before.before.before.before.before.before.before.inverse_4x4-small.ensures
 
-lent : (c : tie.After-joined_residuals-by_value_block) → ◌≡◌ {A = Outcome} (c.before.before.before.before.inverse-lent.result, c.before.before.before.before.inverse-lent.new.1.1.0) (expected c.before.before.before.before.before.before.before.before.before.before)
+lent : (c : tie.After-joined_residuals-by_value_block) → ◌≡◌ {A = Outcome} (c.before.before.before.before.inverse-lent.result, c.before.before.before.before.inverse-lent.new.residuals) (expected c.before.before.before.before.before.before.before.before.before.before)
 unfolding tabulate
 lent c = c.before.before.before.before.inverse-lent.ensures ∙ (λ i. inverse_outcome (c.before.before.before.before.before.before.before.new-shape.ensures i) (c.before.before.before.before.before.before.before.before.joined-coefficients.ensures i) zeros)
 

@@ -29,10 +29,10 @@ mul-out c = search rules
 mul-out-2 : tie.Need-offset_bounds-r-x invariant-loop decreases-loop
 mul-out-2 c = search rules
 
-index-1-out : tie.Need-bounds-1-out invariant-loop decreases-loop
+index-1-out : tie.Need-bounds-r-y invariant-loop decreases-loop
 index-1-out c = search rules
 
-index-2-out : tie.Need-bounds-2-out invariant-loop decreases-loop
+index-2-out : tie.Need-bounds-r-x invariant-loop decreases-loop
 index-2-out c = search rules
 
 mul-out-3 : tie.Need-offset_bounds-out-i invariant-loop decreases-loop
@@ -51,22 +51,22 @@ loop-again : tie.Need-loop-i-preserved invariant-loop decreases-loop
 loop-again c =
     let s = c.before.before.before in
     let L = c.before.before.loop-i in
-    let b = s.args.t1 in
-    let g = s.well-formed.0.1.1 in (
+    let b = s.args.r in
+    let g = s.well_formed.0.1.1 in (
       search rules,
       fill-first _ (search rules) L.invariant.1
           (to_z-of_z w32 (at (get_or b (L.i / 4) []) (L.i % 4)) (line-fits w32 4 b _ g (L.i / 4) (L.i % 4))
-          ∙ in_lines b s.well-formed.0.1.0.1 (line-length (SInt w32) 4 b _ g) L.i (search rules)),
+          ∙ in_lines b s.well_formed.0.1.0.1 (line-length (SInt w32) 4 b _ g) L.i (search rules)),
     )
 
 returns : tie.Need-returns invariant-loop decreases-loop
 returns c =
     let s = c.before.before in
     let L = c.before.loop-i in
-    let b = s.args.t1 in
+    let b = s.args.r in
     let e : L.i ≡ 16 = omega arith in
     filled refl (subst (λ (i : ℕ). Filled 0 i L.out _ (at (flat b))) e L.invariant.1)
-    ∙ all_lines b s.well-formed.0.1.0.1 (line-length (SInt w32) 4 b _ s.well-formed.0.1.1)
+    ∙ all_lines b s.well_formed.0.1.0.1 (line-length (SInt w32) 4 b _ s.well_formed.0.1.1)
 
 pub joined_residuals_spec : {M : Type 1} → statement M
 joined_residuals_spec =
