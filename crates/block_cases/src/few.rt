@@ -1,8 +1,8 @@
 // Blocks in which one or two numbers are not 0.
 use crate::call::line;
+use crate::cases;
 use crate::numbers::only;
 use crate::print::few;
-use crate::tables;
 use meaning::Shape;
 
 fn shape_of(r: [u32; 11]) -> Shape {
@@ -30,37 +30,37 @@ fn rows(out: &impl Print, is_forward: bool, number: i16, other: i16, table: &[[u
 
 // Items 7 to 10, and kind 0 beside 8; 4, 5 and the second half of 8 are among the worst cases.
 pub fn items(out: &impl Print) {
-    row(out, false, 32767, 21063, tables::ITEM_7);
-    row(out, false, 32767, 21064, tables::ITEM_7);
-    row(out, false, 32767, 21066, tables::ITEM_7);
-    row(out, false, 64, 0, tables::ITEM_8);
-    row(out, false, 64, 0, tables::FLAT);
-    row(out, false, 1000, 0, tables::ITEM_9);
-    row(out, false, 0, 1000, tables::ITEM_9);
-    row(out, false, 0, 0, tables::ITEM_10);
-    row(out, true, 0, 0, tables::ITEM_10);
+    row(out, false, 32767, 21063, cases::ITEM_7);
+    row(out, false, 32767, 21064, cases::ITEM_7);
+    row(out, false, 32767, 21066, cases::ITEM_7);
+    row(out, false, 64, 0, cases::ITEM_8);
+    row(out, false, 64, 0, cases::FLAT);
+    row(out, false, 1000, 0, cases::ITEM_9);
+    row(out, false, 0, 1000, cases::ITEM_9);
+    row(out, false, 0, 0, cases::ITEM_10);
+    row(out, true, 0, 0, cases::ITEM_10);
 }
 
 // 1 to 7 and 20 alone, and the order of all: 4096 at place 16 is 8's for the inverse and 9's for the forward.
 pub fn refusals(out: &impl Print, is_forward: bool) {
-    let alone = tables::ALONE;
+    let alone = cases::ALONE;
     rows(out, is_forward, 0, 0, &alone);
-    let order = tables::ORDER;
+    let order = cases::ORDER;
     rows(out, is_forward, 4096, 4096, &order);
 }
 
 pub fn outside(out: &impl Print) {
-    let table = tables::OUTSIDE;
+    let table = cases::OUTSIDE;
     rows(out, false, 1, -1, &table);
     rows(out, false, -32768, 32767, &table);
 }
 
 pub fn too_large(out: &impl Print) {
-    row(out, true, -256, 256, tables::SMALL);
-    row(out, true, 256, -255, tables::SMALL);
-    row(out, true, -255, -32768, tables::SMALL);
-    row(out, true, 255, -255, tables::SMALL);
-    row(out, true, 4096, -4096, tables::LARGE);
-    row(out, true, -4096, 4095, tables::LARGE);
-    row(out, true, -4095, 4095, tables::LARGE);
+    row(out, true, -256, 256, cases::SMALL);
+    row(out, true, 256, -255, cases::SMALL);
+    row(out, true, -255, -32768, cases::SMALL);
+    row(out, true, 255, -255, cases::SMALL);
+    row(out, true, 4096, -4096, cases::LARGE);
+    row(out, true, -4096, 4095, cases::LARGE);
+    row(out, true, -4095, 4095, cases::LARGE);
 }

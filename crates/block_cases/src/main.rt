@@ -7,10 +7,10 @@
 
 mod by_value;
 mod call;
+mod cases;
 mod few;
 mod numbers;
 mod print;
-mod tables;
 mod worst;
 
 fn main(rt: HostRuntime) {
