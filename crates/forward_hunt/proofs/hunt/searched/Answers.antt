@@ -30,5 +30,5 @@ returns-then-too_large c =
     let s = c.args in
     let k = c.loop-x.x + c.hunt.y * s.shape.width in
     let e : k ≡ first_too_large s.shape s.residuals.now =
-        hunt-here c.requires.1 c.hunt-test.true c.loop-x.invariant.0 c.loop-x-test.true (told (goal.at.returns-then-too_large c).After-too_large ∙ c.if-too_large.true) in
+    hunt-here c.requires.1 c.hunt-test.true c.loop-x.invariant.0 c.loop-x-test.true (told (goal.at.returns-then-too_large c).After-too_large ∙ c.if-too_large.true) in
     rw (← e, lt-ltb k (length s.residuals.now) (hunt-in s.residuals.now c.requires.1 c.loop-x-test.true c.hunt-test.true))

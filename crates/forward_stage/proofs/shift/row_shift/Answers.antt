@@ -1,5 +1,4 @@
 use Rattle.std.proofs.Common.{arith}
-use Rattle.meaning.specs.Forward.{log2}
 use Rattle.meaning.proofs.Cases.{depth-cases}
 use Rattle.forward_stage.proofs.shift.row_shift.Goals as goal
 

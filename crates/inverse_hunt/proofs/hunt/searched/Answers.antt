@@ -6,7 +6,7 @@ use Rattle.algebra.specs.First.{first_at}
 use Rattle.meaning.specs.Plan.{plan_of}
 use Rattle.meaning.specs.Inverse.{first_outside, outside, outside_at}
 use Rattle.layout.proofs.Inside.{outside_of, outside-at, kept-not}
-use Rattle.layout.proofs.Hunting.{Hunt, hunt-in, hunt-start, hunt-next, hunt-down, hunt-here, hunt-past, hunt-none}
+use Rattle.layout.proofs.Hunting.{Hunt, hunt-in, hunt-next, hunt-here, hunt-past, hunt-none}
 use Rattle.inverse_hunt.proofs.hunt.searched.Goals as goal
 use Rattle.inverse_hunt.proofs.hunt.searched.Goals.{After-outside, At-hunt}
 
@@ -52,5 +52,5 @@ returns-then-outside c =
     let s = c.args in
     let k = c.loop-x.x + c.hunt.y * s.shape.width in
     let e : k ≡ first_outside (plan_of s.shape) s.c.now =
-        hunt-here c.requires.0 c.hunt-test.true c.loop-x.invariant.0 c.loop-x-test.true (told (goal.at.returns-then-outside c).After-outside ∙ c.if-outside.true) ∙ asked (goal.at.returns-then-outside c).At-hunt in
+    hunt-here c.requires.0 c.hunt-test.true c.loop-x.invariant.0 c.loop-x-test.true (told (goal.at.returns-then-outside c).After-outside ∙ c.if-outside.true) ∙ asked (goal.at.returns-then-outside c).At-hunt in
     rw (← e, lt-ltb k (length s.c.now) (hunt-in s.c.now c.requires.0 c.loop-x-test.true c.hunt-test.true))
