@@ -1,5 +1,4 @@
-use Rattle.std.proofs.Common.{rules, arith, ◌∙◌, SFits, w16, w32}
-use Rattle.algebra.specs.Lists.{at}
+use Rattle.std.proofs.Common.{rules, arith, ◌∙◌, w32}
 use Rattle.algebra.proofs.Lists.{fill_none, fill-first, filled-to}
 use Rattle.algebra.proofs.Word.{arg, cast_v!, cast-fits! }
 use Rattle.lfnst.specs.LowFrequency.{order}

@@ -1,5 +1,5 @@
 -- The rows before y are done.
-use Rattle.std.proofs.Common.{true, false}
+use Rattle.std.proofs.Common.{false}
 use Rattle.algebra.specs.Lists.{at}
 use Rattle.kernel_steps.specs.Written.{Spread}
 use Rattle.lfnst.specs.LowFrequency.{standing}

@@ -1,4 +1,4 @@
-use Rattle.std.proofs.Common.{rules, arith, ◌≡◌, refl, sym, ap, ◌∙◌, subst, ℕ, ◌≤◌, ◌<◌, length, ℤ, nat_abs, w32, w64, to_z, of_z, to_z-of_z}
+use Rattle.std.proofs.Common.{rules, arith, ◌≡◌, refl, sym, ap, ◌∙◌, subst, ◌≤◌, ℤ, nat_abs, w32, w64, to_z, of_z, to_z-of_z}
 use lib.Dec.{lit<}
 use Rattle.algebra.specs.Clip.{clip}
 use Rattle.algebra.specs.Lists.{at}
