@@ -34,6 +34,7 @@ fn count(file: &[u8]) -> usize
 {
     let mut cursor = Cursor::new();
     let mut n = 0;
+    // no `for`: each piece says where the next one starts
     while cursor.at < file.len() {
         let found = piece_at(file, cursor);
         n = counted(found.piece, n);
@@ -72,6 +73,7 @@ fn put_kept(file: &[u8], out: &mut [u8]) -> usize
 {
     let mut cursor = Cursor::new();
     let mut p = 0;
+    // no `for`: each piece says where the next one starts
     while cursor.at < file.len() {
         let found = piece_at(file, cursor);
         p = keep(file, found.piece, out, p);
@@ -100,6 +102,7 @@ fn put_dropped(file: &[u8], list: &mut [u32]) -> usize
 {
     let mut cursor = Cursor::new();
     let mut p = 0;
+    // no `for`: each piece says where the next one starts
     while cursor.at < file.len() {
         let found = piece_at(file, cursor);
         p = list_stretch(found.piece, list, p);
