@@ -1,6 +1,6 @@
 use Rattle.std.proofs.Common.{arith}
 use Rattle.file_text.proofs.Writing.{nothing}
-use Rattle.salvage.proofs.Joining.{copied_more, copied_all}
+use Rattle.salvage.proofs.Joining.{copied_more}
 use Rattle.salvage.proofs.saving.copy.Goals as goal
 
 pub loop-byte-init : goal.loop-byte-init
