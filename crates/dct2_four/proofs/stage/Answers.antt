@@ -2,7 +2,6 @@ use Rattle.std.proofs.Common.{arith, ◌≡◌, sym, ap, ◌∙◌, subst, ◌+�
 use mir.Syntax.{w32}
 use mir.ValLaws.{to_z-of_z}
 use Rattle.algebra.specs.Lists.{at, block}
-use Rattle.algebra.proofs.Word.{small}
 use Rattle.product.specs.Product.{line_sum, shifted}
 use Rattle.halves.specs.Halves.{evens}
 use Rattle.halves.proofs.Halved.{halves-4}

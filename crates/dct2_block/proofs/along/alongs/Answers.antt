@@ -3,7 +3,6 @@ use mir.Syntax.{w32}
 use mir.ValLaws.{to_z-of_z}
 use native.Mathlib.Nat.{mul-le-mul_right, add-mul}
 use Rattle.algebra.specs.Lists.{at, block}
-use Rattle.algebra.proofs.Word.{small}
 use Rattle.algebra.proofs.Lists.{block-ext}
 use Rattle.meaning.specs.Line.{inverse_sum}
 use Rattle.product.specs.Product.{shifted}
@@ -115,7 +114,7 @@ loop-group-preserved c =
     let kept : length ys ≡ 8 * s.w = ap length c.along_8.ensures ∙ block-length s.w 8 _ in
     let place : n * s.step ≡ y / 8 * s.step = ap (λ (k : ℕ). k * s.step) (let e : n ≡ y / 8 = omega arith in e) in
     let next = group-next start c.loop-group.invariant.1 (λ j l. shifted half s.shift (rows_sum s.w s.wide 8 s.apart (take (length s.m.now - n * s.step) (drop (n * s.step) s.m.now)) j l))
-            c.along_8.ensures (λ j l h g. ap (shifted half s.shift) (group-sum s.m.now s.w s.wide s.step s.apart y (n * s.step) j l (omega arith) g place (λ i k. there i l k g))) (o + 8 * s.w) in
+    c.along_8.ensures (λ j l h g. ap (shifted half s.shift) (group-sum s.m.now s.w s.wide s.step s.apart y (n * s.step) j l (omega arith) g place (λ i k. there i l k g))) (o + 8 * s.w) in
     let count : 8 * (n + 1) ≡ y + 8 = omega arith in (
       long c.loop-group.r ys o (o + 8 * s.w) start (omega (arith, kept)) (omega arith) (omega (arith, room, c.loop-group.invariant.0)) ∙ c.loop-group.invariant.0,
       subst (λ (k : ℕ). Grouped s.w k (λ j y. shifted half s.shift (inverse_sum 0 s.w s.wide (λ i. at s.m.now (group_place s.step s.apart i y)) j)) (spliced-at c.loop-group.r ys o (o + 8 * s.w))) (sym count) next,

@@ -34,4 +34,3 @@ pub returns : goal.returns
 returns c =
     let e = c.whole_of-whole.ensures in
     (c.in_room-2.ensures.0 ∙ used-block c.requires _ e, λ f x y h k. c.in_room-2.ensures.1 f x y (omega (arith, (asked-whole c.requires).0, e)) k)
-
