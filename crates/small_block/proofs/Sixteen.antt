@@ -1,6 +1,7 @@
 -- Sixteen numbers as four lines of four, and back. Assumes nothing.
 use mathlib.Core.Path.{◌≡◌, refl, sym, ap, ◌∙◌}
-use mathlib.Core.List.{List, [], ◌∷◌}
+use mathlib.Core.List.{List, [], ◌∷◌, ◌++◌}
+use Rattle.std.specs.List.{flat_map}
 use Prim.Native.Nat.{ℕ, zero, suc, ◌+◌, ◌*◌, ◌/◌, ◌%◌, ◌<◌}
 use native.Mathlib.Nat.{add-zero, div-add-mod', mod-lt, div-lt_iff_lt-mul, le_of_suc-le-suc, not-suc-le-zero}
 use native.Mathlib.Omega.{arith}
@@ -58,18 +59,8 @@ pub four-lines : (l a b c d : List ℤ) → length l ≡ 16 → a ≡ line_of l 
 unfolding tabulate flat
 four-lines l a b c d n p q r s = (λ t. flat (p t ∷ q t ∷ r t ∷ s t ∷ [])) ∙ sym (tabulated 16 l (at l) n (λ k h. refl))
 
-module _ (b : List (List ℤ)) (n : length b ≡ 4) (each-four : (y : ℕ) → y < length b → length (get_or b y []) ≡ 4) where
-  pub flat-sixteen : length (flat b) ≡ 16
-  flat-sixteen = flat-length 4 b each-four ∙ ap (λ (k : ℕ). k * 4) n
-
-  -- number k stands in line k / 4
-  pub in_lines : (k : ℕ) → k < 16 → at (get_or b (k / 4) []) (k % 4) ≡ at (flat b) k
-  in_lines k h =
-      let some : 0 < 4 = omega arith in
-      let p : k < 4 * 4 = omega arith in
-      let hy : k / 4 < 4 = (div-lt_iff_lt-mul some).1 p in
-      let q : k % 4 + k / 4 * 4 ≡ k = omega (arith, div-add-mod' k 4) in
-      sym (flat-at 4 b each-four (k % 4) (k / 4) (mod-lt k some) (omega arith)) ∙ ap (at (flat b)) q
-
-  pub all_lines : tabulate 16 (at (flat b)) ≡ flat b
-  all_lines = sym (tabulated 16 (flat b) (at (flat b)) flat-sixteen (λ k h. refl))
+-- four lines as they are read, one after the other
+pub flat_is : (b : List (List ℤ)) → flat_map (λ x. x) b ≡ flat b
+unfolding flat
+flat_is [] = refl
+flat_is (row ∷ rows) = ap (λ (l : List ℤ). row ++ l) (flat_is rows)
