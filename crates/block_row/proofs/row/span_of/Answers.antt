@@ -10,6 +10,6 @@ returns-then-is_size-2 c =
 pub returns-else-is_size : goal.returns-else-is_size
 returns-else-is_size c =
     elim c.else-is_size.branch [
-      else-is_size-via-then-is_size+else-is_size-2 w ↦ sym (span-high c.args.shape (sym c.is_size.ensures ∙ w.if-is_size.true) (sym w.is_size-then-is_size.ensures ∙ w.if-is_size-2.false))
-    | else-is_size-via-else-is_size w ↦ sym (span-wide c.args.shape (sym c.is_size.ensures ∙ w.if-is_size.false))
+      | else-is_size-via-then-is_size+else-is_size-2 w ↦ sym (span-high c.args.shape (sym c.is_size.ensures ∙ w.if-is_size.true) (sym w.is_size-then-is_size.ensures ∙ w.if-is_size-2.false))
+      | else-is_size-via-else-is_size w ↦ sym (span-wide c.args.shape (sym c.is_size.ensures ∙ w.if-is_size.false))
     ]
