@@ -11,13 +11,11 @@ use file_numbers::bytes::read_numbers;
 use file_text::text::{put_forward, put_inverse, put_refusal};
 use meaning::Shape;
 
-// What a turn hands back: the place behind its text, whether the run ends with it, the number of its refusal or 0, and the next
-// cursor.
+// What a turn hands back: the place behind its text, what the run hands back if it ends with it, and the next cursor.
 #[derive(Clone, Copy)]
 struct TurnDone {
     at: usize,
-    ends: bool,
-    number: u32,
+    ending: Option<u32>,
     next: Cursor,
 }
 
@@ -36,8 +34,7 @@ fn refused(number: u32, offset: usize, next: Cursor, text: &mut [u8], at: usize)
     let end = put_refusal(number, offset as u32, text, at);
     TurnDone {
         at: end,
-        ends: true,
-        number,
+        ending: Some(number),
         next,
     }
 }
@@ -66,8 +63,7 @@ fn inverse_line(
     let end = put_inverse(width, height, rails, residuals, text, at);
     TurnDone {
         at: end,
-        ends: false,
-        number: 0,
+        ending: None,
         next,
     }
 }
@@ -95,8 +91,7 @@ fn forward_line(
     let end = put_forward(width, height, coefficients, text, at);
     TurnDone {
         at: end,
-        ends: false,
-        number: 0,
+        ending: None,
         next,
     }
 }
@@ -176,24 +171,25 @@ fn turn(file: &[u8], cursor: Cursor, text: &mut [u8], at: usize) -> TurnDone
 {
     let advance = cursor.advance(file);
     let number = advance.number;
-    let tag = advance.tag;
     let next = advance.next;
     let offset = cursor.at;
     let shape = cursor.shape;
     if number != 0 {
         return refused(number, offset, next, text, at);
     }
-    if tag == 2 {
-        return inverse_turn(shape, cursor.body(file), offset, next, text, at);
-    }
-    if tag == 3 {
-        return forward_turn(shape, cursor.body(file), offset, next, text, at);
-    }
-    TurnDone {
-        at,
-        ends: tag == 0,
-        number: 0,
-        next,
+    match advance.tag {
+        0 => TurnDone {
+            at,
+            ending: Some(0),
+            next,
+        },
+        2 => inverse_turn(shape, cursor.body(file), offset, next, text, at),
+        3 => forward_turn(shape, cursor.body(file), offset, next, text, at),
+        _ => TurnDone {
+            at,
+            ending: None,
+            next,
+        },
     }
 }
 
@@ -203,14 +199,13 @@ pub fn run(file: &[u8], text: &mut [u8; 524288]) -> RunDone
 {
     let mut cursor = Cursor::new();
     let mut at = 0;
-    let mut number = 0;
-    let mut on = true;
-    while on {
+    // Where a field ends says where the next one starts: how many there are is known behind the last.
+    'turns: loop {
         let done = turn(file, cursor, text, at);
         at = done.at;
-        number = done.number;
-        on = !done.ends;
+        if let Some(number) = done.ending {
+            return RunDone { length: at, number };
+        }
         cursor = done.next;
     }
-    RunDone { length: at, number }
 }
