@@ -15,10 +15,8 @@ use product::line;
 fn read(x: &[i16])
     ensures { NoneAbove 32768 x.now }
 {
-    let mut i = 0;
-    while i < x.len() {
+    for i in 0..x.len() {
         let z = x[i];
-        i += 1;
     }
 }
 
@@ -27,10 +25,8 @@ fn deal(x: &[i16], from: usize, step: usize, a: &mut [i16])
     requires { (i : ℕ) → i < length a.old → from + i * step < length x.now }
     ensures { a.new ≡ tabulate (length a.old) (λ i. at x.now (from + i * step)) }
 {
-    let mut i = 0;
-    while i < a.len() {
+    for i in 0..a.len() {
         a[i] = x[from + i * step];
-        i += 1;
     }
 }
 
@@ -39,11 +35,9 @@ fn butterfly(e: &[i32], o: &[i32], h: usize, out: &mut [i32])
     requires { HalfSums h e.now o.now × (length out.old ≡ h + h) }
     ensures { Joined h h e.now o.now out.new }
 {
-    let mut j = 0;
-    while j < h {
+    for j in 0..h {
         out[j] = plus(e[j], o[j]);
         out[h + h - 1 - j] = minus(e[j], o[j]);
-        j += 1;
     }
 }
 

@@ -5,8 +5,7 @@ ghost use Rattle.picture_samples.specs.Samples.{residual_of, residuals};
 fn residual(high: u8, low: u8) -> i32
     ensures { result ≡ residual_of (high * 256 + low) }
 {
-    let sample = (high as u32) * 256 + low as u32;
-    sample as i32 - 32768
+    i32::from(high) * 256 + i32::from(low) - 32768
 }
 
 // Fills `out` with the residuals of the samples.
@@ -14,10 +13,7 @@ pub fn read_samples(samples: &[u8], out: &mut [i32])
     requires { length samples.now ≡ 2 * length out.old }
     ensures { out.new ≡ residuals samples.now }
 {
-    let mut i = 0;
-    while i < out.len() {
-        let z = residual(samples[i + i], samples[i + i + 1]);
-        out[i] = z;
-        i += 1;
+    for i in 0..out.len() {
+        out[i] = residual(samples[2 * i], samples[2 * i + 1]);
     }
 }

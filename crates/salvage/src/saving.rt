@@ -23,10 +23,7 @@ fn counted(piece: Piece, n: usize) -> usize
     requires { n ≤ 131072 }
     ensures { result ≡ n + length (dropped_of piece) }
 {
-    if piece.kept {
-        return n;
-    }
-    n + 2
+    if piece.kept { n } else { n + 2 }
 }
 
 fn count(file: &[u8]) -> usize
@@ -48,10 +45,8 @@ fn copy(part: &[u8], out: &mut [u8], at: usize) -> usize
     ensures { Wrote part.now (length part.now) at out.old out.new result }
 {
     let mut p = at;
-    let mut i = 0;
-    while i < part.len() {
-        p = put(part[i], out, p);
-        i += 1;
+    for &byte in part {
+        p = put(byte, out, p);
     }
     p
 }
