@@ -9,13 +9,13 @@ use std::io::Read;
 use std::rt::Files;
 
 // How a program ends: the file ran to its end, a refusal ended it, it could not be read, its answer could not be written.
-pub const ENDED: u32 = 0;
-
-pub const REFUSED: u32 = 1;
-
-pub const UNREAD: u32 = 2;
-
-pub const UNWRITTEN: u32 = 3;
+#[derive(Clone, Copy)]
+pub enum Outcome {
+    Ended,
+    Refused,
+    Unread,
+    Unwritten,
+}
 
 // A buffer's `ensures` gives its length alone.
 fn text_buffer() -> [u8; 524288]
@@ -26,34 +26,29 @@ fn text_buffer() -> [u8; 524288]
 
 // Runs the block file that stands on `input`, and writes what it prints to `output`. A file of which a part could not be read
 // prints nothing.
-pub fn answer(input: &mut impl Read, output: &impl Print) -> u32 {
+pub fn answer(input: &mut impl Read, output: &impl Print) -> Outcome {
     let mut file = file_buffer();
     let read = read_input(input, &mut file);
-    let count = read.count;
     if read.failed {
-        return UNREAD;
+        return Outcome::Unread;
     }
     let mut text = text_buffer();
-    let done = file_run::run::run(&file[..count], &mut text);
-    let length = done.length;
-    if output.write_all(&text[..length]).is_err() {
-        return UNWRITTEN;
+    let done = file_run::run::run(&file[..read.count], &mut text);
+    if output.write_all(&text[..done.length]).is_err() {
+        return Outcome::Unwritten;
     }
     if done.number != 0 {
-        return REFUSED;
+        return Outcome::Refused;
     }
-    ENDED
+    Outcome::Ended
 }
 
 // Tells how a program ended; `blocks` at the root makes of it the status. A refusal stands in the answer.
-pub fn tell(rt: &impl Files, how: u32) {
-    if how == REFUSED {
-        ending::refused(rt, true);
-        return;
+pub fn tell(rt: &impl Files, how: Outcome) {
+    match how {
+        Outcome::Ended => ending::ran(rt, true),
+        Outcome::Refused => ending::refused(rt, true),
+        Outcome::Unread => ending::unread(rt, 0),
+        Outcome::Unwritten => ending::unwritten(rt),
     }
-    if how == UNREAD {
-        ending::unread(rt, 0);
-        return;
-    }
-    ending::ran(rt, how == ENDED);
 }

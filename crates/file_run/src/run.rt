@@ -53,14 +53,10 @@ fn inverse_line(
     ensures { Does (inverse_turn shape coefficients.now offset next) (35 + 12 * length residuals.old) at text.old text.new result }
 {
     let answer = block::inverse(shape, coefficients, residuals);
-    let number = answer.number;
-    if number != 0 {
-        return refused(number, offset, next, text, at);
+    if answer.number != 0 {
+        return refused(answer.number, offset, next, text, at);
     }
-    let width = shape.width;
-    let height = shape.height;
-    let rails = answer.rails;
-    let end = put_inverse(width, height, rails, residuals, text, at);
+    let end = put_inverse(shape.width, shape.height, answer.rails, residuals, text, at);
     TurnDone {
         at: end,
         ending: None,
@@ -82,13 +78,10 @@ fn forward_line(
     ensures { Does (forward_turn shape residuals.now offset next) (24 + 12 * length coefficients.old) at text.old text.new result }
 {
     let answer = block::forward(shape, residuals, coefficients);
-    let number = answer.number;
-    if number != 0 {
-        return refused(number, offset, next, text, at);
+    if answer.number != 0 {
+        return refused(answer.number, offset, next, text, at);
     }
-    let width = shape.width;
-    let height = shape.height;
-    let end = put_forward(width, height, coefficients, text, at);
+    let end = put_forward(shape.width, shape.height, coefficients, text, at);
     TurnDone {
         at: end,
         ending: None,
@@ -124,12 +117,12 @@ fn inverse_turn(
 {
     let n = body.len() / 2;
     let mut coefficients = narrow_zeros();
-    read_numbers(body, &mut coefficients[0..n]);
+    read_numbers(body, &mut coefficients[..n]);
     let mut residuals = wide_zeros();
     inverse_line(
         shape,
-        &coefficients[0..n],
-        &mut residuals[0..n],
+        &coefficients[..n],
+        &mut residuals[..n],
         offset,
         next,
         text,
@@ -151,12 +144,12 @@ fn forward_turn(
 {
     let n = body.len() / 2;
     let mut residuals = narrow_zeros();
-    read_numbers(body, &mut residuals[0..n]);
+    read_numbers(body, &mut residuals[..n]);
     let mut coefficients = narrow_zeros();
     forward_line(
         shape,
-        &residuals[0..n],
-        &mut coefficients[0..n],
+        &residuals[..n],
+        &mut coefficients[..n],
         offset,
         next,
         text,
@@ -170,12 +163,11 @@ fn turn(file: &[u8], cursor: Cursor, text: &mut [u8], at: usize) -> TurnDone
     ensures { Does (turn_at file.now cursor) 12323 at text.old text.new result × Follows cursor.at at result }
 {
     let advance = cursor.advance(file);
-    let number = advance.number;
     let next = advance.next;
     let offset = cursor.at;
     let shape = cursor.shape;
-    if number != 0 {
-        return refused(number, offset, next, text, at);
+    if advance.number != 0 {
+        return refused(advance.number, offset, next, text, at);
     }
     match advance.tag {
         0 => TurnDone {

@@ -7,11 +7,11 @@ use Rattle.file_run.proofs.run.run.Given as goal
 abbrev pub invariant-turns : goal.invariant-turns
 invariant-turns l =
     record {
-      text = take l.at l.text ++ printed_from (length l.file) l.file l.cursor ≡ printed l.file;
-      number = refusal_from (length l.file) l.file l.cursor ≡ refusal l.file;
-      beyond = drop l.at l.text ≡ drop l.at l.initial.text;
-      room = l.at ≤ 7 * l.cursor.at;
-      inside = l.cursor.at ≤ 65536;
+      text : take l.at l.text ++ printed_from (length l.file) l.file l.cursor ≡ printed l.file;
+      number : refusal_from (length l.file) l.file l.cursor ≡ refusal l.file;
+      beyond : drop l.at l.text ≡ drop l.at l.initial.text;
+      room : l.at ≤ 7 * l.cursor.at;
+      inside : l.cursor.at ≤ 65536;
     }
 
 -- the place moves on
