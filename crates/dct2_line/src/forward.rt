@@ -8,8 +8,9 @@ ghost use Rattle.meaning.specs.Taken.{TakenLine, NoneAbove};
 ghost use Rattle.halves.specs.Halves.{Halves, odd, end_sums, end_differences};
 ghost use Rattle.dct2_line.specs.Lines.{Half, Row, SmallLine};
 
-use crate::arith::{both, minus, plus, times, wide};
+use crate::arith::{both, minus, times};
 use crate::table::{odd_8, odd_16, odd_32};
+use product::plus;
 
 // The inputs in 32 bits; each was one of 16.
 fn widen(x: &[i16], a: &mut [i32])
@@ -17,7 +18,7 @@ fn widen(x: &[i16], a: &mut [i32])
     ensures { (a.new ≡ tabulate (length a.old) (at x.now)) × NoneAbove 32768 x.now }
 {
     for i in 0..a.len() {
-        a[i] = wide(x[i]);
+        a[i] = i32::from(x[i]);
     }
 }
 
@@ -114,21 +115,26 @@ pub fn forward(n: usize, x: &[i16], y: &mut [i32])
     requires { TakenLine n 0 (length x.now) (length y.old) }
     ensures { y.new ≡ forward_line 0 n (at x.now) }
 {
-    if n == 4 {
-        let mut a = [0i32; 4];
-        widen(x, &mut a);
-        forward_4(&a, y);
-    } else if n == 8 {
-        let mut a = [0i32; 8];
-        widen(x, &mut a);
-        forward_8(&a, y);
-    } else if n == 16 {
-        let mut a = [0i32; 16];
-        widen(x, &mut a);
-        forward_16(&a, y);
-    } else {
-        let mut a = [0i32; 32];
-        widen(x, &mut a);
-        forward_32(&a, y);
+    match n {
+        4 => {
+            let mut a = [0i32; 4];
+            widen(x, &mut a);
+            forward_4(&a, y);
+        }
+        8 => {
+            let mut a = [0i32; 8];
+            widen(x, &mut a);
+            forward_8(&a, y);
+        }
+        16 => {
+            let mut a = [0i32; 16];
+            widen(x, &mut a);
+            forward_16(&a, y);
+        }
+        _ => {
+            let mut a = [0i32; 32];
+            widen(x, &mut a);
+            forward_32(&a, y);
+        }
     }
 }

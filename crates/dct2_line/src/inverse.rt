@@ -7,9 +7,9 @@ ghost use Rattle.meaning.specs.Line.{inverse_sum, inverse_line};
 ghost use Rattle.meaning.specs.Taken.{TakenLine, NoneAbove};
 ghost use Rattle.dct2_line.specs.Lines.{strided, Inputs, HalfSums, Joined};
 
-use crate::arith::{both, minus, plus, wide};
+use crate::arith::{both, minus};
 use crate::table::{odd_8, odd_16, odd_32};
-use product::line;
+use product::{line, plus};
 
 // What reading tells of each input: in 16 bits, a size of at most 32768. The compiler sees that this does nothing.
 fn read(x: &[i16])
@@ -46,10 +46,10 @@ fn inverse_4(x: &[i16], apart: usize, out: &mut [i32])
     requires { Inputs 4 apart x.now × (length out.old ≡ 4) }
     ensures { out.new ≡ tabulate 4 (inverse_sum 0 4 4 (strided x.now apart)) }
 {
-    let a = wide(x[0]);
-    let b = wide(x[2 * apart]);
-    let c = wide(x[apart]);
-    let d = wide(x[3 * apart]);
+    let a = i32::from(x[0]);
+    let b = i32::from(x[2 * apart]);
+    let c = i32::from(x[apart]);
+    let d = i32::from(x[3 * apart]);
     let e = [both(64, a, 64, b), both(64, a, -64, b)];
     let o = [both(83, c, 36, d), both(36, c, -83, d)];
     butterfly(&e, &o, 2, out);
@@ -103,15 +103,14 @@ pub fn inverse(n: usize, x: &[i16], y: &mut [i32])
     ensures { y.new ≡ inverse_line 0 n n (at x.now) }
 {
     read(x);
-    if n == 4 {
-        inverse_4(x, 1, y);
-    } else if n == 8 {
-        inverse_8(x, 1, y);
-    } else if n == 16 {
-        inverse_16(x, 1, y);
-    } else {
-        let mut o = [0i32; 16];
-        let h = n / 2;
-        inverse_32(x, 1, &mut o[0..h], y);
+    match n {
+        4 => inverse_4(x, 1, y),
+        8 => inverse_8(x, 1, y),
+        16 => inverse_16(x, 1, y),
+        _ => {
+            let mut o = [0i32; 16];
+            let h = n / 2;
+            inverse_32(x, 1, &mut o[0..h], y);
+        }
     }
 }

@@ -5,7 +5,8 @@ ghost use Rattle.picture_samples.specs.Samples.{residual_of, residuals};
 fn residual(high: u8, low: u8) -> i32
     ensures { result ≡ residual_of (high * 256 + low) }
 {
-    i32::from(high) * 256 + i32::from(low) - 32768
+    let sample = (high as u32) * 256 + low as u32;
+    sample as i32 - 32768
 }
 
 // Fills `out` with the residuals of the samples.

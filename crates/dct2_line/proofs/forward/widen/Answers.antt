@@ -15,8 +15,8 @@ loop-i-init c = (fill_none 0 _ _, λ k h. absurd (omega arith))
 pub loop-i-preserved : goal.loop-i-preserved
 loop-i-preserved c =
     let z = at c.args.x.now c.loop-i.i in
-    let f : SFits w16 z = record { sfits = c.wide-arg-1.given } in (
-      fill-first _ (omega arith) c.loop-i.invariant.0 (to_z-of_z w32 c.wide.result (search rules) ∙ c.wide.ensures ∙ to_z-of_z w16 z f),
+    let f : SFits w16 z = record { sfits = c.from-arg-1.given } in (
+      fill-first _ (omega arith) c.loop-i.invariant.0 (to_z-of_z w32 c.from.result (search rules) ∙ c.from.ensures ∙ to_z-of_z w16 z f),
       below_more (λ k. nat_abs (at c.args.x.now k) ≤ 32768) c.loop-i.i c.loop-i.invariant.1 (in-fits {w = w16} {z = z} f).within,
     )
 

@@ -1,5 +1,5 @@
 -- The samples of the residuals so far are written.
-use Rattle.std.proofs.Common.{◌≡◌, ◌*◌, length, take}
+use Rattle.std.proofs.Common.{◌*◌, take}
 use Rattle.file_text.specs.Wrote.{Wrote}
 use Rattle.picture_samples.specs.Samples.{samples}
 use Rattle.picture_samples.proofs.put.put_samples.Given as goal
