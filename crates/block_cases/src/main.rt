@@ -13,13 +13,16 @@ mod numbers;
 mod print;
 mod worst;
 
-fn main(rt: HostRuntime) {
-    few::items(&rt);
-    few::refusals(&rt, false);
-    few::outside(&rt);
-    few::refusals(&rt, true);
-    few::too_large(&rt);
-    worst::inverse(&rt);
-    worst::forward(&rt);
-    by_value::all(&rt);
+use call::Direction;
+use std::io;
+
+fn main(rt: HostRuntime) -> io::Result<()> {
+    few::items(&rt)?;
+    few::refusals(&rt, Direction::Inverse)?;
+    few::outside(&rt)?;
+    few::refusals(&rt, Direction::Forward)?;
+    few::too_large(&rt)?;
+    worst::inverse(&rt)?;
+    worst::forward(&rt)?;
+    by_value::all(&rt)
 }
