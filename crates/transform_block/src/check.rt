@@ -12,10 +12,8 @@ use transform_fields::{is_corner, is_depth, is_pair, is_side, known_low, no_line
 fn reads(block: TransformBlock) -> bool
     ensures { result ≡ is_readable block }
 {
-    if is_kept(block.horizontal, block.width, block.columns) {
-        return is_kept(block.vertical, block.height, block.rows);
-    }
-    false
+    is_kept(block.horizontal, block.width, block.columns)
+        && is_kept(block.vertical, block.height, block.rows)
 }
 
 // What 31 asks for.
