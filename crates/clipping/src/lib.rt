@@ -31,10 +31,8 @@ fn clip_row(c: &[i32], o: usize, count: usize, room: &mut [i16])
     requires { (o + count ≤ length c.now) × (o + count ≤ length room.old) }
     ensures { WroteFrom o count room.new room.old (λ k. clip short_range (at c.now (o + k))) }
 {
-    let mut k = 0;
-    while k < count {
+    for k in 0..count {
         room[o + k] = clip16(c[o + k]);
-        k += 1;
     }
 }
 
@@ -43,10 +41,8 @@ fn clip_rows(c: &[i32], w: usize, columns: usize, rows: usize, room: &mut [i16])
     requires { (columns ≤ w) × ((rows * w ≤ length c.now) × ((rows * w ≤ length room.old) × ((k : ℕ) → at room.old k ≡ pos 0))) }
     ensures { (length room.new ≡ length room.old) × Clips c.now w columns rows room.new }
 {
-    let mut y = 0;
-    while y < rows {
+    for y in 0..rows {
         clip_row(c, y * w, columns, room);
-        y += 1;
     }
 }
 

@@ -35,10 +35,8 @@ fn weighed(z: i32) -> i32
 fn fill(v: i32, r: &mut [i32])
     ensures { r.new ≡ tabulate (length r.old) (λ _. v) }
 {
-    let mut i = 0;
-    while i < r.len() {
+    for i in 0..r.len() {
         r[i] = v;
-        i += 1;
     }
 }
 

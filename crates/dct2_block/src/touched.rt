@@ -20,12 +20,10 @@ pub fn touched(m: &[i16]) -> bool
     ensures { result ≡ false → (k : ℕ) → k < length m.now → Inner (at m.now k) }
 {
     let mut found = false;
-    let mut i = 0;
-    while i < m.len() {
+    for i in 0..m.len() {
         if at_end(m[i]) {
             found = true;
         }
-        i += 1;
     }
     found
 }

@@ -5,7 +5,16 @@ use Rattle.algebra.specs.Refusals.{Refusal, number_of}
 use Rattle.meaning.specs.declared.Shape.{Shape}
 use Rattle.meaning.specs.Shape.{shape_of, keeping}
 use Rattle.meaning.specs.Answer.{test, shape_tests}
-use Rattle.file_fields.specs.declared.field.Field.{Field}
+use Rattle.file_fields.specs.declared.cursor.Cursor.{Cursor}
+
+-- what stands at a place: the number of the refusal or 0, the tag or 0, where the body starts and how many bytes it has, and the cursor
+-- behind it
+pub record Field : Type 0 where
+  pub number : ℕ
+  pub tag : ℕ
+  pub start : ℕ
+  pub bytes : ℕ
+  pub next : Cursor
 
 -- the byte at place k, and 0 past the end
 abbrev pub byte_at : List ℕ → ℕ → ℕ

@@ -1,18 +1,13 @@
--- One number more of a list of bytes, as a loop fills its output. Assumes nothing.
-use mathlib.Core.Path.{◌≡◌, refl, sym, ap, ◌∙◌}
+-- One number more of a list of bytes, as a loop fills its output: for `picture_samples`. Assumes nothing.
+use mathlib.Core.Path.{◌≡◌, sym, ap, ◌∙◌}
 use mathlib.Core.List.{List, ◌∷◌, ◌++◌, append_assoc, append-nil}
-use Prim.Native.Nat.{ℕ, suc, ◌+◌, ◌*◌, ◌-◌, ◌<◌}
+use Prim.Native.Nat.{ℕ, suc, ◌+◌, ◌*◌, ◌<◌}
 use native.Mathlib.Numerals.{add-one}
 use native.Mathlib.Omega.{arith}
-use lib.IntN.{ℤ, pos, negsuc, ◌-ℤ◌}
+use lib.IntN.{ℤ}
 use lib.ListN.{length, take, drop, get_or, set, drop_of_length-le}
 use lib.Seq.{drop-cons, take-suc-set, take-length}
-use Rattle.algebra.proofs.Order.{subℕ-cases}
 use Rattle.file_numbers.specs.Numbers.{pairs}
-
--- a number less 65,536, as the library writes negative numbers
-pub less : (n : ℕ) → n < 65536 → pos n -ℤ pos 65536 ≡ negsuc (65536 - suc n)
-less n h = subℕ-cases n 65536 (λ z. z ≡ negsuc (65536 - suc n)) (λ l. refl) (λ l. absurd (omega arith))
 
 two : (b : List ℕ) (i : ℕ) → i + i + 1 < length b → drop (i + i) b ≡ get_or b (i + i) 0 ∷ get_or b (i + i + 1) 0 ∷ drop (suc i + suc i) b
 two b i h =

@@ -27,28 +27,28 @@ fn periodic_input(x: &[i16], n: usize, q: usize, back: bool, g: usize) -> i32
     requires { (length x.now ≡ n) × ((g < half q) × Stretched n q) }
     ensures { (result ≡ folded (reading back n x.now) (periodic_into n q g)) × (nat_abs result ≤ 425984) }
 {
+    let stretches = n / q;
     let mut sum: i32 = 0;
-    let mut k = 0;
-    while k < n / q {
+    for k in 0..stretches {
         let first = taken(x, n, back, k * q + g);
         let second = taken(x, n, back, k * q + q - 2 - g);
         sum = plus(sum, sign(k % 2 == 1, two_inputs(first, second)));
-        k += 1;
     }
-    plus(sum, sign(k % 2 == 1, taken(x, n, back, k * q + g)))
+    plus(
+        sum,
+        sign(stretches % 2 == 1, taken(x, n, back, stretches * q + g)),
+    )
 }
 
 fn folded_input(x: &[i16], n: usize, p: usize, q: usize, class: usize, back: bool, g: usize) -> i32
     requires { (length x.now ≡ n) × ((g < width p q class) × Factored n p q) }
     ensures { (result ≡ folded (reading back n x.now) (into n p q class g)) × (nat_abs result ≤ 425984) }
 {
-    if class == 1 {
-        return leading_input(x, n, p, q, back, g);
+    match class {
+        1 => leading_input(x, n, p, q, back, g),
+        2 => periodic_input(x, n, q, back, g),
+        _ => periodic_input(x, n, p, back, g),
     }
-    if class == 2 {
-        return periodic_input(x, n, q, back, g);
-    }
-    periodic_input(x, n, p, back, g)
 }
 
 // Numbers `from` to `to` of a class. Callers take eight at a time: the compiler writes out a loop of so few.
@@ -66,9 +66,7 @@ pub fn gather(
     requires { (length x.now ≡ n) × (((from ≤ to) × (to ≤ width p q class)) × Gathered n p q class (reading back n x.now) from t.old) }
     ensures { Gathered n p q class (reading back n x.now) to t.new }
 {
-    let mut g = from;
-    while g < to {
+    for g in from..to {
         t[g] = folded_input(x, n, p, q, class, back, g);
-        g += 1;
     }
 }

@@ -10,7 +10,10 @@ use lib.IntN.{ℤ, pos}
 use lib.ListN.{length, drop, replicate}
 use borrow.Author.Tests.{ltb-false, eqb-true}
 use Rattle.algebra.specs.Refusals.{number_of}
-use Rattle.steps.specs.Steps.{State, Run, refused, ran, and_then, run, first_state, finished, whole_run}
+use Rattle.meaning.specs.declared.refusal.Refusal.{Refusal}
+use Rattle.meaning.specs.declared.refusal.Refusal.TheVariants.{Width, Height, Horizontal, Vertical, Depth, Input, Output, OutsideKept, TooLarge, CutShort, UnknownTag, FieldLength, NoShape, FileTooLong, Place, TooManyBlocks, Unwritten, TooManySteps, WorkArea, Kept, Order, TotalsFull, Residual, Header, Samples, TooManyDropped, OutOfRange, Cell, StepResult, KindOfSide, LowFrequency}
+use Rattle.meaning.specs.Refusal.{refusal_number}
+use Rattle.steps.specs.Steps.{Run, refused, ran, and_then, first_state, finished}
 use Rattle.steps.specs.Numbers.{cell_of, decode, list_of}
 use Rattle.steps.specs.Outcome.{Result, untouched, list_tests, given, whole_numbers}
 use Rattle.step_run.specs.Parts.{state, tell, outs_refusal, readings}
@@ -61,13 +64,47 @@ started x v w e f =
     }
 
 -- ---- a number that is told, and one that is not
-told : {A : Type 0} (q : ℕ) (a : A) → (q ≡ 0 → ⊥) → refused q ≡ tell q a
+pub told : {A : Type 0} (q : ℕ) (a : A) → (q ≡ 0 → ⊥) → refused q ≡ tell q a
 told zero a h = absurd (h refl)
 told (suc k) a h = refl
 
 untold : {A : Type 0} (q : ℕ) (a : A) → q ≡ 0 → ran a ≡ tell q a
 untold zero a h = refl
 untold (suc k) a h = absurd (omega arith)
+
+-- no refusal has the number 0
+pub numbered : (r : Refusal) → refusal_number r ≡ 0 → ⊥
+numbered Width e = omega arith
+numbered Height e = omega arith
+numbered Horizontal e = omega arith
+numbered Vertical e = omega arith
+numbered Depth e = omega arith
+numbered Input e = omega arith
+numbered Output e = omega arith
+numbered OutsideKept e = omega arith
+numbered TooLarge e = omega arith
+numbered CutShort e = omega arith
+numbered UnknownTag e = omega arith
+numbered FieldLength e = omega arith
+numbered NoShape e = omega arith
+numbered FileTooLong e = omega arith
+numbered Place e = omega arith
+numbered TooManyBlocks e = omega arith
+numbered Unwritten e = omega arith
+numbered TooManySteps e = omega arith
+numbered WorkArea e = omega arith
+numbered Kept e = omega arith
+numbered Order e = omega arith
+numbered TotalsFull e = omega arith
+numbered Residual e = omega arith
+numbered Header e = omega arith
+numbered Samples e = omega arith
+numbered TooManyDropped e = omega arith
+numbered OutOfRange e = omega arith
+numbered Cell e = omega arith
+numbered StepResult e = omega arith
+numbered KindOfSide e = omega arith
+numbered LowFrequency e = omega arith
 
 module _ (n : ℕ) (outs y v : List ℤ) (w : List Bool) (c : ℕ) where
   -- the output cells: the first that is refused, or what they hold
@@ -79,14 +116,3 @@ module _ (n : ℕ) (outs y v : List ℤ) (w : List Bool) (c : ℕ) where
 
   pub all_read : (q : ℕ) → q ≡ outs_refusal n w outs → q ≡ 0 → (record { number = 0; count = c }, readings v outs) ≡ given y (finished whole_numbers n (map cell_of outs) (state v w c))
   all_read q u z = ap last (untold q (readings v outs) z ∙ ap (λ m. tell m (readings v outs)) u ∙ read-outs n v w c outs)
-
-  -- the steps: the first that is refused, or the output cells
-  module _ (s x : List ℤ) (q : ℕ) (e : tell q (state v w c) ≡ run whole_numbers n (decode s) (first_state whole_numbers x)) where
-    abbrev rest : Run (State ℤ) → Result
-    rest r = given y (and_then r (λ st. finished whole_numbers n (map cell_of outs) st))
-
-    pub stopped : (q ≡ 0 → ⊥) → untouched y q ≡ given y (whole_run whole_numbers (list_of (length x) n s outs) x)
-    stopped h = ap rest (told q (state v w c) h ∙ e)
-
-    pub went_on : q ≡ 0 → {o : Result} → o ≡ given y (finished whole_numbers n (map cell_of outs) (state v w c)) → o ≡ given y (whole_run whole_numbers (list_of (length x) n s outs) x)
-    went_on z f = f ∙ ap rest (untold q (state v w c) z ∙ e)

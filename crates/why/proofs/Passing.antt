@@ -1,14 +1,17 @@
 -- 1 to 5, 20 and 6, as `block_refusal` has them of an output as long as the input, to which 7 never applies: what is made of a call
 -- that they refuse, and of one that they let pass. Assumes nothing.
+use native.Mathlib.Omega.{arith}
 use mathlib.Core.Path.{◌≡◌, sym, ◌∙◌}
 use mathlib.Core.Bool.{Bool}
 use mathlib.Core.List.{List, ◌∷◌, ◌++◌}
-use Prim.Native.Nat.{ℕ, ◌*◌}
+use Prim.Native.Nat.{ℕ, ◌*◌, ◌<◌}
 use lib.IntN.{ℤ}
 use lib.ListN.{length}
 use Rattle.algebra.specs.Refusals.{Refusal, first_of, number_of}
 use Rattle.algebra.proofs.Refusals.{refused-first, passed_first}
 use Rattle.meaning.specs.declared.Shape.{Shape}
+use Rattle.meaning.specs.declared.refusal.Refusal.{Refusal as Reason}
+use Rattle.meaning.specs.Refusal.{refusal_number}
 use Rattle.meaning.specs.Shape.{is_size, is_long_depth}
 use Rattle.meaning.specs.Answer.{input_test, length_tests}
 use Rattle.meaning.specs.Long.{long_shape_tests}
@@ -30,3 +33,7 @@ module _ (extended : Bool) (sh : Shape) (c : List ℤ) where
 
     pub passes : number_of seven ≡ 0 → first_of (long_shape_tests extended sh ++ (input_test elements (length c) ∷ ts)) refused done ≡ first_of ts refused done
     passes e = six ∙ passed_first ts refused done seven tt e
+
+-- 0 is the number of none
+pub above : (refusal : Reason) → 0 < refusal_number refusal
+above refusal = grind arith
