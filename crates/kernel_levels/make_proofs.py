@@ -134,6 +134,11 @@ class Proof:
         for b in k.groups:
             step, written, need = self.call("take")
             group, end = f"c.requires.0 {b // 8} {self.turn} taken", min(b + 8, k.live)
+            places = [self.again(f"slice_bounds-take-{end}") for end in ("count", "start")]
+            if b:
+                places += [f"overflow_add-i{b}", f"offset_bounds-m-i{b}"] + ([f"overflow_mul-i{b}"] if b > 8 else [])
+                for place in places:
+                    self.answer(place, f"omega (arith, group-there {group} 0 (omega arith) (omega arith))", self.facts[:1])
             room = f"omega (arith, {held}.long)" if b else "omega arith"
             self.answer(need, f"({room}, λ i h. group-room {group} _ i (omega arith) (omega arith) (omega arith))")
             self.fact(f"gathered-{end}", f"Gathered {end} {k.live} (across c.args.m.now {k.count} c.args.apart {self.turn}) {written}",
@@ -198,7 +203,7 @@ Rattle.kernel_steps.proofs.Writing wrote-to
 Rattle.kernel_levels.specs.Kernels strip_sum across rows_sum
 Rattle.kernel_levels.proofs.Levels Dealt dealt Gathered gather_none weighed Made made_none made-next made-small Sums sums-small lowest up mirrored
 Rattle.kernel_levels.proofs.Tiles places-8-8 places-8-4 places-4-8 places-4-4 Turning turn-column turn-all put_next
-Rattle.kernel_levels.proofs.Across group-room group-next tiled round-next Columns columns-none columns-next columns-all"""
+Rattle.kernel_levels.proofs.Across group-there group-room group-next tiled round-next Columns columns-none columns-next columns-all"""
 
 
 def imports(crate, kernel, body, goals):

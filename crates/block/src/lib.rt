@@ -47,7 +47,7 @@ pub fn inverse(shape: Shape, coefficients: &[i16], residuals: &mut [i32]) -> Ans
     let mut code: u64 = 0;
     let mut rails: u32 = 0;
     if let Err(refusal) = block_refusal(s, false, c.len(), residuals.len()) {
-        code = u64::from(refusal.number());
+        code = refusal.number() as u64;
     } else {
         let rows = inverse_hunt::live::rows(s, c);
         let columns = inverse_hunt::live::columns(s, rows, c);

@@ -13,18 +13,7 @@ ghost use Rattle.narrowing.specs.Narrow.{Narrowed};
 ghost use Rattle.clipping.specs.Clips.{Clips};
 
 use dct2_block::touched::touched;
-
-fn clip16(v: i32) -> i16
-    ensures { result ≡ clip short_range v }
-{
-    if v < -32768 {
-        return -32768;
-    }
-    if v > 32767 {
-        return 32767;
-    }
-    v as i16
-}
+use kernel_steps::clip16;
 
 // The numbers from o on, as many as `count`. The compiler makes the clip one instruction, for eight at a time.
 fn clip_row(c: &[i32], o: usize, count: usize, room: &mut [i16])

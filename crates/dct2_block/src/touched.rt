@@ -7,13 +7,7 @@ ghost use Rattle.dct2_block.specs.Stages.{Inner};
 fn at_end(v: i16) -> bool
     ensures { result ≡ false → Inner v }
 {
-    if v == 32767 {
-        return true;
-    }
-    if v == -32768 {
-        return true;
-    }
-    false
+    v == 32767 || v == -32768
 }
 
 pub fn touched(m: &[i16]) -> bool

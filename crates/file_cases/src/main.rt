@@ -44,7 +44,7 @@ fn case<R: Env + Files + Print>(rt: &R, err: &impl Print, i: usize) -> io::Resul
     rt.println(":")?;
     match open(rt, path) {
         Ok(mut file) => {
-            file_program::answer(&mut file, rt);
+            let _ = file_program::answer(&mut file, rt);
             Ok(())
         }
         Err(error) => say_unopened(err, path, error),

@@ -27,17 +27,16 @@ fn periodic_input(x: &[i16], n: usize, q: usize, back: bool, g: usize) -> i32
     requires { (length x.now ≡ n) × ((g < half q) × Stretched n q) }
     ensures { (result ≡ folded (reading back n x.now) (periodic_into n q g)) × (nat_abs result ≤ 425984) }
 {
-    let stretches = n / q;
     let mut sum: i32 = 0;
-    for k in 0..stretches {
+    let mut k = 0;
+    // With `for` here and below, calls of `gather` are not written out, and a forward line takes 13 to 20 percent more.
+    while k < n / q {
         let first = taken(x, n, back, k * q + g);
         let second = taken(x, n, back, k * q + q - 2 - g);
         sum = plus(sum, sign(k % 2 == 1, two_inputs(first, second)));
+        k += 1;
     }
-    plus(
-        sum,
-        sign(stretches % 2 == 1, taken(x, n, back, stretches * q + g)),
-    )
+    plus(sum, sign(k % 2 == 1, taken(x, n, back, k * q + g)))
 }
 
 fn folded_input(x: &[i16], n: usize, p: usize, q: usize, class: usize, back: bool, g: usize) -> i32
@@ -66,7 +65,9 @@ pub fn gather(
     requires { (length x.now ≡ n) × (((from ≤ to) × (to ≤ width p q class)) × Gathered n p q class (reading back n x.now) from t.old) }
     ensures { Gathered n p q class (reading back n x.now) to t.new }
 {
-    for g in from..to {
+    let mut g = from;
+    while g < to {
         t[g] = folded_input(x, n, p, q, class, back, g);
+        g += 1;
     }
 }

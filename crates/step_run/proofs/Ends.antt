@@ -2,7 +2,7 @@
 use mathlib.Core.Path.{◌≡◌, refl, sym, ap, ◌∙◌}
 use mathlib.Core.Bool.{Bool, true, false, cond, not, ◌||◌}
 use mathlib.Core.List.{List, [], ◌∷◌, ◌++◌, map}
-use Prim.Native.Nat.{ℕ, zero, suc, ◌-◌, ◌/◌, ◌≤◌}
+use Prim.Native.Nat.{ℕ, zero, suc, ◌-◌, ◌/◌, ◌≤◌, ◌<◌}
 use native.Mathlib.Omega.{arith}
 use native.Mathlib.Nat.{sub-zero, zero-sub, suc-sub-suc}
 use lib.Dec.{ltb, eqb}
@@ -11,7 +11,6 @@ use lib.ListN.{length, drop, replicate}
 use borrow.Author.Tests.{ltb-false, eqb-true}
 use Rattle.algebra.specs.Refusals.{number_of}
 use Rattle.meaning.specs.declared.refusal.Refusal.{Refusal}
-use Rattle.meaning.specs.declared.refusal.Refusal.TheVariants.{Width, Height, Horizontal, Vertical, Depth, Input, Output, OutsideKept, TooLarge, CutShort, UnknownTag, FieldLength, NoShape, FileTooLong, Place, TooManyBlocks, Unwritten, TooManySteps, WorkArea, Kept, Order, TotalsFull, Residual, Header, Samples, TooManyDropped, OutOfRange, Cell, StepResult, KindOfSide, LowFrequency}
 use Rattle.meaning.specs.Refusal.{refusal_number}
 use Rattle.steps.specs.Steps.{Run, refused, ran, and_then, first_state, finished}
 use Rattle.steps.specs.Numbers.{cell_of, decode, list_of}
@@ -72,39 +71,12 @@ untold : {A : Type 0} (q : ℕ) (a : A) → q ≡ 0 → ran a ≡ tell q a
 untold zero a h = refl
 untold (suc k) a h = absurd (omega arith)
 
--- no refusal has the number 0
-pub numbered : (r : Refusal) → refusal_number r ≡ 0 → ⊥
-numbered Width e = omega arith
-numbered Height e = omega arith
-numbered Horizontal e = omega arith
-numbered Vertical e = omega arith
-numbered Depth e = omega arith
-numbered Input e = omega arith
-numbered Output e = omega arith
-numbered OutsideKept e = omega arith
-numbered TooLarge e = omega arith
-numbered CutShort e = omega arith
-numbered UnknownTag e = omega arith
-numbered FieldLength e = omega arith
-numbered NoShape e = omega arith
-numbered FileTooLong e = omega arith
-numbered Place e = omega arith
-numbered TooManyBlocks e = omega arith
-numbered Unwritten e = omega arith
-numbered TooManySteps e = omega arith
-numbered WorkArea e = omega arith
-numbered Kept e = omega arith
-numbered Order e = omega arith
-numbered TotalsFull e = omega arith
-numbered Residual e = omega arith
-numbered Header e = omega arith
-numbered Samples e = omega arith
-numbered TooManyDropped e = omega arith
-numbered OutOfRange e = omega arith
-numbered Cell e = omega arith
-numbered StepResult e = omega arith
-numbered KindOfSide e = omega arith
-numbered LowFrequency e = omega arith
+-- 0 is the number of none
+pub above : (refusal : Refusal) → 0 < refusal_number refusal
+above refusal = grind arith
+
+pub numbered : (refusal : Refusal) → refusal_number refusal ≡ 0 → ⊥
+numbered refusal e = let p = above refusal in omega (arith, p, e)
 
 module _ (n : ℕ) (outs y v : List ℤ) (w : List Bool) (c : ℕ) where
   -- the output cells: the first that is refused, or what they hold

@@ -14,10 +14,7 @@ pub fn is_on(block: TransformBlock) -> bool
 pub fn one_stage(block: TransformBlock) -> bool
     ensures { result ≡ is_thin block }
 {
-    if block.width == 1 {
-        return true;
-    }
-    block.height == 1
+    block.width == 1 || block.height == 1
 }
 
 pub fn has_low(block: TransformBlock) -> bool

@@ -13,16 +13,7 @@ use transform_short::rooms::stages;
 pub fn is_short(block: TransformBlock) -> bool
     ensures { result ≡ is_short block }
 {
-    if is_on(block) {
-        return false;
-    }
-    if !is_size(block.width) {
-        return false;
-    }
-    if !is_size(block.height) {
-        return false;
-    }
-    is_depth(block.depth)
+    !is_on(block) && is_size(block.width) && is_size(block.height) && is_depth(block.depth)
 }
 
 // Hands back the rail count.

@@ -11,7 +11,7 @@ use Rattle.kernel_steps.specs.Written.{WroteFrom}
 use Rattle.kernel_steps.proofs.Writing.{wrote-to}
 use Rattle.kernel_levels.specs.Kernels.{across, rows_sum}
 use Rattle.kernel_levels.proofs.Levels.{Dealt, dealt, Gathered, gather_none, weighed, Made, made_none, made-next, made-small, Sums, sums-small, lowest, up}
-use Rattle.kernel_levels.proofs.Across.{group-room, group-next, tiled, round-next, Columns, columns-none, columns-next, columns-all}
+use Rattle.kernel_levels.proofs.Across.{group-there, group-room, group-next, tiled, round-next, Columns, columns-none, columns-next, columns-all}
 use Rattle.kernel_levels.proofs.Stored.{first-2-2, first-2-2-right, odd-16-8, odd-16-8-right, odd-4-2, odd-4-2-right, odd-8-4, odd-8-4-right}
 use Rattle.kernels_along_16.proofs.along_16_16_4.Goals as goal
 
@@ -19,6 +19,26 @@ pub take-requires : goal.take-requires
 take-requires c =
     let taken : c.loop-l.l < 4 = omega arith in
     (omega arith, λ i h. group-room c.requires.0 0 c.loop-l.l taken _ i (omega arith) (omega arith) (omega arith))
+
+pub slice_bounds-take-count-in-loop-l : goal.slice_bounds-take-count-in-loop-l
+slice_bounds-take-count-in-loop-l c =
+    let taken : c.loop-l.l < 4 = omega arith in
+    omega (arith, group-there c.requires.0 1 c.loop-l.l taken 0 (omega arith) (omega arith))
+
+pub slice_bounds-take-start-in-loop-l : goal.slice_bounds-take-start-in-loop-l
+slice_bounds-take-start-in-loop-l c =
+    let taken : c.loop-l.l < 4 = omega arith in
+    omega (arith, group-there c.requires.0 1 c.loop-l.l taken 0 (omega arith) (omega arith))
+
+pub overflow_add-i8 : goal.overflow_add-i8
+overflow_add-i8 c =
+    let taken : c.loop-l.l < 4 = omega arith in
+    omega (arith, group-there c.requires.0 1 c.loop-l.l taken 0 (omega arith) (omega arith))
+
+pub offset_bounds-m-i8 : goal.offset_bounds-m-i8
+offset_bounds-m-i8 c =
+    let taken : c.loop-l.l < 4 = omega arith in
+    omega (arith, group-there c.requires.0 1 c.loop-l.l taken 0 (omega arith) (omega arith))
 
 pub take-requires-in-loop-l : goal.take-requires-in-loop-l
 take-requires-in-loop-l c =

@@ -11,7 +11,7 @@ use Rattle.kernel_steps.specs.Written.{WroteFrom}
 use Rattle.kernel_steps.proofs.Writing.{wrote-to}
 use Rattle.kernel_levels.specs.Kernels.{across, rows_sum}
 use Rattle.kernel_levels.proofs.Levels.{Dealt, dealt, Gathered, gather_none, weighed, Made, made_none, made-next, made-small, Sums, sums-small, lowest, up}
-use Rattle.kernel_levels.proofs.Across.{group-room, group-next, tiled, round-next, Columns, columns-none, columns-next, columns-all}
+use Rattle.kernel_levels.proofs.Across.{group-there, group-room, group-next, tiled, round-next, Columns, columns-none, columns-next, columns-all}
 use Rattle.kernel_levels.proofs.Stored.{first-2-2, first-2-2-right, odd-16-8, odd-16-8-right, odd-32-16, odd-32-16-right, odd-4-2, odd-4-2-right, odd-8-4, odd-8-4-right}
 use Rattle.kernels_along_32_32.proofs.along_32_32_8.Goals as goal
 
@@ -20,11 +20,56 @@ take-requires c =
     let taken : c.loop-l.l < 8 = omega arith in
     (omega arith, λ i h. group-room c.requires.0 0 c.loop-l.l taken _ i (omega arith) (omega arith) (omega arith))
 
+pub slice_bounds-take-count-in-loop-l : goal.slice_bounds-take-count-in-loop-l
+slice_bounds-take-count-in-loop-l c =
+    let taken : c.loop-l.l < 8 = omega arith in
+    omega (arith, group-there c.requires.0 1 c.loop-l.l taken 0 (omega arith) (omega arith))
+
+pub slice_bounds-take-start-in-loop-l : goal.slice_bounds-take-start-in-loop-l
+slice_bounds-take-start-in-loop-l c =
+    let taken : c.loop-l.l < 8 = omega arith in
+    omega (arith, group-there c.requires.0 1 c.loop-l.l taken 0 (omega arith) (omega arith))
+
+pub overflow_add-i8 : goal.overflow_add-i8
+overflow_add-i8 c =
+    let taken : c.loop-l.l < 8 = omega arith in
+    omega (arith, group-there c.requires.0 1 c.loop-l.l taken 0 (omega arith) (omega arith))
+
+pub offset_bounds-m-i8 : goal.offset_bounds-m-i8
+offset_bounds-m-i8 c =
+    let taken : c.loop-l.l < 8 = omega arith in
+    omega (arith, group-there c.requires.0 1 c.loop-l.l taken 0 (omega arith) (omega arith))
+
 pub take-requires-in-loop-l : goal.take-requires-in-loop-l
 take-requires-in-loop-l c =
     let taken : c.loop-l.l < 8 = omega arith in
     let gathered-8 : Gathered 8 32 (across c.args.m.now 8 c.args.apart c.loop-l.l) c.take.new.a = group-next c.requires.0 0 c.loop-l.l taken _ (omega arith) (omega arith) (omega arith) (gather_none 32 _) c.take.ensures in
     (omega (arith, gathered-8.long), λ i h. group-room c.requires.0 1 c.loop-l.l taken _ i (omega arith) (omega arith) (omega arith))
+
+pub slice_bounds-take-count-in-loop-l-2 : goal.slice_bounds-take-count-in-loop-l-2
+slice_bounds-take-count-in-loop-l-2 c =
+    let taken : c.loop-l.l < 8 = omega arith in
+    omega (arith, group-there c.requires.0 2 c.loop-l.l taken 0 (omega arith) (omega arith))
+
+pub slice_bounds-take-start-in-loop-l-2 : goal.slice_bounds-take-start-in-loop-l-2
+slice_bounds-take-start-in-loop-l-2 c =
+    let taken : c.loop-l.l < 8 = omega arith in
+    omega (arith, group-there c.requires.0 2 c.loop-l.l taken 0 (omega arith) (omega arith))
+
+pub overflow_add-i16 : goal.overflow_add-i16
+overflow_add-i16 c =
+    let taken : c.loop-l.l < 8 = omega arith in
+    omega (arith, group-there c.requires.0 2 c.loop-l.l taken 0 (omega arith) (omega arith))
+
+pub offset_bounds-m-i16 : goal.offset_bounds-m-i16
+offset_bounds-m-i16 c =
+    let taken : c.loop-l.l < 8 = omega arith in
+    omega (arith, group-there c.requires.0 2 c.loop-l.l taken 0 (omega arith) (omega arith))
+
+pub overflow_mul-i16 : goal.overflow_mul-i16
+overflow_mul-i16 c =
+    let taken : c.loop-l.l < 8 = omega arith in
+    omega (arith, group-there c.requires.0 2 c.loop-l.l taken 0 (omega arith) (omega arith))
 
 pub take-requires-in-loop-l-2 : goal.take-requires-in-loop-l-2
 take-requires-in-loop-l-2 c =
@@ -32,6 +77,31 @@ take-requires-in-loop-l-2 c =
     let gathered-8 : Gathered 8 32 (across c.args.m.now 8 c.args.apart c.loop-l.l) c.take.new.a = group-next c.requires.0 0 c.loop-l.l taken _ (omega arith) (omega arith) (omega arith) (gather_none 32 _) c.take.ensures in
     let gathered-16 : Gathered 16 32 (across c.args.m.now 8 c.args.apart c.loop-l.l) c.take-in-loop-l.new.a = group-next c.requires.0 1 c.loop-l.l taken _ (omega arith) (omega arith) (omega arith) gathered-8 c.take-in-loop-l.ensures in
     (omega (arith, gathered-16.long), λ i h. group-room c.requires.0 2 c.loop-l.l taken _ i (omega arith) (omega arith) (omega arith))
+
+pub slice_bounds-take-count-in-loop-l-3 : goal.slice_bounds-take-count-in-loop-l-3
+slice_bounds-take-count-in-loop-l-3 c =
+    let taken : c.loop-l.l < 8 = omega arith in
+    omega (arith, group-there c.requires.0 3 c.loop-l.l taken 0 (omega arith) (omega arith))
+
+pub slice_bounds-take-start-in-loop-l-3 : goal.slice_bounds-take-start-in-loop-l-3
+slice_bounds-take-start-in-loop-l-3 c =
+    let taken : c.loop-l.l < 8 = omega arith in
+    omega (arith, group-there c.requires.0 3 c.loop-l.l taken 0 (omega arith) (omega arith))
+
+pub overflow_add-i24 : goal.overflow_add-i24
+overflow_add-i24 c =
+    let taken : c.loop-l.l < 8 = omega arith in
+    omega (arith, group-there c.requires.0 3 c.loop-l.l taken 0 (omega arith) (omega arith))
+
+pub offset_bounds-m-i24 : goal.offset_bounds-m-i24
+offset_bounds-m-i24 c =
+    let taken : c.loop-l.l < 8 = omega arith in
+    omega (arith, group-there c.requires.0 3 c.loop-l.l taken 0 (omega arith) (omega arith))
+
+pub overflow_mul-i24 : goal.overflow_mul-i24
+overflow_mul-i24 c =
+    let taken : c.loop-l.l < 8 = omega arith in
+    omega (arith, group-there c.requires.0 3 c.loop-l.l taken 0 (omega arith) (omega arith))
 
 pub take-requires-in-loop-l-3 : goal.take-requires-in-loop-l-3
 take-requires-in-loop-l-3 c =

@@ -60,10 +60,10 @@ loop-y-preserved c =
     let f2 : SFits w16 (at m (4 * y + 2)) = search rules in
     let f3 : SFits w16 (at m (4 * y + 3)) = search rules in
     filled-four y (omega arith) c.loop-y.invariant
-        (written m y f0 f1 f2 f3 half shift 0 (4 * y) c.round.result c.weighed.result _ _ _ _ (omega arith) (omega arith) (search rules) (search rules) c.round.ensures c.weighed.ensures.0 (output-0 (row m y f0 f1 f2 f3)))
-        (written m y f0 f1 f2 f3 half shift 1 (4 * y + 1) c.round-in-loop-y.result c.weighed-in-loop-y.result _ _ _ _ (omega arith) refl (search rules) (search rules) c.round-in-loop-y.ensures c.weighed-in-loop-y.ensures.0 (output-1 (row m y f0 f1 f2 f3)))
-        (written m y f0 f1 f2 f3 half shift 2 (4 * y + 2) c.round-in-loop-y-2.result c.weighed-in-loop-y-2.result _ _ _ _ (omega arith) refl (search rules) (search rules) c.round-in-loop-y-2.ensures c.weighed-in-loop-y-2.ensures.0 (output-2 (row m y f0 f1 f2 f3)))
-        (written m y f0 f1 f2 f3 half shift 3 (4 * y + 3) c.round-in-loop-y-3.result c.weighed-in-loop-y-3.result _ _ _ _ (omega arith) refl (search rules) (search rules) c.round-in-loop-y-3.ensures c.weighed-in-loop-y-3.ensures.0 (output-3 (row m y f0 f1 f2 f3)))
+    (written m y f0 f1 f2 f3 half shift 0 (4 * y) c.round.result c.weighed.result _ _ _ _ (omega arith) (omega arith) (search rules) (search rules) c.round.ensures c.weighed.ensures.0 (output-0 (row m y f0 f1 f2 f3)))
+    (written m y f0 f1 f2 f3 half shift 1 (4 * y + 1) c.round-in-loop-y.result c.weighed-in-loop-y.result _ _ _ _ (omega arith) refl (search rules) (search rules) c.round-in-loop-y.ensures c.weighed-in-loop-y.ensures.0 (output-1 (row m y f0 f1 f2 f3)))
+    (written m y f0 f1 f2 f3 half shift 2 (4 * y + 2) c.round-in-loop-y-2.result c.weighed-in-loop-y-2.result _ _ _ _ (omega arith) refl (search rules) (search rules) c.round-in-loop-y-2.ensures c.weighed-in-loop-y-2.ensures.0 (output-2 (row m y f0 f1 f2 f3)))
+    (written m y f0 f1 f2 f3 half shift 3 (4 * y + 3) c.round-in-loop-y-3.result c.weighed-in-loop-y-3.result _ _ _ _ (omega arith) refl (search rules) (search rules) c.round-in-loop-y-3.ensures c.weighed-in-loop-y-3.ensures.0 (output-3 (row m y f0 f1 f2 f3)))
 
 pub returns : goal.returns
 returns c =
