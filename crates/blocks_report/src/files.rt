@@ -94,7 +94,7 @@ const PROGRESS: &str = "/proc/self/fd/4";
 
 /// A run of the program: what it reads by, where it says what was refused, and the totals so far.
 #[derive(Drop)]
-pub struct Run<'a, R, E> {
+pub struct Reading<'a, R, E> {
     pub rt: &'a R,
     pub err: &'a E,
     pub totals: [u64; 578],
@@ -104,7 +104,7 @@ pub struct Run<'a, R, E> {
     pub lent: bool,
 }
 
-impl<R: Env + Files, E: Print> Run<'_, R, E> {
+impl<R: Env + Files, E: Print> Reading<'_, R, E> {
     // What a reader gives, which word i names.
     fn take_input(&mut self, input: &mut impl Read, i: usize, path: &[u8]) -> Result<End, Failure> {
         let mut file = file_buffer();

@@ -10,7 +10,7 @@ mod table;
 
 use file_input::ending::{Failure, tell, written};
 use file_input::{word, word_buffer, word_count};
-use files::{End, Run};
+use files::{End, Reading};
 use std::env::Env;
 use table::Report;
 
@@ -27,7 +27,7 @@ fn lent(rt: &impl Env, i: usize) -> bool {
 }
 
 fn report(rt: &HostRuntime, last: usize) -> Result<(), Failure> {
-    let mut run = Run {
+    let mut run = Reading {
         rt,
         err: &rt.stderr(),
         totals: report::totals::empty(),
