@@ -16,13 +16,18 @@ mod worst;
 use call::Direction;
 use std::io;
 
-fn main(rt: HostRuntime) -> io::Result<()> {
-    few::items(&rt)?;
-    few::refusals(&rt, Direction::Inverse)?;
-    few::outside(&rt)?;
-    few::refusals(&rt, Direction::Forward)?;
-    few::too_large(&rt)?;
-    worst::inverse(&rt)?;
-    worst::forward(&rt)?;
-    by_value::all(&rt)
+fn all(out: &impl Print) -> io::Result<()> {
+    few::items(out)?;
+    few::refusals(out, Direction::Inverse)?;
+    few::outside(out)?;
+    few::refusals(out, Direction::Forward)?;
+    few::too_large(out)?;
+    worst::inverse(out)?;
+    worst::forward(out)?;
+    by_value::all(out)
+}
+
+// What cannot be written is left out.
+fn main(rt: HostRuntime) {
+    let _ = all(&rt);
 }

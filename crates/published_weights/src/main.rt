@@ -214,14 +214,19 @@ fn document_004(out: &impl Print) -> io::Result<()> {
     )
 }
 
-fn main(rt: HostRuntime) -> io::Result<()> {
-    document_01(&rt)?;
-    decoder_dst(&rt)?;
-    decoder_dct(&rt)?;
-    matrices(&rt)?;
-    odd_rows(&rt)?;
-    document_004(&rt)?;
+fn all(out: &impl Print) -> io::Result<()> {
+    document_01(out)?;
+    decoder_dst(out)?;
+    decoder_dct(out)?;
+    matrices(out)?;
+    odd_rows(out)?;
+    document_004(out)?;
     let source = "document 000, equation 1, letters of all rows of 16 points";
-    report(&rt, source, letters::equation_1(), 256)?;
-    norms::table_ii(&rt)
+    report(out, source, letters::equation_1(), 256)?;
+    norms::table_ii(out)
+}
+
+// What cannot be written is left out.
+fn main(rt: HostRuntime) {
+    let _ = all(&rt);
 }
