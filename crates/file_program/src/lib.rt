@@ -4,11 +4,10 @@
 
 ghost use Rattle.std.specs.Prelude.{◌≡◌, length};
 
+pub use file_input::ending::tell;
 use file_input::ending::{Failure, written};
 use file_input::{file_buffer, read_input};
 use std::io::Read;
-
-pub use file_input::ending::tell;
 
 // A buffer's `ensures` gives its length alone.
 fn text_buffer() -> [u8; 524288]
