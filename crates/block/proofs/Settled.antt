@@ -9,13 +9,13 @@ use borrow.Author.Tests.{ltb-true, ltb-false}
 use lib.Dec.{ltb}
 use lib.IntN.{ℤ}
 use lib.ListN.{length}
-use Rattle.algebra.specs.Refusals.{Refusal, first_of, number_of}
+use Rattle.algebra.specs.Refusals.{Test, first_of, number_of}
 use Rattle.algebra.specs.First.{found}
 use Rattle.algebra.proofs.Refusals.{refused-first, passed_first}
 use Rattle.algebra.proofs.Found.{found_some, found_none}
 use Rattle.meaning.specs.declared.Answer.{Answer}
 use Rattle.meaning.specs.declared.Shape.{Shape}
-use Rattle.meaning.specs.declared.refusal.Refusal.{Refusal as Reason}
+use Rattle.meaning.specs.declared.refusal.Refusal.{Refusal}
 use Rattle.meaning.specs.Refusal.{refusal_number}
 use Rattle.meaning.specs.Shape.{is_long_depth}
 use Rattle.meaning.specs.Answer.{Outcome, refused, accepted, shape_tests, length_tests}
@@ -30,12 +30,10 @@ use Rattle.inverse_stage.specs.Given.{GivenStages}
 use Rattle.layout.specs.Live.{Live, LiveColumns}
 use Rattle.layout.proofs.Inside.{live-part, kept-part}
 use Rattle.block.specs.Answered.{answer_of}
+use Rattle.meaning.proofs.RefusalNumbers.{above}
 
--- 0 is the number of none, and a number has one digit of 32 bits
-above : (refusal : Reason) → 0 < refusal_number refusal
-above refusal = grind arith
-
-below : (refusal : Reason) → refusal_number refusal < 32
+-- a number has one digit of 32 bits
+below : (refusal : Refusal) → refusal_number refusal < 32
 below refusal = grind arith
 
 -- an answer of which number and place stand in one number
@@ -56,7 +54,7 @@ abbrev pub first_number : Shape → ℕ → ℕ → ℕ
 first_number sh input output = number_of (long_shape_tests false sh ++ length_tests (sh.width * sh.height) input output)
 
 module _ (sh : Shape) (c out : List ℤ) where
-  abbrev first : List Refusal
+  abbrev first : List Test
   first = shape_tests sh ++ length_tests (sh.width * sh.height) (length c) (length out)
 
   abbrev refuse : ℕ → ℕ → Outcome
@@ -76,7 +74,7 @@ module _ (sh : Shape) (c out : List ℤ) where
       omega (arith, ltb-true place (length c) g.1, g.0, few sh (taken n))
 
   -- a refusal of 1 to 5, 20, 6 and 7, before whatever tests come after them
-  turned : (us : List Refusal) (done : Outcome) (refusal : Reason) → refusal_number refusal ≡ first_number sh (length c) (length out)
+  turned : (us : List Test) (done : Outcome) (refusal : Refusal) → refusal_number refusal ≡ first_number sh (length c) (length out)
       → (refused (refusal_number refusal) 0, out) ≡ first_of (first ++ us) refuse done
   unfolding is_long_depth
   turned us done refusal n =
@@ -87,13 +85,13 @@ module _ (sh : Shape) (c out : List ℤ) where
   abbrev outside : ℕ
   outside = first_outside (plan_of sh) c
 
-  abbrev eight : List Refusal
+  abbrev eight : List Test
   eight = record { applies = ltb outside (length c); number = 8; place = outside } ∷ []
 
   abbrev inversed : Outcome
   inversed = (accepted (rails (plan_of sh) c), inverse_block (plan_of sh) c)
 
-  pub inverse-turned : (refusal : Reason) → refusal_number refusal ≡ first_number sh (length c) (length out) → ◌≡◌ {A = Outcome} (answer_of (refusal_number refusal) 0, out) (inverse_outcome sh c out)
+  pub inverse-turned : (refusal : Refusal) → refusal_number refusal ≡ first_number sh (length c) (length out) → ◌≡◌ {A = Outcome} (answer_of (refusal_number refusal) 0, out) (inverse_outcome sh c out)
   inverse-turned refusal n =
       let b = below refusal in
       ap (λ (a : Answer). (a, out)) (refused-is (refusal_number refusal) (omega arith)) ∙ turned eight inversed refusal n
@@ -125,13 +123,13 @@ module _ (sh : Shape) (c out : List ℤ) where
   abbrev large : ℕ
   large = first_too_large sh c
 
-  abbrev nine : List Refusal
+  abbrev nine : List Test
   nine = record { applies = ltb large (length c); number = 9; place = large } ∷ []
 
   abbrev made : Outcome
   made = (accepted 0, forward_block sh c)
 
-  pub forward-turned : (refusal : Reason) → refusal_number refusal ≡ first_number sh (length c) (length out) → ◌≡◌ {A = Outcome} (refused (refusal_number refusal) 0, out) (forward_outcome sh c out)
+  pub forward-turned : (refusal : Refusal) → refusal_number refusal ≡ first_number sh (length c) (length out) → ◌≡◌ {A = Outcome} (refused (refusal_number refusal) 0, out) (forward_outcome sh c out)
   forward-turned refusal n = turned nine made refusal n
 
   pub forward-found : 0 ≡ first_number sh (length c) (length out) → (p : ℕ) → Some p ≡ found (length c) large → ◌≡◌ {A = Outcome} (refused 9 p, out) (forward_outcome sh c out)

@@ -15,10 +15,7 @@ use Rattle.meaning.specs.Refusal.{refusal_number, number_in}
 use Rattle.meaning.specs.Answer.{shape_tests}
 use Rattle.file_fields.specs.Field.{is_none, byte_at, length_at, shape_number, header_number, field_number}
 use Rattle.file_fields.proofs.Whole.{of_shape, in_order, header-five, header-two}
-
--- 0 is the number of none
-pub above : (refusal : Refusal) → 0 < refusal_number refusal
-above refusal = grind arith
+use Rattle.meaning.proofs.RefusalNumbers.{above}
 
 -- of a held shape
 pub held-number : (r : Result Unit Refusal) (sh : Shape) → number_in r ≡ number_of (shape_tests sh) → is_none sh ≡ is_err r

@@ -11,10 +11,7 @@ use Rattle.meaning.specs.declared.Answer.{Answer}
 use Rattle.meaning.specs.declared.refusal.Refusal.{Refusal}
 use Rattle.meaning.specs.Refusal.{refusal_number}
 use Rattle.meaning.specs.Answer.{Outcome, outcome, refused, line_tests}
-
--- 0 is the number of none
-above : (refusal : Refusal) → 0 < refusal_number refusal
-above refusal = grind arith
+use Rattle.meaning.proofs.RefusalNumbers.{above}
 
 module _ (n kind : ℕ) (x y : List ℤ) (done : Outcome) where
   pub turned-down : (refusal : Refusal) {a : Answer} → a ≡ refused (refusal_number refusal) 0 → refusal_number refusal ≡ number_of (line_tests n kind (length x) (length y))

@@ -17,6 +17,7 @@ use Rattle.steps.specs.Numbers.{cell_of, decode, list_of}
 use Rattle.steps.specs.Outcome.{Result, untouched, list_tests, given, whole_numbers}
 use Rattle.step_run.specs.Parts.{state, tell, outs_refusal, readings}
 use Rattle.step_run.proofs.Laws.{decoded, read-outs}
+use Rattle.meaning.proofs.RefusalNumbers.{above}
 
 -- ---- before the first step
 map-long : (os : List ℤ) → length (map cell_of os) ≡ length os
@@ -72,9 +73,6 @@ untold zero a h = refl
 untold (suc k) a h = absurd (omega arith)
 
 -- 0 is the number of none
-pub above : (refusal : Refusal) → 0 < refusal_number refusal
-above refusal = grind arith
-
 pub numbered : (refusal : Refusal) → refusal_number refusal ≡ 0 → ⊥
 numbered refusal e = let p = above refusal in omega (arith, p, e)
 

@@ -3,7 +3,7 @@ ghost use Rattle.std.specs.Prelude.{◌≡◌, true, map, ◌++◌, ◌<◌, ◌
 ghost use Rattle.algebra.specs.Lists.{at};
 ghost use Rattle.algebra.specs.Refusals.{number_of};
 ghost use Rattle.meaning.specs.Refusal.{number_in};
-ghost use Rattle.steps.specs.Counted.{counted};
+ghost use Rattle.steps.specs.Counted.{step_count};
 ghost use Rattle.steps.specs.Steps.{run, finished, whole_run};
 ghost use Rattle.steps.specs.Numbers.{cell_of, decode, list_of};
 ghost use Rattle.steps.specs.Outcome.{Result, whole_numbers, list_tests, given, steps_outcome};
@@ -107,7 +107,7 @@ fn finish(
     y: &mut [i32],
 ) -> Result<u32, Refusal>
     requires { (n ≤ length written.now) × (length y.old ≡ length outs.now) }
-    ensures { ◌≡◌ {A = Result} (counted result, y.new) (given y.old (finished whole_numbers n (map cell_of outs.now) (state values.now written.now count))) }
+    ensures { ◌≡◌ {A = Result} (step_count result, y.new) (given y.old (finished whole_numbers n (map cell_of outs.now) (state values.now written.now count))) }
 {
     unread(outs, n, written)?;
     hand_over(outs, values, y);
@@ -117,7 +117,7 @@ fn finish(
 // A list that is not refused before its first step.
 fn accepted(n: usize, steps: &[i32], outs: &[i32], x: &[i16], y: &mut [i32]) -> Result<u32, Refusal>
     requires { ((length steps.now < 8196) × (n ≤ 2048)) × ((length x.now ≤ n) × (length y.old ≡ length outs.now)) }
-    ensures { ◌≡◌ {A = Result} (counted result, y.new) (given y.old (whole_run whole_numbers (list_of (length x.now) n steps.now outs.now) x.now)) }
+    ensures { ◌≡◌ {A = Result} (step_count result, y.new) (given y.old (whole_run whole_numbers (list_of (length x.now) n steps.now outs.now) x.now)) }
 {
     let mut values: [i32; 2048] = [0; 2048];
     let mut written: [bool; 2048] = [false; 2048];

@@ -4,6 +4,6 @@ use Rattle.meaning.specs.declared.refusal.Refusal.{Refusal}
 use Rattle.meaning.specs.Refusal.{refusal_number}
 use Rattle.steps.specs.declared.StepCount.{StepCount}
 
-abbrev pub counted : Result ℕ Refusal → StepCount
-counted (Ok count) = record { number = 0; count = count }
-counted (Err refusal) = record { number = refusal_number refusal; count = 0 }
+abbrev pub step_count : Result ℕ Refusal → StepCount
+step_count (Ok count) = record { number = 0; count = count }
+step_count (Err refusal) = record { number = refusal_number refusal; count = 0 }

@@ -6,7 +6,7 @@
 #![tactic(auto)]
 
 ghost use Rattle.std.specs.Prelude.{◌≡◌};
-ghost use Rattle.steps.specs.Counted.{counted};
+ghost use Rattle.steps.specs.Counted.{step_count};
 
 use meaning::Refusal;
 
@@ -19,10 +19,10 @@ pub struct StepCount {
 }
 
 impl From<Result<u32, Refusal>> for StepCount {
-    ghost from_gives = { λ run count. count ≡ counted run };
+    ghost from_gives = { λ run count. count ≡ step_count run };
 
     fn from(run: Result<u32, Refusal>) -> StepCount
-        ensures { result ≡ counted run }
+        ensures { result ≡ step_count run }
     {
         match run {
             Ok(count) => StepCount { number: 0, count },

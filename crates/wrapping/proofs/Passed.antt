@@ -11,10 +11,6 @@ use Rattle.wrapping.specs.Order.{is_order, Order}
 use Rattle.wrapping.specs.Outcome.{wrapped_tests}
 use Rattle.wrapping.proofs.Orders.{is-order}
 
--- 0 is the number of none
-pub above : (refusal : Refusal) → 0 < refusal_number refusal
-above refusal = grind arith
-
 module _ (n kind input output : ℕ) (order : List ℕ) where
   pub tested : Clear (wrapped_tests n kind input output order) → TakenLine n kind input output × Order n order
   tested (s, (k, (i, (o, (each, _))))) = (

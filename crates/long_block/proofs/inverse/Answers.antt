@@ -24,10 +24,7 @@ use Rattle.meaning.proofs.LongRules.{reach-in}
 use Rattle.layout.proofs.Inside.{live-part, kept-part}
 use Rattle.long_block.proofs.inverse.Goals as goal
 use Rattle.long_block.proofs.inverse.Goals.{Start, In_default}
-
--- 0 is the number of none
-above : (refusal : Refusal) → 0 < refusal_number refusal
-above refusal = grind arith
+use Rattle.meaning.proofs.RefusalNumbers.{above}
 
 taken : (c : In_default) → TakenLongBlock c.args.extended c.args.shape c.args.coefficients.now c.args.residuals.now
 taken c = long-block-taken c.args.shape c.args.coefficients.now c.args.residuals.now c.args.extended (sym c.in_default.ensures)
@@ -43,7 +40,7 @@ returns-in-Err c =
     let place = first_outside p l in
     let far = first_beyond (range_of (reach s.extended s.shape.depth)) l in
     let seven = long_shape_tests s.extended s.shape ++ length_tests (s.shape.width * s.shape.height) (length l) (length s.residuals.now) in
-    let rest : List tests.Refusal = record { applies = ltb place (length l); number = 8; place = place } ∷ record { applies = ltb far (length l); number = 27; place = far } ∷ [] in
+    let rest : List tests.Test = record { applies = ltb place (length l); number = 8; place = place } ∷ record { applies = ltb far (length l); number = 27; place = far } ∷ [] in
     let refuse : ℕ → ℕ → Outcome = λ number place. (refused number place, s.residuals.now) in
     let done : Outcome = (accepted (rails p l), inverse_block p l) in
     let n = above c.in-Err.refusal in

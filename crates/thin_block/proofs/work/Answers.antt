@@ -23,10 +23,7 @@ use Rattle.thin_block.proofs.Sides.{two-sides}
 use Rattle.thin_block.proofs.Passed as passing
 use Rattle.thin_block.proofs.work.Goals as goal
 use Rattle.thin_block.proofs.work.Goals.{In_default}
-
--- 0 is the number of none
-above : (refusal : Refusal) → 0 < refusal_number refusal
-above refusal = grind arith
+use Rattle.meaning.proofs.RefusalNumbers.{above}
 
 passed : (c : In_default) → passing.Passed c.args.shape c.args.coefficients.now c.args.first.now c.args.second.now
 passed c = passing.passed c.args.shape c.args.coefficients.now c.args.first.now c.args.second.now (sym c.in_default.ensures)
@@ -41,7 +38,7 @@ returns-in-Err c =
     let l = a.coefficients.now in
     let n = c.in-Err.refusal in
     let eight = thin_shape_tests a.shape ++ area_tests (a.shape.width * a.shape.height) (length l) (length a.first.now) (length a.second.now) in
-    let last : List tests.Refusal = outside_test (plan_of a.shape) l ∷ [] in
+    let last : List tests.Test = outside_test (plan_of a.shape) l ∷ [] in
     let refuse : ℕ → ℕ → Areas = areas_stay a.first.now a.second.now in
     let done : Areas = cond (one_stage a.shape) (after_one a.shape l a.first.now a.second.now) (after_two a.shape l a.first.now a.second.now) in
     let p = above n in

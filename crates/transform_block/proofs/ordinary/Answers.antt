@@ -21,20 +21,17 @@ use Rattle.transform_block.specs.Given.{TakenFields, GivenWork}
 use Rattle.transform_block.proofs.Taken.{fields-taken, few, columns-read, rows-read}
 use Rattle.transform_hunt.proofs.Hunting.{inside-none}
 use Rattle.transform_block.proofs.ordinary.Goals as goal
-
--- 0 is the number of none
-above : (refusal : Refusal) → 0 < refusal_number refusal
-above refusal = grind arith
+use Rattle.meaning.proofs.RefusalNumbers.{above}
 
 module _ (b : TransformBlock) (n : List ℤ) where
   -- 1 to 4, 30, 5, 20, 31 and 6; 27; and what a call hands back at either end
-  abbrev nine : List tests.Refusal
+  abbrev nine : List tests.Test
   nine = handed_tests b (length n)
 
   abbrev place : ℕ
   place = first_read_beyond (transform_plan b) n
 
-  abbrev last : List tests.Refusal
+  abbrev last : List tests.Test
   last = test_at place (length n) 27 ∷ []
 
   abbrev refuse : ℕ → ℕ → Outcome

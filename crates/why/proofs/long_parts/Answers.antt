@@ -8,7 +8,8 @@ use Rattle.meaning.specs.Long.{beyond_test}
 use Rattle.meaning.specs.Inverse.{outside_test}
 use Rattle.meaning.proofs.AcceptedCalls.{long-block-taken}
 use Rattle.why.specs.Why.{parts_of, no_parts, place_test}
-use Rattle.why.proofs.Passing.{seven, refuses, passes, above}
+use Rattle.why.proofs.Passing.{seven, refuses, passes}
+use Rattle.meaning.proofs.RefusalNumbers.{above}
 use Rattle.why.proofs.long_parts.Goals as goal
 
 pub returns-in-Err : goal.returns-in-Err

@@ -13,7 +13,8 @@ use Rattle.meaning.proofs.AcceptedCalls.{few, long-block-taken}
 use Rattle.why.specs.declared.answer.Parts.{Parts}
 use Rattle.why.specs.Why.{parts_of, no_parts, place_test, long_why_outcome}
 use Rattle.why.specs.Work.{Passed}
-use Rattle.why.proofs.Passing.{seven, refuses, passes, above}
+use Rattle.why.proofs.Passing.{seven, refuses, passes}
+use Rattle.meaning.proofs.RefusalNumbers.{above}
 use Rattle.why.proofs.Off.{why-off}
 use Rattle.why.proofs.parts.Goals as goal
 

@@ -1,18 +1,19 @@
 -- `total` meets its contract: the first refusal that applies, or the line with number 0. Assumes nothing.
 use Rattle.std.proofs.Common.{ℕ, ◌≡◌, List, [], length, sym, ap, ◌∙◌, arith}
 use Rattle.algebra.specs.Lists.{at}
-use Rattle.algebra.specs.Refusals.{Refusal, number_of}
+use Rattle.algebra.specs.Refusals.{Test, number_of}
 use Rattle.algebra.proofs.Refusals.{refused-first, passed_first}
 use Rattle.meaning.specs.declared.Answer.{Answer}
 use Rattle.meaning.specs.Refusal.{refusal_number}
 use Rattle.meaning.specs.Answer.{Outcome, refused, accepted}
 use Rattle.wrapping.specs.Feed.{line_sums}
 use Rattle.wrapping.specs.Outcome.{wrapped_tests}
-use Rattle.wrapping.proofs.Passed.{passed, above}
+use Rattle.wrapping.proofs.Passed.{passed}
+use Rattle.meaning.proofs.RefusalNumbers.{above}
 use Rattle.wrapping.proofs.total.Goals as goal
 use Rattle.wrapping.proofs.total.Goals.{Start}
 
-abbrev tests : Start → List Refusal
+abbrev tests : Start → List Test
 tests s = wrapped_tests s.args.n s.args.kind (length s.args.x.now) (length s.args.y.now) s.args.order.now
 
 abbrev given_back : Start → ℕ → ℕ → Outcome

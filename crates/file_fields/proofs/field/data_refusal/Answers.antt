@@ -4,7 +4,8 @@ use borrow.Author.Tests.{eq-eqb, ne_eqb}
 use lib.Dec.{eqb}
 use Rattle.meaning.specs.Refusal.{number_in, refusal_number}
 use Rattle.file_fields.specs.Field.{header_number, is_none}
-use Rattle.file_fields.proofs.Refusals.{above, hides, is-held}
+use Rattle.file_fields.proofs.Refusals.{hides, is-held}
+use Rattle.meaning.proofs.RefusalNumbers.{above}
 use Rattle.file_fields.proofs.Shapes.{shape-range}
 use Rattle.file_fields.proofs.field.data_refusal.Goals as goal
 

@@ -4,7 +4,7 @@ use borrow.Author.Tests.{eq-eqb, ne_eqb, lt-ltb, le-ltb}
 use Rattle.meaning.specs.Refusal.{refusal_number}
 use Rattle.file_fields.specs.Field.{nothing, field_number, field_at}
 use Rattle.file_fields.specs.Read.{field_in}
-use Rattle.file_fields.proofs.Refusals.{above}
+use Rattle.meaning.proofs.RefusalNumbers.{above}
 use Rattle.file_fields.proofs.Whole.{whole-field}
 use Rattle.file_fields.proofs.field.field_at.Goals as goal
 

@@ -1,15 +1,15 @@
 -- `forward::forward`: the first refusal that applies, or the line. Assumes nothing.
 use Rattle.std.proofs.Common.{arith, ◌≡◌, List, [], length, ap, sym, ◌∙◌}
-use Rattle.algebra.specs.Refusals.{Refusal, number_of}
+use Rattle.algebra.specs.Refusals.{Test, number_of}
 use Rattle.algebra.proofs.Refusals.{refused-first, passed_first}
 use Rattle.meaning.specs.Refusal.{refusal_number}
 use Rattle.steps.specs.Outcome.{untouched}
-use Rattle.step_run.proofs.Ends.{above}
+use Rattle.meaning.proofs.RefusalNumbers.{above}
 use Rattle.step_lists.specs.Listed.{step_line_tests, step_line, step_line_outcome}
 use Rattle.step_lists.proofs.forward.forward.Goals as goal
 use Rattle.step_lists.proofs.forward.forward.Goals.{Start}
 
-abbrev tests : Start → List Refusal
+abbrev tests : Start → List Test
 tests s = step_line_tests s.args.n (length s.args.x.now) (length s.args.y.now)
 
 pub returns-in-Err : goal.returns-in-Err

@@ -2,7 +2,7 @@
 use Rattle.std.proofs.Common.{rules, ◌≡◌, ℤ, ap, sym, ◌∙◌}
 use mathlib.Core.List.{map}
 use Rattle.meaning.specs.Refusal.{refusal_number}
-use Rattle.steps.specs.Counted.{counted}
+use Rattle.steps.specs.Counted.{step_count}
 use Rattle.steps.specs.Steps.{State, Run, and_then, run, finished, first_state}
 use Rattle.steps.specs.Numbers.{cell_of, decode}
 use Rattle.steps.specs.Outcome.{Result, given, whole_numbers}
@@ -25,7 +25,7 @@ pub returns-in_err-count : goal.returns-in_err-count
 returns-in_err-count c =
     let F = (goal.at.returns-in_err-count c).After-follow in
     let r = c.in_err-count.field-0.0 in
-    let e : counted c.from_residual.result ≡ record { number = refusal_number r; count = 0 } = search rules in
+    let e : step_count c.from_residual.result ≡ record { number = refusal_number r; count = 0 } = search rules in
     (λ i. (e i, c.args.y.now))
     ∙ ap (rest F) (ap (λ q. tell_count q (state c.follow.new.values c.follow.new.written)) (sym c.in_err-count.was) ∙ followed F)
 

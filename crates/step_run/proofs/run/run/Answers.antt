@@ -1,6 +1,6 @@
 -- `run::run`: the first refusal before any step, or the run. Assumes nothing.
 use Rattle.std.proofs.Common.{arith, ◌≡◌, ◌/◌, length, List, [], ap, sym, ◌∙◌}
-use Rattle.algebra.specs.Refusals.{Refusal, number_of}
+use Rattle.algebra.specs.Refusals.{Test, number_of}
 use Rattle.algebra.proofs.Refusals.{refused-first, passed_first}
 use Rattle.meaning.specs.Refusal.{number_in, refusal_number}
 use Rattle.steps.specs.Steps.{StepList, whole_run}
@@ -13,7 +13,7 @@ use Rattle.step_run.proofs.run.run.Goals.{After-refusal}
 abbrev list : After-refusal → StepList
 list c = list_of c.args.inputs c.args.cells c.args.steps.now c.args.outs.now
 
-abbrev tests : After-refusal → List Refusal
+abbrev tests : After-refusal → List Test
 tests c = list_tests (length (list c).steps) c.args.cells c.args.inputs (length (list c).outs) (length c.args.x.now) (length c.args.y.now)
 
 abbrev done : After-refusal → Result
