@@ -55,29 +55,3 @@ pub fn tell(rt: &impl Files, ended: Result<(), Failure>) {
         Err(failure) => descriptor::write(rt, ENDING, format_args!("{failure}\n")),
     }
 }
-
-pub fn unread(rt: &impl Files, word: usize) {
-    tell(rt, Err(Failure::Unread(word)));
-}
-
-// Status 0, where the answer was written.
-pub fn ran(rt: &impl Files, written: bool) {
-    tell(
-        rt,
-        if written {
-            Ok(())
-        } else {
-            Err(Failure::Unwritten)
-        },
-    );
-}
-
-// Status 1, where the refusal stands in the answer or was said.
-pub fn refused(rt: &impl Files, said: bool) {
-    let failure = if said {
-        Failure::Refused
-    } else {
-        Failure::Unsaid
-    };
-    tell(rt, Err(failure));
-}
