@@ -9,7 +9,7 @@ mod files;
 mod table;
 
 use file_input::ending::{Failure, tell, written};
-use file_input::{word, word_buffer, word_count};
+use file_input::{print_whole, word, word_buffer, word_count};
 use files::{End, Reading};
 use std::env::Env;
 use table::Report;
@@ -37,7 +37,7 @@ fn report(rt: &HostRuntime, last: usize) -> Result<(), Failure> {
     let end = run.take_all(&mut rt.stdin(), last);
     run.clear();
     let end = end?;
-    written(rt.print(Report(run.totals)))?;
+    written(print_whole(rt, Report(run.totals)))?;
     match end {
         End::Whole => Ok(()),
         End::Refused => Err(Failure::Refused),

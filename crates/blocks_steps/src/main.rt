@@ -6,7 +6,7 @@
 mod text;
 
 use file_input::ending::{Failure, tell, written};
-use file_input::{word, word_buffer, word_count};
+use file_input::{print_whole, word, word_buffer, word_count};
 use plain_text::number_of;
 use std::io;
 use step_lists::list::list;
@@ -15,7 +15,7 @@ use text::Listing;
 // The list of n points; both buffers are as long as its steps and its output cells.
 fn show(out: &impl Print, n: u32, steps: &mut [i32], outs: &mut [i32]) -> io::Result<()> {
     let cells = list(n, steps, outs).cells;
-    out.print(Listing { cells, steps, outs })
+    print_whole(out, Listing { cells, steps, outs })
 }
 
 fn show_named(out: &impl Print, word: &[u8]) -> Result<(), Failure> {

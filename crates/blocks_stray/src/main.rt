@@ -3,9 +3,10 @@
 #![tactic(auto)]
 
 use file_input::ending::{tell, written};
+use file_input::print_whole;
 use round_trip::stray;
+use std::fmt;
 use std::fmt::{Display, Formatter, Write};
-use std::{fmt, io};
 
 // Every D of a kind and a size, and the largest.
 #[derive(Clone, Copy)]
@@ -26,19 +27,21 @@ impl Display for Strays {
     }
 }
 
-fn show_kind(out: &impl Print, kind: u32, name: &str) -> io::Result<()> {
-    for n in [4, 8, 16, 32] {
-        println!(out; "{name}, {n} points:{}", Strays { kind, n })?;
-    }
-    Ok(())
-}
+// The lines of every kind and size.
+#[derive(Clone, Copy)]
+struct Lines;
 
-fn show(out: &impl Print) -> io::Result<()> {
-    show_kind(out, 0, "DCT-II")?;
-    show_kind(out, 1, "DST-VII")?;
-    show_kind(out, 2, "DCT-VIII")
+impl Display for Lines {
+    fn fmt<W: Write>(&self, f: &mut Formatter<W>) -> fmt::Result {
+        for (kind, name) in [(0, "DCT-II"), (1, "DST-VII"), (2, "DCT-VIII")] {
+            for n in [4, 8, 16, 32] {
+                writeln!(f, "{name}, {n} points:{}", Strays { kind, n })?;
+            }
+        }
+        Ok(())
+    }
 }
 
 fn main(rt: HostRuntime) {
-    tell(&rt, written(show(&rt)));
+    tell(&rt, written(print_whole(&rt, Lines)));
 }

@@ -10,8 +10,9 @@ ghost use Rattle.std.specs.Prelude.{◌≡◌, ◌≤◌, length};
 ghost use Rattle.file_input.specs.Counts.{IsPrefixLen};
 
 use std::env::{Env, FillError};
+use std::fmt::Display;
 use std::io;
-use std::io::Read;
+use std::io::{Cursor, Read, Write};
 
 // One byte more than a file may have, so that a program can tell that there is one. A buffer's `ensures` gives its length alone.
 pub fn file_buffer() -> [u8; 65537]
@@ -77,6 +78,15 @@ pub fn read_input(input: &mut impl Read, file: &mut [u8]) -> Input
         count,
         failed: false,
     }
+}
+
+// Prints a text of at most 65,536 bytes by one write: a reader who leaves after a part of it is no failure then.
+pub fn print_whole(out: &impl Print, text: impl Display + Drop) -> io::Result<()> {
+    let mut room = [0u8; 65536];
+    let mut at = Cursor::new(&mut room[..]);
+    write!(at, "{text}")?;
+    let end = at.position() as usize;
+    out.write_all(&room[..end.min(65536)])
 }
 
 // "R number offset", for a refusal in the place of the answer; the caller ends the line.

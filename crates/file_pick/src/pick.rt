@@ -26,7 +26,7 @@ pub fn pick(file: &[u8], n: usize) -> Cursor
 {
     let mut left_over = n;
     let mut cursor = Cursor::new();
-    // Where a field ends says where the next one starts: how many there are is known behind the last.
+    // no `for`: each field says where the next one starts
     'fields: loop {
         let advance = cursor.advance(file);
         if !passes(advance.tag, left_over) {

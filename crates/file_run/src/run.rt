@@ -191,7 +191,7 @@ pub fn run(file: &[u8], text: &mut [u8; 524288]) -> RunDone
 {
     let mut cursor = Cursor::new();
     let mut at = 0;
-    // Where a field ends says where the next one starts: how many there are is known behind the last.
+    // no `for`: each field says where the next one starts
     'turns: loop {
         let done = turn(file, cursor, text, at);
         at = done.at;

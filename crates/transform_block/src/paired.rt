@@ -8,6 +8,7 @@ use crate::TransformBlock;
 use crate::rules::{is_on, last, one_stage};
 use transform_pairs::stages::stages;
 
+#[tactic(auto, unfolding(crate::specs::Given::is_paired))]
 pub fn is_paired(block: TransformBlock) -> bool
     ensures { result ≡ is_paired block }
 {

@@ -11,6 +11,7 @@ pub fn is_on(block: TransformBlock) -> bool
     block.extended != 0
 }
 
+#[tactic(auto, unfolding(crate::specs::TransformBlock::is_thin))]
 pub fn one_stage(block: TransformBlock) -> bool
     ensures { result ≡ is_thin block }
 {

@@ -10,6 +10,7 @@ use meaning::{Shape, is_depth, is_size};
 use transform_short::rooms::stages;
 
 // Whether document 01's call takes the block.
+#[tactic(auto, unfolding(crate::specs::Given::is_short))]
 pub fn is_short(block: TransformBlock) -> bool
     ensures { result ≡ is_short block }
 {
