@@ -29,9 +29,9 @@ impl Display for Strays {
 
 // The lines of every kind and size.
 #[derive(Clone, Copy)]
-struct Lines;
+struct EverySize;
 
-impl Display for Lines {
+impl Display for EverySize {
     fn fmt<W: Write>(&self, f: &mut Formatter<W>) -> fmt::Result {
         for (kind, name) in [(0, "DCT-II"), (1, "DST-VII"), (2, "DCT-VIII")] {
             for n in [4, 8, 16, 32] {
@@ -43,5 +43,5 @@ impl Display for Lines {
 }
 
 fn main(rt: HostRuntime) {
-    tell(&rt, written(print_whole(&rt, Lines)));
+    tell(&rt, written(print_whole(&rt, EverySize)));
 }
