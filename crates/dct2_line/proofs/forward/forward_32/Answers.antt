@@ -1,4 +1,4 @@
--- `forward::forward_32` meets its contract: the line of 16 points over the sums, and one step. Assumes nothing.
+-- `forward::forward_32` meets its contract: the line of 16 points over the sums, and one step. Assumes nothing. Made by crates/dct2_line/make; do not edit.
 use Rattle.std.proofs.Common.{arith, refl}
 use Rattle.halves.proofs.Halved.{halves-32}
 use Rattle.dct2_line.proofs.ForwardStep.{sums-small, weave-given}
