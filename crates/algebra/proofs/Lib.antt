@@ -9,6 +9,7 @@ pub mod Clip
 pub mod Table
 pub mod Lists
 pub mod First
+pub mod Found
 pub mod Unique
 pub mod Refusals
 pub mod Signs

@@ -8,7 +8,7 @@ ghost use Rattle.meaning.specs.Forward.{forward_outcome};
 ghost use Rattle.meaning.specs.Inverse.{inverse_outcome};
 ghost use Rattle.block.specs.Answered.{answer_of};
 
-use meaning::{Answer, Shape, accepted, block_refusal, refused};
+use meaning::{Answer, Refusal, Shape, accepted, block_refusal};
 
 // The shape, number by number. A struct or a slice that is handed on as it came the compiler copies in vectors, which wait for the
 // stores that have just written it; so `inverse` reads `coefficients[0..]`, which is the same, too.
@@ -44,14 +44,15 @@ pub fn inverse(shape: Shape, coefficients: &[i16], residuals: &mut [i32]) -> Ans
 {
     let c = &coefficients[0..];
     let s = fields(shape);
-    let number = block_refusal(s, false, c.len(), residuals.len());
-    let mut code = number as u64;
+    let mut code: u64 = 0;
     let mut rails: u32 = 0;
-    if number == 0 {
+    if let Err(refusal) = block_refusal(s, false, c.len(), residuals.len()) {
+        code = refusal.number() as u64;
+    } else {
         let rows = inverse_hunt::live::rows(s, c);
         let columns = inverse_hunt::live::columns(s, rows, c);
-        let place = inverse_hunt::hunt::first_outside(s, columns, rows, c);
-        if place < c.len() {
+        let found = inverse_hunt::hunt::first_outside(s, columns, rows, c);
+        if let Some(place) = found {
             code = place as u64 * 4294967296 + 8;
         } else if !dct2_block::kernels::by_kernels(s, rows, columns, c, residuals) {
             rails = inverse_block::stages::stages(s, rows, columns, c, residuals);
@@ -64,13 +65,12 @@ pub fn inverse(shape: Shape, coefficients: &[i16], residuals: &mut [i32]) -> Ans
 pub fn forward(shape: Shape, residuals: &[i16], coefficients: &mut [i16]) -> Answer
     ensures { ◌≡◌ {A = Outcome} (result, coefficients.new) (forward_outcome shape residuals.now coefficients.old) }
 {
-    let number = block_refusal(shape, false, residuals.len(), coefficients.len());
-    if number != 0 {
-        return refused(number, 0);
+    if let Err(refusal) = block_refusal(shape, false, residuals.len(), coefficients.len()) {
+        return refusal.at(0);
     }
-    let place = forward_hunt::hunt::first_too_large(shape, residuals);
-    if place < residuals.len() {
-        return refused(9, place as u32);
+    let found = forward_hunt::hunt::first_too_large(shape, residuals);
+    if let Some(place) = found {
+        return Refusal::TooLarge.at(place as u32);
     }
     forward_block::stages::stages(shape, residuals, coefficients);
     accepted(0)

@@ -13,13 +13,21 @@ mod numbers;
 mod print;
 mod worst;
 
+use call::Direction;
+use std::io;
+
+fn all(out: &impl Print) -> io::Result<()> {
+    few::items(out)?;
+    few::refusals(out, Direction::Inverse)?;
+    few::outside(out)?;
+    few::refusals(out, Direction::Forward)?;
+    few::too_large(out)?;
+    worst::inverse(out)?;
+    worst::forward(out)?;
+    by_value::all(out)
+}
+
+// What cannot be written is left out.
 fn main(rt: HostRuntime) {
-    few::items(&rt);
-    few::refusals(&rt, false);
-    few::outside(&rt);
-    few::refusals(&rt, true);
-    few::too_large(&rt);
-    worst::inverse(&rt);
-    worst::forward(&rt);
-    by_value::all(&rt);
+    let _ = all(&rt);
 }

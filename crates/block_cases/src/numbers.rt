@@ -1,29 +1,15 @@
 // What stands in a block, and what an output holds before a call. Every buffer has room for the largest block.
-ghost use Rattle.std.specs.Prelude.{◌≡◌, length};
+ghost use Rattle.std.specs.Prelude.{◌≤◌};
 
-fn zeros() -> [i16; 1024]
-    ensures { 1024 ≡ length result }
-{
-    [0; 1024]
-}
-
-fn wide_zeros() -> [i32; 1024]
-    ensures { 1024 ≡ length result }
-{
-    [0; 1024]
-}
+use std::array;
 
 // A number at one place, then a number at another, and zeros.
 pub fn only(place: usize, number: i16, next: usize, other: i16) -> [i16; 1024] {
-    let mut a = zeros();
-    if 1024 <= place {
-        return a;
+    let mut a = [0; 1024];
+    if place < 1024 && next < 1024 {
+        a[place] = number;
+        a[next] = other;
     }
-    if 1024 <= next {
-        return a;
-    }
-    a[place] = number;
-    a[next] = other;
     a
 }
 
@@ -34,23 +20,14 @@ fn by_turns(k: usize, w: usize, columns: usize, rows: usize, even: i16, odd: i16
     }
     let x = k % w;
     let y = k / w;
-    if columns <= x {
-        return 0;
-    }
-    if rows <= y {
+    if columns <= x || rows <= y {
         return 0;
     }
     if x % 2 == y % 2 { even } else { odd }
 }
 
 pub fn filled(w: u32, columns: usize, rows: usize, even: i16, odd: i16) -> [i16; 1024] {
-    let mut a = zeros();
-    let mut k: usize = 0;
-    while k < 1024 {
-        a[k] = by_turns(k, w as usize, columns, rows, even, odd);
-        k += 1;
-    }
-    a
+    array::from_fn(|k| by_turns(k, w as usize, columns, rows, even, odd))
 }
 
 // What place k of an output holds before a call.
@@ -62,16 +39,12 @@ pub fn marks() -> [i16; 1024] {
     filled(1024, 1024, 1024, 1234, -4321)
 }
 
-pub fn wide(v: i16) -> i32 {
-    v as i32
-}
-
-pub fn widened(from: [i16; 1024]) -> [i32; 1024] {
-    let mut to = wide_zeros();
-    let mut k: usize = 0;
-    while k < 1024 {
-        to[k] = wide(from[k]);
-        k += 1;
+pub fn widened<const N: usize>(from: [i16; N]) -> [i32; N]
+    requires { N ≤ 1024 }
+{
+    let mut to = [0; N];
+    for (wide, narrow) in to.iter_mut().zip(&from) {
+        *wide = i32::from(*narrow);
     }
     to
 }

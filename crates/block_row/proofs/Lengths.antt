@@ -7,7 +7,7 @@ use native.Mathlib.Nat.{mul_comm}
 use native.Mathlib.Decide.{ℕ_discrete}
 use lib.IntN.{ℤ}
 use lib.ListN.{length}
-use Rattle.algebra.specs.Refusals.{Refusal}
+use Rattle.algebra.specs.Refusals.{Test}
 use Rattle.algebra.proofs.Lists.{block-length}
 use Rattle.meaning.specs.declared.Shape.{Shape}
 use Rattle.meaning.specs.Answer.{Outcome, outcome, refused, accepted}
@@ -15,7 +15,7 @@ use Rattle.meaning.specs.Plan.{plan_of}
 use Rattle.meaning.specs.Inverse.{rails, residual, inverse_block, inverse_tests, inverse_outcome}
 use Rattle.meaning.proofs.AcceptedCalls.{inverse-accepted, inverse-done}
 
-untouched : (ts : List Refusal) (out : List ℤ) (done : Outcome) → done.0.number ≡ 0 → ((outcome ts out done).0.number ≡ 0 → ⊥) → (outcome ts out done).1 ≡ out
+untouched : (ts : List Test) (out : List ℤ) (done : Outcome) → done.0.number ≡ 0 → ((outcome ts out done).0.number ≡ 0 → ⊥) → (outcome ts out done).1 ≡ out
 untouched [] out done z n = absurd (n z)
 untouched (t ∷ ts) out done z n = here t.applies (untouched ts out done z) n
   where

@@ -1,6 +1,6 @@
 -- Document 02, Wish 5: "A row of blocks in one call".
 use Rattle.std.specs.Prelude.{cond, ◌&&◌, List, [], ◌∷◌, ◌++◌, ℕ, ◌+◌, ◌*◌, ltb, ℤ, length, take, drop}
-use Rattle.algebra.specs.Refusals.{Refusal, first_of}
+use Rattle.algebra.specs.Refusals.{Test, first_of}
 use Rattle.meaning.specs.declared.Shape.{Shape}
 use Rattle.meaning.specs.declared.Answer.{Answer}
 use Rattle.meaning.specs.Shape.{is_size}
@@ -36,7 +36,7 @@ row_answers shapes answers c out = let made = blocks shapes c out in (put_all ma
 
 -- "Refusals, for the whole call and in this order, .. : 16 above 64 blocks; 6, then 7, where the buffers differ from the sum of
 -- w*h over the list"
-abbrev pub row_tests : List Shape → ℕ → ℕ → List Refusal
+abbrev pub row_tests : List Shape → ℕ → ℕ → List Test
 row_tests shapes input output = test (ltb 64 (length shapes)) 16 ∷ length_tests (spans shapes) input output
 
 -- the number of the whole call, the numbers of the answers, and what the output holds

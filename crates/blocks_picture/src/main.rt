@@ -5,9 +5,9 @@
 
 ghost use Rattle.std.specs.Prelude.{◌≡◌, length};
 
-use file_input::{ending, file_buffer, read_input, say_refusal, word, word_buffer};
-use plain_text::{NO_NUMBER, number_of};
-use std::rt::Files;
+use file_input::ending::{Failure, tell, written};
+use file_input::{file_buffer, read_input, say_refusal, word, word_buffer};
+use plain_text::number_of;
 
 // As long as the largest picture.
 fn picture_buffer() -> [u8; 2063]
@@ -16,43 +16,32 @@ fn picture_buffer() -> [u8; 2063]
     [0; 2063]
 }
 
-fn show(rt: &(impl Files + Print), err: &impl Print, file: &[u8], n: usize) {
+fn show(out: &impl Print, err: &impl Print, file: &[u8], n: usize) -> Result<(), Failure> {
     let mut picture = picture_buffer();
     let view = file_picture::shown::shown(file, n, &mut picture);
-    let number = view.number;
-    let bytes = view.bytes as usize;
-    if number != 0 {
-        ending::refused(rt, say_refusal(err, number, view.offset));
-        return;
+    if view.number != 0 {
+        return Err(Failure::refused(say_refusal(err, view.number, view.offset)));
     }
-    if bytes == 0 {
-        ending::failed(rt, b"there is no such block");
-        return;
+    match picture.get(..view.bytes as usize) {
+        None | Some([]) => Err(Failure::Because("there is no such block")),
+        Some(drawn) => written(out.write_all(drawn)),
     }
-    if bytes > 2063 {
-        return;
-    }
-    ending::ran(rt, rt.write_all(&picture[..bytes]).is_ok());
 }
 
-fn ask(rt: &(impl Files + Print), err: &impl Print, file: &[u8], word: &[u8]) {
-    let n = number_of(word);
-    if n == NO_NUMBER {
-        ending::failed(rt, b"the block is no number");
-        return;
+fn answer(rt: &HostRuntime) -> Result<(), Failure> {
+    let mut space = word_buffer();
+    let block = word(rt, 1, &mut space);
+    let mut file = file_buffer();
+    let read = read_input(&mut rt.stdin(), &mut file);
+    if read.failed {
+        return Err(Failure::Unread(0));
     }
-    show(rt, err, file, n);
+    match number_of(block) {
+        Some(n) => show(rt, &rt.stderr(), &file[..read.count], n),
+        None => Err(Failure::Because("the block is no number")),
+    }
 }
 
 fn main(rt: HostRuntime) {
-    let mut text = word_buffer();
-    let n = word(&rt, 1, &mut text);
-    let mut file = file_buffer();
-    let read = read_input(&mut rt.stdin(), &mut file);
-    let count = read.count;
-    if read.failed {
-        ending::unread(&rt, 0);
-        return;
-    }
-    ask(&rt, &rt.stderr(), &file[..count], &text[..n]);
+    tell(&rt, answer(&rt));
 }

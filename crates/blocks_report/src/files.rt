@@ -1,30 +1,29 @@
 // The files, one after the other.
-ghost use Rattle.std.specs.Prelude.{◌≡◌, ◌+◌, length};
+ghost use Rattle.std.specs.Prelude.{◌≡◌, length};
 
 use file_fields::cursor::Cursor;
-use file_input::{
-    descriptor, ending, file_buffer, read_input, say, say_refused, word, word_buffer,
-};
+use file_input::ending::Failure;
+use file_input::{descriptor, file_buffer, read_input, say_refused, word, word_buffer};
 use file_numbers::bytes::read_numbers;
-use meaning::Shape;
+use meaning::{Refusal, Shape};
 use std::env::Env;
 use std::fs::File;
 use std::io;
 use std::io::{ErrorKind, Read};
 use std::rt::Files;
 
-// How a file ended: at its end, by a refusal, or so that no file comes after it; the ending is then told.
-pub const ENDED: u32 = 0;
+/// How a file was read: to its end, or to a refusal, which was said.
+#[derive(Clone, Copy, PartialEq, Eq)]
+pub enum End {
+    Whole,
+    Refused,
+}
 
-pub const REFUSED: u32 = 1;
-
-pub const STOPPED: u32 = 2;
-
-// Where the reading of a file stopped: the number of the refusal or 0, and the offset of the field.
+// Where a refusal ended the reading of a file: its number, and the offset of the field.
 #[derive(Clone, Copy)]
-pub struct Stop {
-    pub number: u32,
-    pub offset: usize,
+struct Stop {
+    number: u32,
+    offset: usize,
 }
 
 fn residual_buffer() -> [i16; 1024]
@@ -33,187 +32,135 @@ fn residual_buffer() -> [i16; 1024]
     [0; 1024]
 }
 
-// Reads the numbers of a body, adds the block, and returns its number.
-fn add_numbers(totals: &mut [u64; 578], shape: Shape, body: &[u8], residuals: &mut [i16]) -> u32
-    requires { length body.now ≡ length residuals.old + length residuals.old }
-{
-    read_numbers(body, residuals);
-    let answer = report::totals::add(totals, shape, residuals);
-    answer.number
-}
-
-// Adds the block of a tag 03 field, whose body is that of a block.
+// Adds the block of a tag 03 field, and gives the number of its refusal or 0.
 fn add_block(totals: &mut [u64; 578], shape: Shape, body: &[u8]) -> u32 {
     let n = body.len() / 2;
-    if n > 1024 {
-        return 0;
-    }
-    if body.len() != n + n {
+    // The body is that of a block.
+    if n > 1024 || body.len() != n + n {
         return 0;
     }
     let mut residuals = residual_buffer();
-    add_numbers(totals, shape, body, &mut residuals[0..n])
+    let residuals = &mut residuals[..n];
+    read_numbers(body, residuals);
+    report::totals::add(totals, shape, residuals).number
 }
 
 // Adds the blocks of a file, up to the first field that is refused, or to the block that is one too many. A file has fewer than
 // 65,537 fields.
-fn add_file(totals: &mut [u64; 578], file: &[u8]) -> Stop {
+fn add_file(totals: &mut [u64; 578], file: &[u8]) -> Result<(), Stop> {
+    let full = Refusal::TotalsFull.number();
     let mut cursor = Cursor::new();
-    let mut left: usize = 65537;
-    while left > 0 {
+    for _field in 0..65537 {
         let advance = cursor.advance(file);
         let number = advance.number;
-        let tag = advance.tag;
         let offset = cursor.at;
-        let shape = cursor.shape;
         if number != 0 {
-            return Stop { number, offset };
+            return Err(Stop { number, offset });
         }
-        if tag == 0 {
-            return Stop { number: 0, offset };
-        }
-        if tag == 3 {
-            if add_block(totals, shape, cursor.body(file)) == 22 {
-                return Stop { number: 22, offset };
+        match advance.tag {
+            0 => return Ok(()),
+            3 => {
+                if add_block(totals, cursor.shape, cursor.body(file)) == full {
+                    return Err(Stop {
+                        number: full,
+                        offset,
+                    });
+                }
             }
+            _ => (),
         }
         cursor = advance.next;
-        left -= 1;
     }
-    Stop {
-        number: 0,
-        offset: 0,
-    }
+    Ok(())
 }
 
-fn say_stop(err: &impl Print, number: u32, offset: usize, path: &[u8]) -> bool {
-    if !say_refused(err, number, offset) {
-        return false;
-    }
-    if !say(err, b" ") {
-        return false;
-    }
-    if !say(err, path) {
-        return false;
-    }
-    say(err, b"\n")
-}
-
-// Says which refusal ended a file, where the line about progress was.
-fn refuse(
-    rt: &impl Files,
-    err: &impl Print,
-    number: u32,
-    offset: usize,
-    path: &[u8],
-    progress: bool,
-) -> u32 {
-    clear(rt, progress);
-    if say_stop(err, number, offset, path) {
-        return REFUSED;
-    }
-    ending::unsaid(rt);
-    STOPPED
-}
-
-// What a reader gives, which word i names.
-fn take_input(
-    rt: &impl Files,
-    input: &mut impl Read,
-    err: &impl Print,
-    totals: &mut [u64; 578],
-    i: usize,
-    path: &[u8],
-    progress: bool,
-) -> u32 {
-    let mut file = file_buffer();
-    let read = read_input(input, &mut file);
-    let count = read.count;
-    if read.failed {
-        ending::unread(rt, i);
-        return STOPPED;
-    }
-    let stop = add_file(totals, &file[..count]);
-    let number = stop.number;
-    if number != 0 {
-        return refuse(rt, err, number, stop.offset, path, progress);
-    }
-    ENDED
-}
-
-fn is_standard_input(path: &[u8]) -> bool {
-    if path.len() != 1 {
-        return false;
-    }
-    path[0] == b'-'
+fn say_stop(err: &impl Print, stop: Stop, path: &[u8]) -> io::Result<()> {
+    say_refused(err, stop.number, stop.offset)?;
+    err.print(" ")?;
+    err.write_all(path)?;
+    err.println("")
 }
 
 // Opens the file that word i names.
 fn open<R: Files>(rt: &R, path: &[u8], i: usize, lent: bool) -> io::Result<R::File> {
     match std::str::from_utf8(path) {
         Ok(name) => File::open(rt, name),
-        Err(_) => {
-            if lent {
-                return descriptor::open(rt, i.saturating_add(10));
-            }
-            Err(io::Error::from(ErrorKind::InvalidFilename))
-        }
-    }
-}
-
-// Takes the file that word i names, - being standard input.
-pub fn take<R: Env + Files>(
-    rt: &R,
-    input: &mut impl Read,
-    err: &impl Print,
-    totals: &mut [u64; 578],
-    i: usize,
-    lent: bool,
-    progress: bool,
-) -> u32 {
-    let mut space = word_buffer();
-    let n = word(rt, i, &mut space);
-    let path = &space[..n];
-    if is_standard_input(path) {
-        return take_input(rt, input, err, totals, i, path, progress);
-    }
-    match open(rt, path, i, lent) {
-        Ok(mut file) => take_input(rt, &mut file, err, totals, i, path, progress),
-        Err(_) => {
-            ending::unread(rt, i);
-            STOPPED
-        }
+        Err(_) if lent => descriptor::open(rt, i.saturating_add(10)),
+        Err(_) => Err(io::Error::from(ErrorKind::InvalidFilename)),
     }
 }
 
 const PROGRESS: &str = "/proc/self/fd/4";
 
-fn show(rt: &impl Files, words: &[u8]) {
-    descriptor::write(rt, PROGRESS, words);
+/// A run of the program: what it reads by, where it says what was refused, and the totals so far.
+#[derive(Drop)]
+pub struct Reading<'a, R, E> {
+    pub rt: &'a R,
+    pub err: &'a E,
+    pub totals: [u64; 578],
+    /// Whether how many files are done is to be written.
+    pub progress: bool,
+    /// Whether files without a name in text are open.
+    pub lent: bool,
 }
 
-fn show_number(rt: &impl Files, n: usize) {
-    let mut digits = itoa::Buffer::new();
-    show(rt, digits.format(n).as_bytes());
-}
-
-// Takes away the line about progress.
-pub fn clear(rt: &impl Files, progress: bool) {
-    if progress {
-        show(rt, b"\r\x1b[K");
+impl<R: Env + Files, E: Print> Reading<'_, R, E> {
+    // What a reader gives, which word i names.
+    fn take_input(&mut self, input: &mut impl Read, i: usize, path: &[u8]) -> Result<End, Failure> {
+        let mut file = file_buffer();
+        let read = read_input(input, &mut file);
+        if read.failed {
+            return Err(Failure::Unread(i));
+        }
+        let Err(stop) = add_file(&mut self.totals, &file[..read.count]) else {
+            return Ok(End::Whole);
+        };
+        // Where the line about progress was.
+        self.clear();
+        match say_stop(self.err, stop, path) {
+            Ok(()) => Ok(End::Refused),
+            Err(_) => Err(Failure::Unsaid),
+        }
     }
-}
 
-// How many files are done, of those before the last word; nothing stays of it in the end.
-pub fn tell(rt: &impl Files, done: usize, last: usize) {
-    clear(rt, true);
-    if done < last {
-        let all = last - 1;
-        if done < all {
-            show_number(rt, done);
-            show(rt, b" of ");
-            show_number(rt, all);
-            show(rt, b" files");
+    // Takes the file that word i names, - being standard input.
+    fn take(&mut self, input: &mut impl Read, i: usize) -> Result<End, Failure> {
+        let mut space = word_buffer();
+        let path = word(self.rt, i, &mut space);
+        if path == b"-".as_slice() {
+            return self.take_input(input, i, path);
+        }
+        match open(self.rt, path, i, self.lent) {
+            Ok(mut file) => self.take_input(&mut file, i, path),
+            Err(_) => Err(Failure::Unread(i)),
+        }
+    }
+
+    /// All files, up to one that cannot be read; whether a refusal ended one of them.
+    pub fn take_all(&mut self, input: &mut impl Read, last: usize) -> Result<End, Failure> {
+        let mut end = End::Whole;
+        for i in 1..last {
+            if self.take(input, i)? == End::Refused {
+                end = End::Refused;
+            }
+            self.tell(i, last);
+        }
+        Ok(end)
+    }
+
+    /// Takes away the line about progress.
+    pub fn clear(&self) {
+        if self.progress {
+            descriptor::write(self.rt, PROGRESS, "\r\x1b[K");
+        }
+    }
+
+    // How many files are done, of those before the last word; nothing stays of it in the end.
+    fn tell(&self, done: usize, last: usize) {
+        self.clear();
+        let all = last.saturating_sub(1);
+        if self.progress && done < all {
+            descriptor::write(self.rt, PROGRESS, format_args!("{done} of {all} files"));
         }
     }
 }

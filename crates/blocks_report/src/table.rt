@@ -1,48 +1,60 @@
 // The table: a line for each width, height and pair of kinds of which there was a block, then the refused.
 ghost use Rattle.std.specs.Prelude.{◌<◌, ◌≤◌};
 
-use plain_text::{put, put_natural, put_spaces, put_word};
+use std::fmt;
+use std::fmt::{Display, Formatter, Write};
 
-// A number, right-aligned.
-fn put_number(n: u64, width: usize, text: &mut [u8], at: usize) -> usize {
-    let mut buffer = itoa::Buffer::new();
-    let digits = buffer.format(n).as_bytes();
-    let start = put_spaces(width, digits.len(), text, at);
-    put_word(digits, text, start)
+/// The text of totals.
+#[derive(Clone, Copy)]
+pub struct Report(pub [u64; 578]);
+
+impl Display for Report {
+    fn fmt<W: Write>(&self, f: &mut Formatter<W>) -> fmt::Result {
+        let totals = &self.0;
+        f.write_str(
+            "width  height  horizontal  vertical  blocks     rails  largest      mean square\n",
+        )?;
+        write_rows(f, &totals[..576])?;
+        writeln!(f, "{} of {} blocks refused", totals[576], totals[577])
+    }
+}
+
+// Of a width, a height and a pair of kinds: blocks, rails, largest and squares. Nothing where there was no block.
+fn write_rows<W: Write>(f: &mut Formatter<W>, totals: &[u64]) -> fmt::Result {
+    let (rows, _) = totals.as_chunks::<4>();
+    for (class, row) in rows.iter().enumerate() {
+        if row[0] != 0 {
+            write_row(f, class, *row)?;
+        }
+    }
+    Ok(())
+}
+
+fn write_row<W: Write>(
+    f: &mut Formatter<W>,
+    class: usize,
+    [blocks, rails, largest, squares]: [u64; 4],
+) -> fmt::Result {
+    let width = points(class / 36);
+    let height = points(class / 9 % 4);
+    let horizontal = class / 3 % 3;
+    let vertical = class % 3;
+    write!(f, "{width:>5}{height:>8}{horizontal:>12}{vertical:>10}")?;
+    write!(f, "{blocks:>8}{rails:>10}{largest:>9}")?;
+    write_mean(f, squares, residuals(blocks, width, height))?;
+    f.write_str("\n")
 }
 
 // 0 to 3 are 4, 8, 16 and 32.
 fn points(k: usize) -> u64
     ensures { result ≤ 32 }
 {
-    if k == 0 {
-        return 4;
+    match k {
+        0 => 4,
+        1 => 8,
+        2 => 16,
+        _ => 32,
     }
-    if k == 1 {
-        return 8;
-    }
-    if k == 2 {
-        return 16;
-    }
-    32
-}
-
-// A sum over a count to three places, the nearest, halves up: 20 characters at most before the point.
-fn put_mean(sum: u64, count: u64, text: &mut [u8], at: usize) -> usize {
-    if count == 0 {
-        return at;
-    }
-    let rest = sum % count;
-    if rest > 67108864 {
-        return at;
-    }
-    let part = (rest * 1000 + count / 2) / count;
-    let whole = std::num::wrapping_add_u64(sum / count, part / 1000);
-    let point = put_number(whole, 13, text, at);
-    let mut p = put(b'.', text, point);
-    p = put_natural(part / 100 % 10, text, p);
-    p = put_natural(part / 10 % 10, text, p);
-    put_natural(part % 10, text, p)
 }
 
 // How many residuals there are in blocks of one size.
@@ -56,79 +68,15 @@ fn residuals(blocks: u64, width: u64, height: u64) -> u64
     blocks * (width * height)
 }
 
-fn put_class(class: usize, text: &mut [u8], at: usize) -> usize {
-    let width = put_number(points(class / 36), 5, text, at);
-    let height = put_number(points(class / 9 % 4), 8, text, width);
-    let horizontal = put_number((class / 3 % 3) as u64, 12, text, height);
-    put_number((class % 3) as u64, 10, text, horizontal)
-}
-
-fn put_row(
-    class: usize,
-    blocks: u64,
-    rails: u64,
-    largest: u64,
-    squares: u64,
-    text: &mut [u8],
-    at: usize,
-) -> usize {
-    let count = residuals(blocks, points(class / 36), points(class / 9 % 4));
-    let first = put_class(class, text, at);
-    let second = put_number(blocks, 8, text, first);
-    let third = put_number(rails, 10, text, second);
-    let fourth = put_number(largest, 9, text, third);
-    let last = put_mean(squares, count, text, fourth);
-    put(b'\n', text, last)
-}
-
-// Nothing where there was no block.
-fn put_line(
-    class: usize,
-    blocks: u64,
-    rails: u64,
-    largest: u64,
-    squares: u64,
-    text: &mut [u8],
-    at: usize,
-) -> usize {
-    if blocks == 0 {
-        return at;
+// A sum over a count to three places, the nearest, halves up: 20 characters at most before the point.
+fn write_mean<W: Write>(f: &mut Formatter<W>, sum: u64, count: u64) -> fmt::Result
+    requires { count ≤ 67108864 }
+{
+    if count == 0 {
+        return Ok(());
     }
-    put_row(class, blocks, rails, largest, squares, text, at)
-}
-
-fn put_lines(totals: [u64; 578], text: &mut [u8], at: usize) -> usize {
-    let mut p = at;
-    let mut class = 0;
-    while class < 144 {
-        let i = class * 4;
-        p = put_line(
-            class,
-            totals[i],
-            totals[i + 1],
-            totals[i + 2],
-            totals[i + 3],
-            text,
-            p,
-        );
-        class += 1;
-    }
-    p
-}
-
-fn put_refused(refused: u64, given: u64, text: &mut [u8], at: usize) -> usize {
-    let first = put_natural(refused, text, at);
-    let second = put_word(b" of ", text, first);
-    let third = put_natural(given, text, second);
-    put_word(b" blocks refused\n", text, third)
-}
-
-pub fn put_table(totals: [u64; 578], text: &mut [u8]) -> usize {
-    let head = put_word(
-        b"width  height  horizontal  vertical  blocks     rails  largest      mean square\n",
-        text,
-        0,
-    );
-    let lines = put_lines(totals, text, head);
-    put_refused(totals[576], totals[577], text, lines)
+    let part = (sum % count * 1000 + count / 2) / count;
+    let whole = (sum / count).wrapping_add(part / 1000);
+    let part = part % 1000;
+    write!(f, "{whole:>13}.{part:03}")
 }

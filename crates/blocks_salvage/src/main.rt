@@ -4,8 +4,9 @@
 
 ghost use Rattle.std.specs.Prelude.{◌≡◌, length};
 
-use file_input::{ending, file_buffer, read_input, say, say_numbers, say_refusal};
-use std::rt::Files;
+use file_input::ending::{Failure, tell, written};
+use file_input::{file_buffer, read_input, say_refusal};
+use std::io;
 
 // 1,024 places.
 fn list_buffer() -> [u32; 2048]
@@ -14,60 +15,38 @@ fn list_buffer() -> [u32; 2048]
     [0; 2048]
 }
 
-fn say_stretch(err: &impl Print, offset: u32, length: u32) -> bool {
-    if !say_numbers(err, offset as u64, length as u64) {
-        return false;
+// An offset and a length by turns.
+fn say_dropped(err: &impl Print, list: &[u32]) -> io::Result<()> {
+    let (stretches, _) = list.as_chunks::<2>();
+    for [offset, length] in stretches {
+        println!(err; "{offset} {length}")?;
     }
-    say(err, b"\n")
+    Ok(())
 }
 
-fn say_dropped(err: &impl Print, list: &[u32]) -> bool {
-    let mut i = 1;
-    while i < list.len() {
-        if !say_stretch(err, list[i - 1], list[i]) {
-            return false;
-        }
-        i += 2;
-    }
-    true
-}
-
-fn save(rt: &(impl Files + Print), err: &impl Print, file: &[u8]) {
-    let mut out = file_buffer();
+fn save(out: &impl Print, err: &impl Print, file: &[u8]) -> Result<(), Failure> {
+    let mut kept = file_buffer();
     let mut list = list_buffer();
-    let saved = salvage::saving::salvage(file, &mut out, &mut list);
-    let number = saved.number;
-    let bytes = saved.bytes as usize;
-    let numbers = saved.stretches as usize * 2;
-    if number != 0 {
+    let saved = salvage::saving::salvage(file, &mut kept, &mut list);
+    if saved.number != 0 {
         // The offset is that of the file's start: nothing is written, whichever field is the first too many.
-        ending::refused(rt, say_refusal(err, number, 0));
-        return;
+        return Err(Failure::refused(say_refusal(err, saved.number, 0)));
     }
-    if bytes > 65537 {
-        return;
+    let kept = kept.get(..saved.bytes as usize).unwrap_or(&[]);
+    let dropped = list.get(..saved.stretches as usize * 2).unwrap_or(&[]);
+    written(out.write_all(kept))?;
+    say_dropped(err, dropped).map_err(|_| Failure::Unsaid)
+}
+
+fn answer(rt: &HostRuntime) -> Result<(), Failure> {
+    let mut file = file_buffer();
+    let read = read_input(&mut rt.stdin(), &mut file);
+    if read.failed {
+        return Err(Failure::Unread(0));
     }
-    if numbers > 2048 {
-        return;
-    }
-    if rt.write_all(&out[..bytes]).is_err() {
-        ending::unwritten(rt);
-        return;
-    }
-    if !say_dropped(err, &list[..numbers]) {
-        ending::unsaid(rt);
-        return;
-    }
-    ending::ran(rt, true);
+    save(rt, &rt.stderr(), &file[..read.count])
 }
 
 fn main(rt: HostRuntime) {
-    let mut file = file_buffer();
-    let read = read_input(&mut rt.stdin(), &mut file);
-    let count = read.count;
-    if read.failed {
-        ending::unread(&rt, 0);
-        return;
-    }
-    save(&rt, &rt.stderr(), &file[..count]);
+    tell(&rt, answer(&rt));
 }

@@ -5,87 +5,39 @@
 
 mod text;
 
-use file_input::{ending, word, word_buffer, word_count};
-use plain_text::{NO_NUMBER, number_of, print, text_buffer};
-use std::rt::Files;
+use file_input::ending::{Failure, tell, written};
+use file_input::{print_whole, word, word_buffer, word_count};
+use plain_text::number_of;
+use std::io;
 use step_lists::list::list;
+use text::Listing;
 
-// Whether the list was written.
-fn show(out: &impl Print, cells: u32, steps: &[i32], outs: &[i32]) -> bool {
-    let mut text = text_buffer();
-    let end = text::put_list(cells, steps, outs, &mut text);
-    print(out, &text, end)
+// The list of n points; both buffers are as long as its steps and its output cells.
+fn show(out: &impl Print, n: u32, steps: &mut [i32], outs: &mut [i32]) -> io::Result<()> {
+    let cells = list(n, steps, outs).cells;
+    print_whole(out, Listing { cells, steps, outs })
 }
 
-fn show_4(out: &impl Print) -> bool {
-    let mut steps: [i32; 72] = [0; 72];
-    let mut outs: [i32; 4] = [0; 4];
-    let listed = list(4, &mut steps, &mut outs);
-    show(out, listed.cells, &steps, &outs)
+fn show_named(out: &impl Print, word: &[u8]) -> Result<(), Failure> {
+    let Some(n) = number_of(word) else {
+        return Err(Failure::Because("N is no number"));
+    };
+    match n {
+        4 => written(show(out, 4, &mut [0; 72], &mut [0; 4])),
+        16 => written(show(out, 16, &mut [0; 1108], &mut [0; 16])),
+        32 => written(show(out, 32, &mut [0; 5208], &mut [0; 32])),
+        _ => Err(Failure::Because("there are lists of 4, 16 and 32 points alone")),
+    }
 }
 
-fn show_16(out: &impl Print) -> bool {
-    let mut steps: [i32; 1108] = [0; 1108];
-    let mut outs: [i32; 16] = [0; 16];
-    let listed = list(16, &mut steps, &mut outs);
-    show(out, listed.cells, &steps, &outs)
-}
-
-fn show_32(out: &impl Print) -> bool {
-    let mut steps: [i32; 5208] = [0; 5208];
-    let mut outs: [i32; 32] = [0; 32];
-    let listed = list(32, &mut steps, &mut outs);
-    show(out, listed.cells, &steps, &outs)
-}
-
-fn show_list(out: &impl Print, n: usize) -> bool {
-    if n == 4 {
-        return show_4(out);
+fn answer(rt: &HostRuntime) -> Result<(), Failure> {
+    for i in 1..word_count(rt) {
+        let mut space = word_buffer();
+        show_named(rt, word(rt, i, &mut space))?;
     }
-    if n == 16 {
-        return show_16(out);
-    }
-    show_32(out)
-}
-
-fn is_listed(n: usize) -> bool {
-    if n == 4 {
-        return true;
-    }
-    if n == 16 {
-        return true;
-    }
-    n == 32
-}
-
-// Whether the list of so many points was written; where it was not, the ending is told.
-fn print_named(rt: &(impl Files + Print), word: &[u8]) -> bool {
-    let n = number_of(word);
-    if n == NO_NUMBER {
-        ending::failed(rt, b"N is no number");
-        return false;
-    }
-    if !is_listed(n) {
-        ending::failed(rt, b"there are lists of 4, 16 and 32 points alone");
-        return false;
-    }
-    if show_list(rt, n) {
-        return true;
-    }
-    ending::unwritten(rt);
-    false
+    Ok(())
 }
 
 fn main(rt: HostRuntime) {
-    let count = word_count(&rt);
-    let mut i = 1;
-    while i < count {
-        let mut space = word_buffer();
-        let n = word(&rt, i, &mut space);
-        if !print_named(&rt, &space[..n]) {
-            return;
-        }
-        i += 1;
-    }
-    ending::ran(&rt, true);
+    tell(&rt, answer(&rt));
 }

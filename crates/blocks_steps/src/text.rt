@@ -1,144 +1,75 @@
-// The text of a list, put into a buffer at a place. Each function returns the place after what it put.
-ghost use Rattle.std.specs.Prelude.{◌≤◌};
+// The text of a list.
+use std::fmt;
+use std::fmt::{Display, Formatter, Write};
 
-use plain_text::{put, put_natural, put_word};
-
-// The size of a number: `!z` is one less than that of a negative one, and fits where `-z` may not.
-fn size(z: i32) -> u32 {
-    if z < 0 { (!z) as u32 + 1 } else { z as u32 }
+/// A list whose lines have as many inputs as outputs: its steps are four numbers each, the operation, the target and two operands.
+#[derive(Clone, Copy)]
+pub struct Listing<'a> {
+    pub cells: u32,
+    pub steps: &'a [i32],
+    pub outs: &'a [i32],
 }
 
-fn put_integer(z: i32, text: &mut [u8], at: usize) -> usize {
-    if z < 0 {
-        let minus = put(b'-', text, at);
-        return put_natural(size(z) as u64, text, minus);
+impl Display for Listing<'_> {
+    fn fmt<W: Write>(&self, f: &mut Formatter<W>) -> fmt::Result {
+        let (steps, _) = self.steps.as_chunks::<4>();
+        let lines = self.outs.len();
+        write_inputs(f, lines)?;
+        write_steps(f, steps)?;
+        write_outputs(f, self.outs)?;
+        let cells = self.cells;
+        let all = steps.len();
+        write!(
+            f,
+            "{lines} inputs, {lines} outputs, {cells} cells, {all} steps: "
+        )?;
+        write_counts(f, steps)
     }
-    put_natural(size(z) as u64, text, at)
 }
 
-// A letter and a number: a cell, an input or an output.
-fn put_name(letter: u8, k: u64, text: &mut [u8], at: usize) -> usize {
-    let next = put(letter, text, at);
-    put_natural(k, text, next)
-}
-
-fn put_cell(cell: i32, text: &mut [u8], at: usize) -> usize {
-    let next = put(b'c', text, at);
-    put_integer(cell, text, next)
-}
-
-fn put_second(o: i32, d: i32, text: &mut [u8], at: usize) -> usize {
-    if o == 0 {
-        let next = put_word(b" + ", text, at);
-        return put_cell(d, text, next);
+fn write_inputs<W: Write>(f: &mut Formatter<W>, inputs: usize) -> fmt::Result {
+    for k in 0..inputs {
+        writeln!(f, "c{k} = x{k}")?;
     }
-    if o == 1 {
-        let next = put_word(b" - ", text, at);
-        return put_cell(d, text, next);
-    }
-    if o == 2 {
-        return at;
-    }
-    let next = put_word(b" * ", text, at);
-    put_integer(d, text, next)
+    Ok(())
 }
 
-fn put_sign(o: i32, text: &mut [u8], at: usize) -> usize {
-    if o == 2 {
-        return put(b'-', text, at);
+// An addition, a subtraction, a negation or a multiplication by a number.
+fn write_step<W: Write>(f: &mut Formatter<W>, [o, t, a, d]: [i32; 4]) -> fmt::Result {
+    match o {
+        0 => writeln!(f, "c{t} = c{a} + c{d}"),
+        1 => writeln!(f, "c{t} = c{a} - c{d}"),
+        2 => writeln!(f, "c{t} = -c{a}"),
+        _ => writeln!(f, "c{t} = c{a} * {d}"),
     }
-    at
 }
 
-fn put_step(o: i32, t: i32, a: i32, d: i32, text: &mut [u8], at: usize) -> usize {
-    let target = put_cell(t, text, at);
-    let equals = put_word(b" = ", text, target);
-    let sign = put_sign(o, text, equals);
-    let first = put_cell(a, text, sign);
-    let second = put_second(o, d, text, first);
-    put(b'\n', text, second)
+fn write_steps<W: Write>(f: &mut Formatter<W>, steps: &[[i32; 4]]) -> fmt::Result {
+    for step in steps {
+        write_step(f, *step)?;
+    }
+    Ok(())
 }
 
-fn put_steps(steps: &[i32], text: &mut [u8], at: usize) -> usize {
-    let mut p = at;
-    let mut i = 0;
-    while 4 <= steps.len() - i {
-        p = put_step(steps[i], steps[i + 1], steps[i + 2], steps[i + 3], text, p);
-        i += 4;
+fn write_outputs<W: Write>(f: &mut Formatter<W>, outs: &[i32]) -> fmt::Result {
+    for (k, cell) in outs.iter().enumerate() {
+        writeln!(f, "y{k} = c{cell}")?;
     }
-    p
-}
-
-fn put_inputs(inputs: usize, text: &mut [u8], at: usize) -> usize {
-    let mut p = at;
-    let mut k = 0;
-    while k < inputs {
-        p = put_name(b'c', k as u64, text, p);
-        p = put_word(b" = ", text, p);
-        p = put_name(b'x', k as u64, text, p);
-        p = put(b'\n', text, p);
-        k += 1;
-    }
-    p
-}
-
-fn put_outputs(outs: &[i32], text: &mut [u8], at: usize) -> usize {
-    let mut p = at;
-    let mut k = 0;
-    while k < outs.len() {
-        p = put_name(b'y', k as u64, text, p);
-        p = put_word(b" = ", text, p);
-        p = put_cell(outs[k], text, p);
-        p = put(b'\n', text, p);
-        k += 1;
-    }
-    p
-}
-
-fn same(a: i32, b: i32) -> u64
-    ensures { result ≤ 1 }
-{
-    if a == b {
-        return 1;
-    }
-    0
+    Ok(())
 }
 
 // How many steps have an operation.
-fn count(steps: &[i32], o: i32) -> u64 {
-    let mut count: u64 = 0;
-    let mut i = 0;
-    while 4 <= steps.len() - i {
-        count += same(steps[i], o);
-        i += 4;
-    }
-    count
+fn count(steps: &[[i32; 4]], o: i32) -> usize {
+    steps.iter().filter(|step| step[0] == o).count()
 }
 
-fn put_count(n: u64, word: &[u8], text: &mut [u8], at: usize) -> usize {
-    let next = put_natural(n, text, at);
-    put_word(word, text, next)
-}
-
-fn put_sizes(cells: u32, steps: usize, outs: usize, text: &mut [u8], at: usize) -> usize {
-    let inputs = put_count(outs as u64, b" inputs, ", text, at);
-    let outputs = put_count(outs as u64, b" outputs, ", text, inputs);
-    let all = put_count(cells as u64, b" cells, ", text, outputs);
-    put_count((steps / 4) as u64, b" steps: ", text, all)
-}
-
-fn put_counts(steps: &[i32], text: &mut [u8], at: usize) -> usize {
-    let additions = put_count(count(steps, 0), b" additions, ", text, at);
-    let subtractions = put_count(count(steps, 1), b" subtractions, ", text, additions);
-    let negations = put_count(count(steps, 2), b" negations, ", text, subtractions);
-    put_count(count(steps, 3), b" multiplications\n", text, negations)
-}
-
-// A list whose lines have as many inputs as outputs, from the start of the buffer.
-pub fn put_list(cells: u32, steps: &[i32], outs: &[i32], text: &mut [u8]) -> usize {
-    let inputs = put_inputs(outs.len(), text, 0);
-    let lines = put_steps(steps, text, inputs);
-    let outputs = put_outputs(outs, text, lines);
-    let sizes = put_sizes(cells, steps.len(), outs.len(), text, outputs);
-    put_counts(steps, text, sizes)
+fn write_counts<W: Write>(f: &mut Formatter<W>, steps: &[[i32; 4]]) -> fmt::Result {
+    let additions = count(steps, 0);
+    let subtractions = count(steps, 1);
+    let negations = count(steps, 2);
+    let multiplications = count(steps, 3);
+    writeln!(
+        f,
+        "{additions} additions, {subtractions} subtractions, {negations} negations, {multiplications} multiplications"
+    )
 }

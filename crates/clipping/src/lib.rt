@@ -13,28 +13,15 @@ ghost use Rattle.narrowing.specs.Narrow.{Narrowed};
 ghost use Rattle.clipping.specs.Clips.{Clips};
 
 use dct2_block::touched::touched;
-
-fn clip16(v: i32) -> i16
-    ensures { result ≡ clip short_range v }
-{
-    if v < -32768 {
-        return -32768;
-    }
-    if v > 32767 {
-        return 32767;
-    }
-    v as i16
-}
+use kernel_steps::clip16;
 
 // The numbers from o on, as many as `count`. The compiler makes the clip one instruction, for eight at a time.
 fn clip_row(c: &[i32], o: usize, count: usize, room: &mut [i16])
     requires { (o + count ≤ length c.now) × (o + count ≤ length room.old) }
     ensures { WroteFrom o count room.new room.old (λ k. clip short_range (at c.now (o + k))) }
 {
-    let mut k = 0;
-    while k < count {
+    for k in 0..count {
         room[o + k] = clip16(c[o + k]);
-        k += 1;
     }
 }
 
@@ -43,10 +30,8 @@ fn clip_rows(c: &[i32], w: usize, columns: usize, rows: usize, room: &mut [i16])
     requires { (columns ≤ w) × ((rows * w ≤ length c.now) × ((rows * w ≤ length room.old) × ((k : ℕ) → at room.old k ≡ pos 0))) }
     ensures { (length room.new ≡ length room.old) × Clips c.now w columns rows room.new }
 {
-    let mut y = 0;
-    while y < rows {
+    for y in 0..rows {
         clip_row(c, y * w, columns, room);
-        y += 1;
     }
 }
 

@@ -2,19 +2,19 @@
 use mathlib.Core.Path.{◌≡◌, refl, sym, ap, ◌∙◌, subst}
 use mathlib.Core.Bool.{Bool, true, false}
 use mathlib.Core.List.{List}
-use Prim.Native.Nat.{ℕ, ◌+◌, ◌*◌, ◌-◌, ◌/◌, ◌≤◌, ◌<◌, min}
+use Prim.Native.Nat.{ℕ, ◌+◌, ◌*◌, ◌/◌, ◌≤◌, ◌<◌, min}
 use native.Mathlib.Nat.{mul_comm, mul-le-mul_right, zero-mul, one-mul}
 use native.Mathlib.Omega.{arith}
 use borrow.Author.Tests.{ltb-true, ltb-false}
 use lib.Dec.{ltb}
 use lib.ListN.{length}
 use lib.IntN.{ℤ, pos, nat_abs, ◌+ℤ◌, ◌*ℤ◌, +ℤ_idl}
-use Rattle.algebra.specs.Sum.{sum, sumℕ}
+use Rattle.algebra.specs.Sum.{sum}
 use Rattle.algebra.specs.Clip.{clip}
 use Rattle.algebra.specs.Shift.{nearest}
 use Rattle.algebra.specs.Lists.{at, tabulate, block}
 use Rattle.algebra.specs.Equal.{eq_z}
-use Rattle.algebra.proofs.Clip.{clip-inner, clip-same}
+use Rattle.algebra.proofs.Clip.{clip-inner}
 use Rattle.algebra.proofs.Sum.{sum-cong, zero-sum}
 use Rattle.algebra.proofs.Table.{eq→eq_z}
 use Rattle.algebra.proofs.Lists.{block_cong, block-ext, tab-at, tab-length, place_in}
@@ -22,12 +22,11 @@ use Rattle.meaning.specs.declared.Shape.{Shape}
 use Rattle.meaning.specs.Weights.{weight}
 use Rattle.meaning.specs.Line.{inverse_sum}
 use Rattle.meaning.specs.Plan.{Plan, plan_of, short_range}
-use Rattle.meaning.specs.Inverse.{column_sum, rounded, middle, count, railed, rails, residual, inverse_block}
-use Rattle.meaning.proofs.Cases.{size_in}
+use Rattle.meaning.specs.Inverse.{column_sum, rounded, middle, rails, residual, inverse_block}
 use Rattle.meaning.proofs.NoRails.{none-counts}
 use Rattle.layout.specs.Live.{Clear}
 use Rattle.layout.specs.Part.{Part}
-use Rattle.layout.proofs.Alive.{column-is, mid, row_is, rail, rails-are}
+use Rattle.layout.proofs.Alive.{column-is, mid, row_is, rails-are}
 use Rattle.layout.proofs.Zipping.{size-even}
 use Rattle.inverse_stage.specs.Given.{GivenStages}
 use Rattle.inverse_stage.proofs.Work.{plan-given, keeps}

@@ -2,14 +2,13 @@
 use mathlib.Core.Path.{◌≡◌, refl, sym, ap, ◌∙◌, subst}
 use mathlib.Core.Bool.{Bool, true, false, cond}
 use mathlib.Core.List.{List}
-use Prim.Native.Nat.{ℕ, ◌+◌, ◌*◌, ◌-◌, ◌/◌, ◌%◌, ◌≤◌, ◌<◌, min}
+use Prim.Native.Nat.{ℕ, ◌+◌, ◌*◌, ◌/◌, ◌%◌, ◌≤◌, ◌<◌, min}
 use native.Mathlib.Nat.{mul_assoc, mul_comm, mul-le-mul_right}
 use native.Mathlib.Omega.{arith}
 use borrow.Author.Tests.{ltb-true, ltb-false}
 use lib.Dec.{ltb}
 use lib.ListN.{length}
 use lib.IntN.{ℤ, pos, ◌*ℤ◌, *ℤ-zero}
-use Rattle.algebra.specs.Clip.{clip}
 use Rattle.algebra.specs.Lists.{at, block}
 use Rattle.algebra.specs.Shift.{nearest}
 use Rattle.algebra.proofs.Sum.{sum-cong, sum-none, sum-rest}
@@ -20,9 +19,7 @@ use Rattle.meaning.specs.Line.{inverse_sum}
 use Rattle.meaning.specs.Plan.{short_range}
 use Rattle.meaning.specs.Inverse.{middle}
 use Rattle.kernel_levels.specs.Kernels.{turned_place}
-use Rattle.kernel_picks.specs.Picks.{is_kernel}
 use Rattle.dct2_block.specs.Stages.{middle_of, residual_by, place_of, whole_of, Work, InRoom, Asked}
-use Rattle.kernel_picks.proofs.Cases.{some-live}
 use Rattle.dct2_block.proofs.Kernel.{below-8, wide_is}
 use Rattle.dct2_block.proofs.Strips.{in-strip, in-strip-4}
 use Rattle.kernel_picks.proofs.Cases.{few-live}

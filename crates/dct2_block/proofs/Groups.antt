@@ -15,7 +15,6 @@ use Rattle.algebra.proofs.Sum.{sum-cong}
 use Rattle.algebra.proofs.Lists.{block_at, block-length, place_in}
 use Rattle.meaning.specs.Weights.{weight}
 use Rattle.meaning.specs.Line.{inverse_sum}
-use Rattle.product.specs.Product.{shifted}
 use Rattle.kernel_levels.specs.Kernels.{rows_sum}
 use Rattle.dct2_block.specs.Stages.{place_of}
 use Rattle.dct2_block.proofs.Splice.{spliced, before, inside}

@@ -1,5 +1,5 @@
 -- One coefficient, the first, and all others 0.
-use Rattle.std.specs.Prelude.{◌≡◌, List, ℕ, ◌^◌, ◌-◌, ℤ, pos, ◌*ℤ◌}
+use Rattle.std.specs.Prelude.{ℕ, ℤ, pos, ◌*ℤ◌}
 use Rattle.algebra.specs.Shift.{nearest}
 use Rattle.meaning.specs.Inverse.{rounded}
 

@@ -13,16 +13,7 @@ pub fn alone(c: &[i16], w: usize, rows: usize) -> bool
     requires { (1 < w) × ((0 < rows) × (rows * w ≤ length c.now)) }
     ensures { result ≡ true → Clear c.now 1 (rows * w) }
 {
-    if c[1] != 0 {
-        return false;
-    }
-    if any(c, 1, w) {
-        return false;
-    }
-    if any(c, w, rows * w) {
-        return false;
-    }
-    true
+    c[1] == 0 && !any(c, 1, w) && !any(c, w, rows * w)
 }
 
 fn weighed(z: i32) -> i32
@@ -35,10 +26,8 @@ fn weighed(z: i32) -> i32
 fn fill(v: i32, r: &mut [i32])
     ensures { r.new ≡ tabulate (length r.old) (λ _. v) }
 {
-    let mut i = 0;
-    while i < r.len() {
+    for i in 0..r.len() {
         r[i] = v;
-        i += 1;
     }
 }
 

@@ -25,15 +25,12 @@ fn alongs(
     ensures { r.new ≡ block w h (λ j y. shifted half shift (inverse_sum 0 w wide (λ i. at m.now (y / 8 * step + (i / 8 * apart + i % 8 * 8 + y % 8))) j)) }
 {
     let full = 8 * w;
-    let mut y = 0;
-    let mut a = 0;
-    let mut o = 0;
-    while y < h {
+    for group in 0..h / 8 {
+        let a = group * step;
+        let y = 8 * group;
+        let o = y * w;
         let e = o + full;
         along_8(&m[a..], apart, w, wide, many, half, shift, &mut r[o..e]);
-        a += step;
-        o = e;
-        y += 8;
     }
 }
 

@@ -18,12 +18,11 @@ fn downs(
     ensures { Tiles (min h 8) 8 (8 * h) columns h (middle_of h stride rows c.now) m.new }
 {
     let tall = 8 * h;
-    let mut x = 0;
-    while x < columns {
+    for strip in 0..columns / 8 {
+        let x = 8 * strip;
         let o = x * h;
         let e = o + tall;
         down_8(c, stride, x, h, high, rows, &mut m[o..e]);
-        x += 8;
     }
 }
 

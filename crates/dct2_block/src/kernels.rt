@@ -11,13 +11,7 @@ use meaning::Shape;
 fn is_dct2(shape: Shape, elements: usize) -> bool
     ensures { result ≡ true → (shape.horizontal ≡ 0) × (shape.vertical ≡ 0) }
 {
-    if elements <= 16 {
-        return false;
-    }
-    if shape.horizontal != 0 {
-        return false;
-    }
-    shape.vertical == 0
+    16 < elements && shape.horizontal == 0 && shape.vertical == 0
 }
 
 // Whether the block is worked and its rail count is 0. Where it is not, the stages of `inverse_block` have to work it.
@@ -25,8 +19,5 @@ pub fn by_kernels(shape: Shape, rows: usize, columns: usize, c: &[i16], r: &mut 
     requires { GivenStages shape rows columns c.now r.old }
     ensures { result ≡ true → (rails (plan_of shape) c.now ≡ 0) × (r.new ≡ inverse_block (plan_of shape) c.now) }
 {
-    if is_dct2(shape, c.len()) {
-        return worked(shape, rows, columns, c, r);
-    }
-    false
+    is_dct2(shape, c.len()) && worked(shape, rows, columns, c, r)
 }

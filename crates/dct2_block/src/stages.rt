@@ -12,7 +12,7 @@ use product::half;
 pub fn strip_of(w: usize) -> usize
     ensures { result ≡ min w 8 }
 {
-    if w < 8 { w } else { 8 }
+    w.min(8)
 }
 
 // In a room of zeros. Hands back whether a middle value stands at an end of its range. `c[0..]` is c: where a slice is handed on as
@@ -39,7 +39,7 @@ fn both(
     touched(&m[0..e])
 }
 
-fn tiny(
+fn in_room<const ROOM: usize>(
     w: usize,
     h: usize,
     shift: u32,
@@ -51,48 +51,10 @@ fn tiny(
     c: &[i16],
     r: &mut [i32],
 ) -> bool
-    requires { InRoom 64 w h shift rows columns high wide stride c.now r.old }
+    requires { (ROOM ≤ 1024) × InRoom ROOM w h shift rows columns high wide stride c.now r.old }
     ensures { (r.new ≡ block w h (residual_by w h shift stride rows (min wide columns) c.now)) × (result ≡ false → (x y : ℕ) → x < columns → y < h → Inner (middle_of h stride rows c.now x y)) }
 {
-    let mut m = [0i16; 64];
-    both(w, h, shift, rows, columns, high, wide, stride, c, &mut m, r)
-}
-
-fn small(
-    w: usize,
-    h: usize,
-    shift: u32,
-    rows: usize,
-    columns: usize,
-    high: usize,
-    wide: usize,
-    stride: usize,
-    c: &[i16],
-    r: &mut [i32],
-) -> bool
-    requires { InRoom 256 w h shift rows columns high wide stride c.now r.old }
-    ensures { (r.new ≡ block w h (residual_by w h shift stride rows (min wide columns) c.now)) × (result ≡ false → (x y : ℕ) → x < columns → y < h → Inner (middle_of h stride rows c.now x y)) }
-{
-    let mut m = [0i16; 256];
-    both(w, h, shift, rows, columns, high, wide, stride, c, &mut m, r)
-}
-
-fn large(
-    w: usize,
-    h: usize,
-    shift: u32,
-    rows: usize,
-    columns: usize,
-    high: usize,
-    wide: usize,
-    stride: usize,
-    c: &[i16],
-    r: &mut [i32],
-) -> bool
-    requires { InRoom 1024 w h shift rows columns high wide stride c.now r.old }
-    ensures { (r.new ≡ block w h (residual_by w h shift stride rows (min wide columns) c.now)) × (result ≡ false → (x y : ℕ) → x < columns → y < h → Inner (middle_of h stride rows c.now x y)) }
-{
-    let mut m = [0i16; 1024];
+    let mut m = [0i16; ROOM];
     both(w, h, shift, rows, columns, high, wide, stride, c, &mut m, r)
 }
 
@@ -127,10 +89,10 @@ pub fn stages(
     let whole = whole_of(w, columns);
     let size = (wide + 7) / 8 * h;
     if size <= 8 {
-        return tiny(w, h, shift, rows, whole, high, wide, stride, c, r);
+        return in_room::<64>(w, h, shift, rows, whole, high, wide, stride, c, r);
     }
     if size <= 32 {
-        return small(w, h, shift, rows, whole, high, wide, stride, c, r);
+        return in_room::<256>(w, h, shift, rows, whole, high, wide, stride, c, r);
     }
-    large(w, h, shift, rows, whole, high, wide, stride, c, r)
+    in_room::<1024>(w, h, shift, rows, whole, high, wide, stride, c, r)
 }

@@ -7,25 +7,17 @@ ghost use Rattle.dct2_block.specs.Stages.{Inner};
 fn at_end(v: i16) -> bool
     ensures { result ≡ false → Inner v }
 {
-    if v == 32767 {
-        return true;
-    }
-    if v == -32768 {
-        return true;
-    }
-    false
+    v == 32767 || v == -32768
 }
 
 pub fn touched(m: &[i16]) -> bool
     ensures { result ≡ false → (k : ℕ) → k < length m.now → Inner (at m.now k) }
 {
     let mut found = false;
-    let mut i = 0;
-    while i < m.len() {
+    for i in 0..m.len() {
         if at_end(m[i]) {
             found = true;
         }
-        i += 1;
     }
     found
 }

@@ -1,17 +1,16 @@
 -- The two stages of 4 by 4: what the first leaves is the middle values, turned, and the second makes residuals of them. Assumes nothing.
 use native.Mathlib.Omega.{arith}
-use mathlib.Core.Path.{◌≡◌, refl, sym, ap, ◌∙◌}
+use mathlib.Core.Path.{◌≡◌, sym, ap, ◌∙◌}
 use mathlib.Core.List.{List}
-use Prim.Native.Nat.{ℕ, ◌+◌, ◌*◌, ◌-◌, ◌^◌, ◌/◌, ◌%◌, ◌≤◌, ◌<◌}
+use Prim.Native.Nat.{ℕ, ◌+◌, ◌*◌, ◌-◌, ◌^◌, ◌/◌, ◌%◌, ◌<◌}
 use native.Mathlib.Nat.{zero-add}
 use lib.ListN.{length}
-use lib.IntN.{ℤ, pos, negsuc, ◌+ℤ◌, ◌*ℤ◌, +ℤ_idr}
-use lib.Signed.{shr_z}
+use lib.IntN.{ℤ, pos, negsuc, ◌+ℤ◌, ◌*ℤ◌}
 use Rattle.algebra.specs.Clip.{clip}
 use Rattle.algebra.specs.Lists.{at, block}
 use Rattle.algebra.specs.Shift.{◌>>◌, nearest}
 use Rattle.algebra.proofs.Sum.{sum-cong}
-use Rattle.algebra.proofs.Lists.{block-ext, block_cong, block_at, place_in, row_of, column-of}
+use Rattle.algebra.proofs.Lists.{block-ext, block_cong, block_at}
 use Rattle.meaning.specs.Weights.{weight}
 use Rattle.meaning.specs.Line.{inverse_sum}
 use Rattle.meaning.specs.Plan.{short_range}
@@ -20,7 +19,7 @@ use Rattle.product.specs.Product.{shifted}
 use Rattle.kernel_steps.specs.Written.{WroteFrom, floor}
 use Rattle.kernel_levels.specs.Kernels.{rows_sum}
 use Rattle.kernel_levels.proofs.Across.{tiled}
-use Rattle.dct2_block.specs.Stages.{middle_of, residual_by, Inner}
+use Rattle.dct2_block.specs.Stages.{middle_of, residual_by}
 
 -- rows of 4, one after another
 pub rows-done : (f : ℕ → ℕ → ℤ) {r r₀ : List ℤ} → length r₀ ≡ 16 → WroteFrom 0 16 r r₀ (tiled 4 f 0) → r ≡ block 4 4 f

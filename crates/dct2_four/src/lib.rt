@@ -23,8 +23,7 @@ fn stage(x: &[i16], many: usize, half: i32, shift: u32, out: &mut [i32; 16])
     requires { Rowed 4 4 0 half shift x.now × ((length out.old ≡ 16) × (many ≡ 4)) }
     ensures { out.new ≡ block 4 4 (λ j l. shifted half shift (rows_sum 4 4 4 0 x.now j l)) }
 {
-    let mut l = 0;
-    while l < many {
+    for l in 0..many {
         let mut a = [0i16; 4];
         let i0 = l;
         take(&x[i0..], 4, 0, 4, &mut a);
@@ -42,7 +41,6 @@ fn stage(x: &[i16], many: usize, half: i32, shift: u32, out: &mut [i32; 16])
         some(1, 4, &z4, &w4, 0, 2, &mut o4);
         butterfly(&e2, &o4, 2, 0, 2, &mut y);
         round(&y, 0, 4, half, shift, 4 * l, out);
-        l += 1;
     }
 }
 
@@ -50,10 +48,8 @@ fn copied(e: &[i32; 16], r: &mut [i32])
     requires { (length e.now ≡ 16) × (length r.old ≡ 16) }
     ensures { r.new ≡ e.now }
 {
-    let mut k = 0;
-    while k < 16 {
+    for k in 0..16 {
         r[k] = e[k];
-        k += 1;
     }
 }
 

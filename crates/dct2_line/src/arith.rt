@@ -1,19 +1,6 @@
 // Sums in 32 bits.
 ghost use Rattle.std.specs.Prelude.{◌≡◌, ◌≤◌, ◌+ℤ◌, ◌-ℤ◌, ◌*ℤ◌, nat_abs};
 
-pub fn wide(v: i16) -> i32
-    ensures { result ≡ v }
-{
-    v as i32
-}
-
-pub fn plus(a: i32, b: i32) -> i32
-    requires { (nat_abs a ≤ 1000000000) × (nat_abs b ≤ 1000000000) }
-    ensures { result ≡ a +ℤ b }
-{
-    a + b
-}
-
 pub fn minus(a: i32, b: i32) -> i32
     requires { (nat_abs a ≤ 1000000000) × (nat_abs b ≤ 1000000000) }
     ensures { result ≡ a -ℤ b }

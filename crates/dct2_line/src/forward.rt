@@ -8,18 +8,17 @@ ghost use Rattle.meaning.specs.Taken.{TakenLine, NoneAbove};
 ghost use Rattle.halves.specs.Halves.{Halves, odd, end_sums, end_differences};
 ghost use Rattle.dct2_line.specs.Lines.{Half, Row, SmallLine};
 
-use crate::arith::{both, minus, plus, times, wide};
+use crate::arith::{both, minus, times};
 use crate::table::{odd_8, odd_16, odd_32};
+use product::plus;
 
 // The inputs in 32 bits; each was one of 16.
 fn widen(x: &[i16], a: &mut [i32])
     requires { length x.now ≡ length a.old }
     ensures { (a.new ≡ tabulate (length a.old) (at x.now)) × NoneAbove 32768 x.now }
 {
-    let mut i = 0;
-    while i < a.len() {
-        a[i] = wide(x[i]);
-        i += 1;
+    for i in 0..a.len() {
+        a[i] = i32::from(x[i]);
     }
 }
 
@@ -28,11 +27,9 @@ fn row(t: &[i16], o: usize, h: usize, v: &[i32]) -> i32
     requires { Row h o t.now × SmallLine h v.now }
     ensures { result ≡ sum h (λ j. at t.now (2 * j + o) *ℤ at v.now j) }
 {
-    let mut total: i32 = 0;
-    let mut j = 0;
-    while j < h {
+    let mut total = 0;
+    for j in 0..h {
         total = times(total, t[2 * j + o], v[j]);
-        j += 1;
     }
     total
 }
@@ -42,11 +39,9 @@ fn fold(x: &[i32], h: usize, s: &mut [i32], d: &mut [i32])
     requires { SmallLine (h + h) x.now × ((length s.old ≡ h) × (length d.old ≡ h)) }
     ensures { (s.new ≡ tabulate h (end_sums (h + h) (at x.now))) × (d.new ≡ tabulate h (end_differences (h + h) (at x.now))) }
 {
-    let mut j = 0;
-    while j < h {
+    for j in 0..h {
         s[j] = plus(x[j], x[h + h - 1 - j]);
         d[j] = minus(x[j], x[h + h - 1 - j]);
-        j += 1;
     }
 }
 
@@ -55,11 +50,9 @@ fn weave(t: &[i16], h: usize, x: &[i32], e: &[i32], d: &[i32], out: &mut [i32])
     requires { (Half (odd (h + h)) h t.now × Halves (h + h) h) × (SmallLine h d.now × ((e.now ≡ tabulate h (forward_sum 0 h (end_sums (h + h) (at x.now)))) × ((d.now ≡ tabulate h (end_differences (h + h) (at x.now))) × (length out.old ≡ h + h)))) }
     ensures { out.new ≡ tabulate (h + h) (forward_sum 0 (h + h) (at x.now)) }
 {
-    let mut i = 0;
-    while i < h {
+    for i in 0..h {
         out[2 * i] = e[i];
         out[2 * i + 1] = row(t, i / 2 * (2 * h) + i % 2, h, d);
-        i += 1;
     }
 }
 
@@ -122,21 +115,26 @@ pub fn forward(n: usize, x: &[i16], y: &mut [i32])
     requires { TakenLine n 0 (length x.now) (length y.old) }
     ensures { y.new ≡ forward_line 0 n (at x.now) }
 {
-    if n == 4 {
-        let mut a = [0i32; 4];
-        widen(x, &mut a);
-        forward_4(&a, y);
-    } else if n == 8 {
-        let mut a = [0i32; 8];
-        widen(x, &mut a);
-        forward_8(&a, y);
-    } else if n == 16 {
-        let mut a = [0i32; 16];
-        widen(x, &mut a);
-        forward_16(&a, y);
-    } else {
-        let mut a = [0i32; 32];
-        widen(x, &mut a);
-        forward_32(&a, y);
+    match n {
+        4 => {
+            let mut a = [0i32; 4];
+            widen(x, &mut a);
+            forward_4(&a, y);
+        }
+        8 => {
+            let mut a = [0i32; 8];
+            widen(x, &mut a);
+            forward_8(&a, y);
+        }
+        16 => {
+            let mut a = [0i32; 16];
+            widen(x, &mut a);
+            forward_16(&a, y);
+        }
+        _ => {
+            let mut a = [0i32; 32];
+            widen(x, &mut a);
+            forward_32(&a, y);
+        }
     }
 }

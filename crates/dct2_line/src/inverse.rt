@@ -7,18 +7,16 @@ ghost use Rattle.meaning.specs.Line.{inverse_sum, inverse_line};
 ghost use Rattle.meaning.specs.Taken.{TakenLine, NoneAbove};
 ghost use Rattle.dct2_line.specs.Lines.{strided, Inputs, HalfSums, Joined};
 
-use crate::arith::{both, minus, plus, wide};
+use crate::arith::{both, minus};
 use crate::table::{odd_8, odd_16, odd_32};
-use product::line;
+use product::{line, plus};
 
 // What reading tells of each input: in 16 bits, a size of at most 32768. The compiler sees that this does nothing.
 fn read(x: &[i16])
     ensures { NoneAbove 32768 x.now }
 {
-    let mut i = 0;
-    while i < x.len() {
+    for i in 0..x.len() {
         let z = x[i];
-        i += 1;
     }
 }
 
@@ -27,10 +25,8 @@ fn deal(x: &[i16], from: usize, step: usize, a: &mut [i16])
     requires { (i : ℕ) → i < length a.old → from + i * step < length x.now }
     ensures { a.new ≡ tabulate (length a.old) (λ i. at x.now (from + i * step)) }
 {
-    let mut i = 0;
-    while i < a.len() {
+    for i in 0..a.len() {
         a[i] = x[from + i * step];
-        i += 1;
     }
 }
 
@@ -39,11 +35,9 @@ fn butterfly(e: &[i32], o: &[i32], h: usize, out: &mut [i32])
     requires { HalfSums h e.now o.now × (length out.old ≡ h + h) }
     ensures { Joined h h e.now o.now out.new }
 {
-    let mut j = 0;
-    while j < h {
+    for j in 0..h {
         out[j] = plus(e[j], o[j]);
         out[h + h - 1 - j] = minus(e[j], o[j]);
-        j += 1;
     }
 }
 
@@ -52,10 +46,10 @@ fn inverse_4(x: &[i16], apart: usize, out: &mut [i32])
     requires { Inputs 4 apart x.now × (length out.old ≡ 4) }
     ensures { out.new ≡ tabulate 4 (inverse_sum 0 4 4 (strided x.now apart)) }
 {
-    let a = wide(x[0]);
-    let b = wide(x[2 * apart]);
-    let c = wide(x[apart]);
-    let d = wide(x[3 * apart]);
+    let a = i32::from(x[0]);
+    let b = i32::from(x[2 * apart]);
+    let c = i32::from(x[apart]);
+    let d = i32::from(x[3 * apart]);
     let e = [both(64, a, 64, b), both(64, a, -64, b)];
     let o = [both(83, c, 36, d), both(36, c, -83, d)];
     butterfly(&e, &o, 2, out);
@@ -109,15 +103,14 @@ pub fn inverse(n: usize, x: &[i16], y: &mut [i32])
     ensures { y.new ≡ inverse_line 0 n n (at x.now) }
 {
     read(x);
-    if n == 4 {
-        inverse_4(x, 1, y);
-    } else if n == 8 {
-        inverse_8(x, 1, y);
-    } else if n == 16 {
-        inverse_16(x, 1, y);
-    } else {
-        let mut o = [0i32; 16];
-        let h = n / 2;
-        inverse_32(x, 1, &mut o[0..h], y);
+    match n {
+        4 => inverse_4(x, 1, y),
+        8 => inverse_8(x, 1, y),
+        16 => inverse_16(x, 1, y),
+        _ => {
+            let mut o = [0i32; 16];
+            let h = n / 2;
+            inverse_32(x, 1, &mut o[0..h], y);
+        }
     }
 }

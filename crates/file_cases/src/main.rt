@@ -28,35 +28,33 @@ fn words(text: &[u8]) -> &str {
     }
 }
 
-fn say_unopened(err: &impl Print, path: &[u8], error: io::Error) {
+fn say_unopened(err: &impl Print, path: &[u8], error: io::Error) -> io::Result<()> {
     let mut room = [0u8; 128];
     let mut text = Cursor::new(&mut room[..]);
     let _ = write!(text, "{error}");
     let end = text.position() as usize;
-    let _ = Print::write_all(err, path);
-    let _ = err.print(": ");
-    let _ = err.println(words(&room[..end.min(128)]));
+    Print::write_all(err, path)?;
+    println!(err; ": {}", words(&room[..end.min(128)]))
 }
 
+// What cannot be written is left out, and the next case runs.
 fn case<R: Env + Files + Print>(rt: &R, err: &impl Print, i: usize) {
     let mut space = word_buffer();
-    let n = word(rt, i, &mut space);
-    let path = &space[..n];
+    let path = word(rt, i, &mut space);
     let _ = Print::write_all(rt, path);
-    let _ = rt.print(":\n");
+    let _ = rt.println(":");
     match open(rt, path) {
         Ok(mut file) => {
-            file_program::answer(&mut file, rt);
+            let _ = file_program::answer(&mut file, rt);
         }
-        Err(error) => say_unopened(err, path, error),
+        Err(error) => {
+            let _ = say_unopened(err, path, error);
+        }
     }
 }
 
 fn main(rt: HostRuntime) {
-    let count = word_count(&rt);
-    let mut i = 1;
-    while i < count {
+    for i in 1..word_count(&rt) {
         case(&rt, &rt.stderr(), i);
-        i += 1;
     }
 }

@@ -7,8 +7,7 @@ use native.Mathlib.Omega.{arith}
 use lib.ListN.{length, take, drop, length-take, length-drop}
 use Rattle.meaning.specs.declared.Shape.{Shape}
 use Rattle.file_fields.specs.declared.cursor.Cursor.{Cursor}
-use Rattle.file_fields.specs.declared.field.Field.{Field}
-use Rattle.file_fields.specs.Field.{is_data, length_at, whole_field}
+use Rattle.file_fields.specs.Field.{Field, is_data, length_at, whole_field}
 use Rattle.file_fields.specs.Cursor.{found_at, bytes_of}
 use Rattle.file_fields.specs.Body.{Fits}
 use Rattle.file_fields.proofs.Shapes.{shape-range}

@@ -10,8 +10,7 @@ use borrow.Author.Tests.{ltb-true, ltb-false, eqb-true, eqb-false, not-true, not
 use lib.Dec.{eqb, ltb}
 use lib.ListN.{length}
 use Rattle.file_fields.specs.declared.cursor.Cursor.{Cursor}
-use Rattle.file_fields.specs.declared.field.Field.{Field}
-use Rattle.file_fields.specs.Field.{field_number, field_at, nothing, whole_field}
+use Rattle.file_fields.specs.Field.{Field, field_number, field_at, nothing, whole_field}
 use Rattle.file_fields.specs.Cursor.{found_at, too_long, advance_of, body_start, body_length}
 use Rattle.file_fields.proofs.Whole.{Whole, whole-field, some-body}
 

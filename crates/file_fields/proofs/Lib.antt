@@ -1,6 +1,7 @@
 pub mod Unique
 pub mod Shapes
 mod Tests
+mod Refusals
 pub mod Whole
 pub mod Found
 pub mod Body

@@ -7,21 +7,21 @@ use native.Mathlib.Omega.{arith}
 use borrow.Author.Tests.{ne_eqb}
 use lib.Dec.{T, eqb, ltb, ltb→lt}
 use Rattle.algebra.proofs.Table.{and_left, and_right}
-use Rattle.algebra.specs.Refusals.{Refusal, number_of}
+use Rattle.algebra.specs.Refusals.{Test, number_of}
 
 -- every number is above 0
-abbrev pub numbered : List Refusal → Bool
+abbrev pub numbered : List Test → Bool
 numbered [] = true
 numbered (t ∷ ts) = ltb 0 t.number && numbered ts
 
-above : (t : Refusal) (ts : List Refusal) → T (numbered (t ∷ ts)) → 0 < t.number
+above : (t : Test) (ts : List Test) → T (numbered (t ∷ ts)) → 0 < t.number
 above t ts h = ltb→lt 0 t.number (and_left (ltb 0 t.number) (numbered ts) h)
 
-others : (t : Refusal) (ts : List Refusal) → T (numbered (t ∷ ts)) → T (numbered ts)
+others : (t : Test) (ts : List Test) → T (numbered (t ∷ ts)) → T (numbered ts)
 others t ts h = and_right (ltb 0 t.number) (numbered ts) h
 
 -- the tests of one list, then those of another
-pub number_append : (ts us : List Refusal) → T (numbered ts) → number_of (ts ++ us) ≡ cond (eqb (number_of ts) 0) (number_of us) (number_of ts)
+pub number_append : (ts us : List Test) → T (numbered ts) → number_of (ts ++ us) ≡ cond (eqb (number_of ts) 0) (number_of us) (number_of ts)
 number_append [] us h = refl
 number_append (t ∷ ts) us h = go (number_of ts) (number_of us) t.applies t.number (above t ts h) (number_append ts us (others t ts h))
   where
@@ -30,12 +30,12 @@ number_append (t ∷ ts) us h = go (number_of ts) (number_of us) t.applies t.num
     go l m false n h e = e
 
 -- none applies
-abbrev pub Passed : List Refusal → Type 0
+abbrev pub Passed : List Test → Type 0
 Passed [] = Unit {0}
 Passed (t ∷ ts) = (t.applies ≡ false) × Passed ts
 
 -- where the number is 0, no test of the first list applies
-pub passed : (ts us : List Refusal) → T (numbered ts) → number_of (ts ++ us) ≡ 0 → Passed ts
+pub passed : (ts us : List Test) → T (numbered ts) → number_of (ts ++ us) ≡ 0 → Passed ts
 passed [] us h e = tt
 passed (t ∷ ts) us h e =
     let s = go t.applies t.number (number_of (ts ++ us)) (above t ts h) e in

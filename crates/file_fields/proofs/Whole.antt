@@ -7,7 +7,7 @@ use native.Mathlib.Omega.{arith}
 use borrow.Author.Tests.{ltb-false, eqb-true, not-false, eq-eqb, ne_eqb}
 use lib.Dec.{eqb, ltb}
 use lib.ListN.{length}
-use Rattle.algebra.specs.Refusals.{Refusal, number_of}
+use Rattle.algebra.specs.Refusals.{Test, number_of}
 use Rattle.meaning.specs.declared.Shape.{Shape}
 use Rattle.meaning.specs.Answer.{test}
 use Rattle.meaning.proofs.Cases.{or_cases, and_so}
@@ -47,16 +47,16 @@ module _ (tag bytes : ℕ) (shape : Shape) (e : header_number tag bytes shape �
   header-two t = eqb-true bytes 2 (not-false (eqb bytes 2) (and_so (eqb tag 4) (not (eqb bytes 2)) clear.1.1.0 (eq-eqb tag 4 t)))
 
 module _ (file : List ℕ) (at : ℕ) (shape : Shape) where
-  abbrev header : Refusal
+  abbrev header : Test
   header = test (ltb (length file) (at + 3)) 10
 
-  abbrev by_header : List Refusal
+  abbrev by_header : List Test
   by_header = header_tests (byte_at file at) (length_at file at) shape
 
-  abbrev body : Refusal
+  abbrev body : Test
   body = test (ltb (length file) (at + 3 + length_at file at)) 10
 
-  abbrev in_body : List Refusal
+  abbrev in_body : List Test
   in_body = test (is_none (shape_behind file at shape)) (shape_number (shape_behind file at shape)) ∷ []
 
   -- what the tests come to, of which those of the header are the first group, then the body's presence, then the shape behind

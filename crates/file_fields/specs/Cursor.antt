@@ -4,8 +4,7 @@ use Rattle.std.specs.Prelude.{Bool, cond, List, ℕ, ◌+◌, ltb, length, take,
 use Rattle.meaning.specs.Shape.{shape_of}
 use Rattle.file_fields.specs.declared.cursor.Cursor.{Cursor}
 use Rattle.file_fields.specs.declared.cursor.Advance.{Advance}
-use Rattle.file_fields.specs.declared.field.Field.{Field}
-use Rattle.file_fields.specs.Field.{nothing, field_at}
+use Rattle.file_fields.specs.Field.{Field, nothing, field_at}
 
 -- the start of a file; test 1 refuses the shape, so it "counts as none"
 abbrev pub file_start : Cursor

@@ -1,11 +1,20 @@
 -- Document 01, "The block file and its program": "A field is a one-byte tag, a two-byte length of the body, and the body. High
 -- byte first throughout": what stands at a place of a file, the refusals 14, 8 and 9 left aside.
 use Rattle.std.specs.Prelude.{Bool, cond, not, ◌&&◌, ◌||◌, List, [], ◌∷◌, ◌++◌, ℕ, ◌+◌, ◌*◌, eqb, ltb, length, get_or}
-use Rattle.algebra.specs.Refusals.{Refusal, number_of}
+use Rattle.algebra.specs.Refusals.{Test, number_of}
 use Rattle.meaning.specs.declared.Shape.{Shape}
 use Rattle.meaning.specs.Shape.{shape_of, keeping}
 use Rattle.meaning.specs.Answer.{test, shape_tests}
-use Rattle.file_fields.specs.declared.field.Field.{Field}
+use Rattle.file_fields.specs.declared.cursor.Cursor.{Cursor}
+
+-- what stands at a place: the number of the refusal or 0, the tag or 0, where the body starts and how many bytes it has, and the cursor
+-- behind it
+pub record Field : Type 0 where
+  pub number : ℕ
+  pub tag : ℕ
+  pub start : ℕ
+  pub bytes : ℕ
+  pub next : Cursor
 
 -- the byte at place k, and 0 past the end
 abbrev pub byte_at : List ℕ → ℕ → ℕ
@@ -46,7 +55,7 @@ is_keeping tag = eqb tag 4
 
 -- what the header decides: "tag (11), 12, 13, data length not 2*w*h (6)"; Wish 8: "12 also for tag 04 with another length, 13 for
 -- tag 04 before any tag 01"
-abbrev pub header_tests : ℕ → ℕ → Shape → List Refusal
+abbrev pub header_tests : ℕ → ℕ → Shape → List Test
 header_tests tag bytes shape =
     test (not (is_shape tag || (is_keeping tag || is_data tag))) 11
     ∷ test (is_shape tag && not (eqb bytes 5)) 12
@@ -67,7 +76,7 @@ shape_behind file at shape =
 
 -- "header present (10)", what the header decides, "body present (10), then 1 to 5 for tag 01", and 20 for either; the shape behind
 -- a data field is the held one, which 13 let pass
-abbrev pub field_tests : List ℕ → ℕ → Shape → List Refusal
+abbrev pub field_tests : List ℕ → ℕ → Shape → List Test
 field_tests file at shape =
     test (ltb (length file) (body_at at)) 10
     ∷ header_tests (byte_at file at) (length_at file at) shape

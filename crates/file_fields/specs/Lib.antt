@@ -1,3 +1,4 @@
 pub mod Field
 pub mod Cursor
+pub mod Read
 pub mod Body

@@ -34,22 +34,21 @@ impl Cursor {
     pub fn advance(self, file: &[u8]) -> Advance
         ensures { result ≡ advance_of file.now self }
     {
-        let field = found(file, self);
-        let next = field.next;
-        Advance {
-            number: field.number,
-            tag: field.tag,
-            next,
-        }
+        let (number, tag, next) = match found(file, self) {
+            Ok(Some(field)) => (0, field.tag, field.next),
+            Ok(None) => (0, 0, self),
+            Err(refusal) => (refusal.number(), 0, self),
+        };
+        Advance { number, tag, next }
     }
 
     /// The body of the field at the cursor's place: part of `file` itself. Called on the cursor before its advance.
     pub fn body(self, file: &[u8]) -> &[u8]
         ensures { ◌≡◌ {A = (ℕ × ℕ) × List ℕ} (result.ref_ptr, result.now) (body_of file.entry.ref_ptr file.now self) }
     {
-        let field = found(file, self);
-        let start = field.start;
-        let end = start + field.bytes;
-        &file[start..end]
+        match found(file, self) {
+            Ok(Some(field)) => &file[field.start..field.start + field.bytes],
+            _ => &file[..0],
+        }
     }
 }

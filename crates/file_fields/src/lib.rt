@@ -1,5 +1,5 @@
-// The reader of a block file: a cursor that moves field by field. Read specs/ first, Field and then Cursor; then the theorems
-// of proofs/: Unique and Found (Shapes, Tests and Whole serve them); then cursor, and field behind it.
+// The reader of a block file: a cursor that moves field by field. Read specs/ first, Field and then Cursor (Read says what the functions
+// inside hand back); then the theorems of proofs/: Unique and Found (Shapes, Tests and Whole serve them); then cursor, and field behind it.
 #![tactic(auto)]
 
 pub mod cursor;
@@ -12,8 +12,5 @@ ghost use Rattle.file_fields.specs.Field.{is_data};
 pub fn is_data(tag: u32) -> bool
     ensures { result ≡ is_data tag }
 {
-    if tag == 2 {
-        return true;
-    }
-    tag == 3
+    tag == 2 || tag == 3
 }

@@ -1,4 +1,5 @@
 // A descriptor by its number. std reaches one by its path alone, which opens it anew: what it is open on is written at its end.
+use std::fmt::Display;
 use std::fs::{File, OpenOptions};
 use std::io::{Cursor, ErrorKind, Write};
 use std::rt::Files;
@@ -12,15 +13,15 @@ fn is_written(rt: &impl Files, path: &str) -> bool {
     }
 }
 
-fn append(rt: &impl Files, path: &str, words: &[u8]) -> io::Result<()> {
+fn append(rt: &impl Files, path: &str, text: impl Display + Drop) -> io::Result<()> {
     let mut to = OpenOptions::new().append(true).open(rt, path)?;
-    to.write_all(words)
+    write!(to, "{text}")
 }
 
 // Where it is closed, nothing is written.
-pub fn write(rt: &impl Files, path: &str, words: &[u8]) {
+pub fn write(rt: &impl Files, path: &str, text: impl Display + Drop) {
     if is_written(rt, path) {
-        let _ = append(rt, path, words);
+        let _ = append(rt, path, text);
     }
 }
 

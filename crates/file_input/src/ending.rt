@@ -2,50 +2,56 @@
 // names in it: here no name and no byte of a file can stand. Where the descriptor is closed, nothing is told.
 use crate::descriptor;
 use std::rt::Files;
+use std::{fmt, io};
 
 const ENDING: &str = "/proc/self/fd/3";
 
-fn tell(rt: &impl Files, words: &[u8]) {
-    descriptor::write(rt, ENDING, words);
+/// Why a program ended with another status than 0.
+#[derive(Clone, Copy)]
+pub enum Failure {
+    /// Status 1: the refusal stands in the answer or was said.
+    Refused,
+    /// Status 2: a word names the input, which could not be read. The first word is 1; 0 is standard input where no word names it.
+    Unread(usize),
+    /// Status 2: the answer could not be written.
+    Unwritten,
+    /// Status 2: standard error could not be written.
+    Unsaid,
+    /// Status 2, and why.
+    Because(&'static str),
 }
 
-// Status 2, and why.
-pub fn failed(rt: &impl Files, why: &[u8]) {
-    tell(rt, b"2 ");
-    tell(rt, why);
-    tell(rt, b"\n");
-}
-
-// Status 2: a word names the input, which could not be read. The first word is 1; 0 is standard input where no word names it.
-pub fn unread(rt: &impl Files, word: usize) {
-    let mut digits = itoa::Buffer::new();
-    tell(rt, b"unread ");
-    tell(rt, digits.format(word).as_bytes());
-    tell(rt, b"\n");
-}
-
-pub fn unwritten(rt: &impl Files) {
-    failed(rt, b"the answer could not be written");
-}
-
-pub fn unsaid(rt: &impl Files) {
-    failed(rt, b"standard error could not be written");
-}
-
-// Status 0, where the answer was written.
-pub fn ran(rt: &impl Files, written: bool) {
-    if written {
-        tell(rt, b"0\n");
-        return;
+impl Failure {
+    /// Of a refusal, by whether it could be said.
+    pub fn refused(said: io::Result<()>) -> Failure {
+        match said {
+            Ok(()) => Failure::Refused,
+            Err(_) => Failure::Unsaid,
+        }
     }
-    unwritten(rt);
 }
 
-// Status 1, where the refusal stands in the answer or was said.
-pub fn refused(rt: &impl Files, said: bool) {
-    if said {
-        tell(rt, b"1\n");
-        return;
+impl fmt::Display for Failure {
+    fn fmt<W: fmt::Write>(&self, f: &mut fmt::Formatter<W>) -> fmt::Result {
+        match *self {
+            Failure::Refused => f.write_str("1"),
+            Failure::Unread(word) => write!(f, "unread {word}"),
+            Failure::Unwritten => f.write_str("2 the answer could not be written"),
+            Failure::Unsaid => f.write_str("2 standard error could not be written"),
+            Failure::Because(why) => write!(f, "2 {why}"),
+        }
     }
-    unsaid(rt);
+}
+
+/// Of an answer, by whether it could be written.
+pub fn written(answer: io::Result<()>) -> Result<(), Failure> {
+    answer.map_err(|_| Failure::Unwritten)
+}
+
+/// Status 0 where all went well.
+pub fn tell(rt: &impl Files, ended: Result<(), Failure>) {
+    match ended {
+        Ok(()) => descriptor::write(rt, ENDING, "0\n"),
+        Err(failure) => descriptor::write(rt, ENDING, format_args!("{failure}\n")),
+    }
 }

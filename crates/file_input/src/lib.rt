@@ -6,11 +6,13 @@
 pub mod descriptor;
 pub mod ending;
 
-ghost use Rattle.std.specs.Prelude.{◌≡◌, length};
+ghost use Rattle.std.specs.Prelude.{◌≡◌, ◌≤◌, length};
 ghost use Rattle.file_input.specs.Counts.{IsPrefixLen};
 
 use std::env::{Env, FillError};
-use std::io::Read;
+use std::fmt::Display;
+use std::io;
+use std::io::{Cursor, Read, Write};
 
 // One byte more than a file may have, so that a program can tell that there is one. A buffer's `ensures` gives its length alone.
 pub fn file_buffer() -> [u8; 65537]
@@ -37,13 +39,13 @@ pub fn word_count(rt: &impl Env) -> usize {
     usize::MAX
 }
 
-// Puts word i at the start of `space`, and gives its length, or 0 where it is missing or too long.
-pub fn word(rt: &impl Env, i: usize, space: &mut [u8]) -> usize
-    ensures { IsPrefixLen result space.new }
+// Word i, put at the start of `space`; an empty one where it is missing or too long.
+pub fn word<'a>(rt: &impl Env, i: usize, space: &'a mut [u8]) -> &'a [u8]
+    ensures { length result.now ≤ length space.old }
 {
     match rt.arg(i, space) {
-        Ok(count) => count,
-        Err(_) => 0,
+        Ok(count) => &space[..count],
+        Err(_) => &[],
     }
 }
 
@@ -54,7 +56,8 @@ pub struct Input {
     pub failed: bool,
 }
 
-// Reads until `file` is full, the input ends or a read fails.
+// Reads until `file` is full, the input ends or a read fails. How many reads that takes is not known before: each may give fewer bytes
+// than there is room for.
 pub fn read_input(input: &mut impl Read, file: &mut [u8]) -> Input
     ensures { IsPrefixLen result.count file.new }
 {
@@ -77,33 +80,21 @@ pub fn read_input(input: &mut impl Read, file: &mut [u8]) -> Input
     }
 }
 
-// Each `say` tells whether all could be said on standard error.
-pub fn say(err: &impl Print, words: &[u8]) -> bool {
-    err.write_all(words).is_ok()
-}
-
-pub fn say_numbers(err: &impl Print, a: u64, b: u64) -> bool {
-    if err.print(a).is_err() {
-        return false;
-    }
-    if !say(err, b" ") {
-        return false;
-    }
-    err.print(b).is_ok()
+// Prints a text of at most 65,536 bytes by one write: a reader who leaves after a part of it is no failure then.
+pub fn print_whole(out: &impl Print, text: impl Display + Drop) -> io::Result<()> {
+    let mut room = [0u8; 65536];
+    let mut at = Cursor::new(&mut room[..]);
+    write!(at, "{text}")?;
+    let end = at.position() as usize;
+    out.write_all(&room[..end.min(65536)])
 }
 
 // "R number offset", for a refusal in the place of the answer; the caller ends the line.
-pub fn say_refused(err: &impl Print, number: u32, offset: usize) -> bool {
-    if !say(err, b"R ") {
-        return false;
-    }
-    say_numbers(err, number as u64, offset as u64)
+pub fn say_refused(err: &impl Print, number: u32, offset: usize) -> io::Result<()> {
+    print!(err; "R {number} {offset}")
 }
 
 // The same as a line.
-pub fn say_refusal(err: &impl Print, number: u32, offset: usize) -> bool {
-    if !say_refused(err, number, offset) {
-        return false;
-    }
-    say(err, b"\n")
+pub fn say_refusal(err: &impl Print, number: u32, offset: usize) -> io::Result<()> {
+    println!(err; "R {number} {offset}")
 }

@@ -18,6 +18,8 @@ numbers-long (x ∷ y ∷ b) (suc n) e = ap suc (numbers-long b n (omega (arith,
 pub half-long : (n : ℕ) (body : List ℕ) → length body ≡ 2 * n → length (numbers body) ≡ length body / 2
 half-long n body e = numbers-long body (length body / 2) (omega (arith, e))
 
--- the part of a buffer that was filled with a body's numbers
-pub read-part : (n : ℕ) (body : List ℕ) (l r : List ℤ) → length body ≡ 2 * n → l ≡ numbers body → take (length body / 2 - 0) (l ++ r) ≡ numbers body
-read-part n body l r h e = part_same (length body / 2) l r (ap length e ∙ half-long n body h) ∙ e
+-- the front of a buffer that was filled with a body's numbers
+pub read-front : (n : ℕ) (body : List ℕ) (l r : List ℤ) → length body ≡ 2 * n → l ≡ numbers body → take (length body / 2) (l ++ r) ≡ numbers body
+read-front n body l r h e =
+    let z : length body / 2 - 0 ≡ length body / 2 = omega arith in
+    rw z at (part_same (length body / 2) l r (ap length e ∙ half-long n body h) ∙ e)

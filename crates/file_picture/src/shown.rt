@@ -33,9 +33,7 @@ fn refused(number: u32, offset: usize) -> View
 fn drawn(shape: Shape, residuals: &[i32], offset: usize, picture: &mut [u8]) -> View
     ensures { ◌≡◌ {A = View × List ℕ} (result, picture.new) (drawn_at shape residuals.now offset picture.old) }
 {
-    let width = shape.width;
-    let height = shape.height;
-    let written = picture::write::write(width, height, residuals, picture);
+    let written = picture::write::write(shape.width, shape.height, residuals, picture);
     View {
         number: written.number,
         offset,
@@ -55,9 +53,8 @@ fn inverse_drawn(
     ensures { ◌≡◌ {A = View × List ℕ} (result, picture.new) (inverse_shown shape coefficients.now offset picture.old) }
 {
     let answer = block::inverse(shape, coefficients, residuals);
-    let number = answer.number;
-    if number != 0 {
-        return refused(number, offset);
+    if answer.number != 0 {
+        return refused(answer.number, offset);
     }
     drawn(shape, residuals, offset, picture)
 }
@@ -83,12 +80,12 @@ fn inverse_shown(shape: Shape, body: &[u8], offset: usize, picture: &mut [u8]) -
 {
     let n = body.len() / 2;
     let mut coefficients = narrow_zeros();
-    read_numbers(body, &mut coefficients[0..n]);
+    read_numbers(body, &mut coefficients[..n]);
     let mut residuals = wide_zeros();
     inverse_drawn(
         shape,
-        &coefficients[0..n],
-        &mut residuals[0..n],
+        &coefficients[..n],
+        &mut residuals[..n],
         offset,
         picture,
     )
@@ -101,8 +98,8 @@ fn forward_shown(shape: Shape, body: &[u8], offset: usize, picture: &mut [u8]) -
 {
     let n = body.len() / 2;
     let mut residuals = wide_zeros();
-    read_wide_numbers(body, &mut residuals[0..n]);
-    drawn(shape, &residuals[0..n], offset, picture)
+    read_wide_numbers(body, &mut residuals[..n]);
+    drawn(shape, &residuals[..n], offset, picture)
 }
 
 /// Puts the picture of a block at the start of `picture`: that of the n-th data field of a file, of which the first is 1. Any
@@ -112,15 +109,11 @@ pub fn shown(file: &[u8], n: usize, picture: &mut [u8]) -> View
 {
     let cursor = pick(file, n);
     let advance = cursor.advance(file);
-    let number = advance.number;
-    let tag = advance.tag;
     let offset = cursor.at;
     let shape = cursor.shape;
-    if tag == 2 {
-        return inverse_shown(shape, cursor.body(file), offset, picture);
+    match advance.tag {
+        2 => inverse_shown(shape, cursor.body(file), offset, picture),
+        3 => forward_shown(shape, cursor.body(file), offset, picture),
+        _ => refused(advance.number, offset),
     }
-    if tag == 3 {
-        return forward_shown(shape, cursor.body(file), offset, picture);
-    }
-    refused(number, offset)
 }

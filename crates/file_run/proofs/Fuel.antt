@@ -16,8 +16,7 @@ use Rattle.meaning.specs.Inverse.{inverse_outcome}
 use Rattle.meaning.specs.Forward.{forward_outcome}
 use Rattle.meaning.proofs.Cases.{le-or-lt}
 use Rattle.file_fields.specs.declared.cursor.Cursor.{Cursor}
-use Rattle.file_fields.specs.declared.field.Field.{Field}
-use Rattle.file_fields.specs.Field.{field_at, whole_field}
+use Rattle.file_fields.specs.Field.{Field, field_at, whole_field}
 use Rattle.file_fields.specs.Cursor.{file_start, found_at}
 use Rattle.file_numbers.specs.Numbers.{numbers}
 use Rattle.file_text.specs.Text.{inverse_text, forward_text}

@@ -2,12 +2,13 @@
 use mathlib.Core.Path.{◌≡◌, ap, subst, ◌∙◌}
 use mathlib.Core.Bool.{false}
 use mathlib.Core.List.{List}
-use Prim.Native.Nat.{ℕ, ◌*◌, ◌-◌, ◌≤◌}
+use Prim.Native.Nat.{ℕ, ◌*◌, ◌≤◌}
 use borrow.Author.Tests.{eq-eqb, ne_eqb}
 use lib.IntN.{ℤ, pos}
-use lib.ListN.{length, take}
+use native.Mathlib.Omega.{arith}
+use lib.ListN.{length, take, length-take}
 use Rattle.algebra.specs.Lists.{at}
-use Rattle.algebra.proofs.Lists.{tabulated, take-zeros, part-long}
+use Rattle.algebra.proofs.Lists.{tabulated, take-zeros}
 use Rattle.meaning.specs.declared.Shape.{Shape}
 use Rattle.meaning.specs.Answer.{Outcome}
 use Rattle.meaning.specs.Inverse.{inverse_outcome}
@@ -55,5 +56,7 @@ module _ (sh : Shape) (c z : List ℤ) (offset : ℕ) (n : Cursor) (a : Answer) 
   forward-made e h = block_made a (forward_text sh.width sh.height l) offset n h ∙ ap forward_of (e ∙ ap (forward_outcome sh c) b)
 
 -- a part of a buffer of zeros is a block's output before it is run
-pub zero-part : (sh : Shape) (n : ℕ) (z : List ℤ) → n ≡ sh.width * sh.height → n ≤ length z → ((k : ℕ) → at z k ≡ pos 0) → take (n - 0) z ≡ blank sh
-zero-part sh n z e l h = tabulated (sh.width * sh.height) (take (n - 0) z) (λ k. pos 0) (part-long n z l ∙ e) (λ k i. take-zeros (n - 0) z h k)
+pub zero-part : (sh : Shape) (n : ℕ) (z : List ℤ) → n ≡ sh.width * sh.height → n ≤ length z → ((k : ℕ) → at z k ≡ pos 0) → take n z ≡ blank sh
+zero-part sh n z e l h =
+    let long : length (take n z) ≡ n = simp length-take (omega arith) in
+    tabulated (sh.width * sh.height) (take n z) (λ k. pos 0) (long ∙ e) (λ k i. take-zeros n z h k)

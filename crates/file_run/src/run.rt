@@ -11,13 +11,11 @@ use file_numbers::bytes::read_numbers;
 use file_text::text::{put_forward, put_inverse, put_refusal};
 use meaning::Shape;
 
-// What a turn hands back: the place behind its text, whether the run ends with it, the number of its refusal or 0, and the next
-// cursor.
+// What a turn hands back: the place behind its text, what the run hands back if it ends with it, and the next cursor.
 #[derive(Clone, Copy)]
 struct TurnDone {
     at: usize,
-    ends: bool,
-    number: u32,
+    ending: Option<u32>,
     next: Cursor,
 }
 
@@ -36,8 +34,7 @@ fn refused(number: u32, offset: usize, next: Cursor, text: &mut [u8], at: usize)
     let end = put_refusal(number, offset as u32, text, at);
     TurnDone {
         at: end,
-        ends: true,
-        number,
+        ending: Some(number),
         next,
     }
 }
@@ -56,18 +53,13 @@ fn inverse_line(
     ensures { Does (inverse_turn shape coefficients.now offset next) (35 + 12 * length residuals.old) at text.old text.new result }
 {
     let answer = block::inverse(shape, coefficients, residuals);
-    let number = answer.number;
-    if number != 0 {
-        return refused(number, offset, next, text, at);
+    if answer.number != 0 {
+        return refused(answer.number, offset, next, text, at);
     }
-    let width = shape.width;
-    let height = shape.height;
-    let rails = answer.rails;
-    let end = put_inverse(width, height, rails, residuals, text, at);
+    let end = put_inverse(shape.width, shape.height, answer.rails, residuals, text, at);
     TurnDone {
         at: end,
-        ends: false,
-        number: 0,
+        ending: None,
         next,
     }
 }
@@ -86,17 +78,13 @@ fn forward_line(
     ensures { Does (forward_turn shape residuals.now offset next) (24 + 12 * length coefficients.old) at text.old text.new result }
 {
     let answer = block::forward(shape, residuals, coefficients);
-    let number = answer.number;
-    if number != 0 {
-        return refused(number, offset, next, text, at);
+    if answer.number != 0 {
+        return refused(answer.number, offset, next, text, at);
     }
-    let width = shape.width;
-    let height = shape.height;
-    let end = put_forward(width, height, coefficients, text, at);
+    let end = put_forward(shape.width, shape.height, coefficients, text, at);
     TurnDone {
         at: end,
-        ends: false,
-        number: 0,
+        ending: None,
         next,
     }
 }
@@ -129,12 +117,12 @@ fn inverse_turn(
 {
     let n = body.len() / 2;
     let mut coefficients = narrow_zeros();
-    read_numbers(body, &mut coefficients[0..n]);
+    read_numbers(body, &mut coefficients[..n]);
     let mut residuals = wide_zeros();
     inverse_line(
         shape,
-        &coefficients[0..n],
-        &mut residuals[0..n],
+        &coefficients[..n],
+        &mut residuals[..n],
         offset,
         next,
         text,
@@ -156,12 +144,12 @@ fn forward_turn(
 {
     let n = body.len() / 2;
     let mut residuals = narrow_zeros();
-    read_numbers(body, &mut residuals[0..n]);
+    read_numbers(body, &mut residuals[..n]);
     let mut coefficients = narrow_zeros();
     forward_line(
         shape,
-        &residuals[0..n],
-        &mut coefficients[0..n],
+        &residuals[..n],
+        &mut coefficients[..n],
         offset,
         next,
         text,
@@ -175,25 +163,25 @@ fn turn(file: &[u8], cursor: Cursor, text: &mut [u8], at: usize) -> TurnDone
     ensures { Does (turn_at file.now cursor) 12323 at text.old text.new result × Follows cursor.at at result }
 {
     let advance = cursor.advance(file);
-    let number = advance.number;
-    let tag = advance.tag;
     let next = advance.next;
     let offset = cursor.at;
     let shape = cursor.shape;
-    if number != 0 {
-        return refused(number, offset, next, text, at);
+    if advance.number != 0 {
+        return refused(advance.number, offset, next, text, at);
     }
-    if tag == 2 {
-        return inverse_turn(shape, cursor.body(file), offset, next, text, at);
-    }
-    if tag == 3 {
-        return forward_turn(shape, cursor.body(file), offset, next, text, at);
-    }
-    TurnDone {
-        at,
-        ends: tag == 0,
-        number: 0,
-        next,
+    match advance.tag {
+        0 => TurnDone {
+            at,
+            ending: Some(0),
+            next,
+        },
+        2 => inverse_turn(shape, cursor.body(file), offset, next, text, at),
+        3 => forward_turn(shape, cursor.body(file), offset, next, text, at),
+        _ => TurnDone {
+            at,
+            ending: None,
+            next,
+        },
     }
 }
 
@@ -203,14 +191,13 @@ pub fn run(file: &[u8], text: &mut [u8; 524288]) -> RunDone
 {
     let mut cursor = Cursor::new();
     let mut at = 0;
-    let mut number = 0;
-    let mut on = true;
-    while on {
+    // no `for`: each field says where the next one starts
+    'turns: loop {
         let done = turn(file, cursor, text, at);
         at = done.at;
-        number = done.number;
-        on = !done.ends;
+        if let Some(number) = done.ending {
+            return RunDone { length: at, number };
+        }
         cursor = done.next;
     }
-    RunDone { length: at, number }
 }

@@ -1,5 +1,5 @@
 -- The decimal text of a number, a digit at a time. Assumes nothing.
-use mathlib.Core.Path.{◌≡◌, refl, sym, ap, ◌∙◌}
+use mathlib.Core.Path.{◌≡◌, refl, sym, ap}
 use mathlib.Core.Bool.{cond}
 use mathlib.Core.List.{List, [], ◌∷◌, ◌++◌}
 use Prim.Native.Nat.{ℕ, zero, suc, ◌+◌, ◌-◌, ◌*◌, ◌/◌, ◌%◌, ◌^◌, ◌≤◌, ◌<◌}
@@ -48,7 +48,3 @@ below (suc n) = rw (pow-suc 10 (suc n)) (omega (arith, below n))
 pub ten-digits : (n : ℕ) → n < 10 ^ 10 → digits 9 n ≡ decimal n
 unfolding decimal
 ten-digits n h = enough 9 n n h (below n)
-
--- a number that is n, said otherwise
-pub same_digits : (m n : ℕ) → m ≡ n → n < 10 ^ 10 → digits 9 m ≡ decimal n
-same_digits m n e h = ap (digits 9) e ∙ ten-digits n h

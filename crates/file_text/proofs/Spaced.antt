@@ -6,7 +6,7 @@ use native.Mathlib.Numerals.{add-one}
 use native.Mathlib.Omega.{arith}
 use lib.IntN.{ℤ, pos, nat_abs}
 use lib.ListN.{length, take, get_or}
-use lib.Seq.{take-suc, take-length}
+use lib.Seq.{take-suc}
 use Rattle.file_text.specs.Wrote.{Wrote}
 use Rattle.file_text.specs.Text.{decimal, sign, integer, spaced}
 use Rattle.file_text.proofs.Writing.{and_then, retext, within}
@@ -36,6 +36,3 @@ module _ (zs : List ℤ) (i : ℕ) where
       → Wrote (spaced (take i zs)) (12 * i) at o o₁ p → Wrote (spaced (z ∷ [])) 12 p o₁ o₂ r → Wrote (spaced (take (i + 1) zs)) (12 * (i + 1)) at o o₂ r
   wrote-more h e a b =
       within (retext (ap (λ (z : ℤ). spaced (take i zs) ++ spaced (z ∷ [])) e ∙ spaced-more zs i (pos 0) h) (and_then a b)) (omega arith)
-
-  pub wrote-all : {at p : ℕ} {o o₁ : List ℕ} → i ≡ length zs → Wrote (spaced (take i zs)) (12 * i) at o o₁ p → Wrote (spaced zs) (12 * length zs) at o o₁ p
-  wrote-all e a = within (retext (ap spaced (ap (λ (k : ℕ). take k zs) e ∙ take-length zs)) a) (omega arith)

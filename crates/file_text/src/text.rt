@@ -16,10 +16,10 @@ fn put_digits(n: u32, k: usize, out: &mut [u8], at: usize) -> usize
     ensures { Wrote (digits k n) (k + 1) at out.old out.new result }
 {
     if n < 10 {
-        return put(48 + n as u8, out, at);
+        return put(b'0' + n as u8, out, at);
     }
     let next = put_digits(n / 10, k - 1, out, at);
-    put(48 + (n % 10) as u8, out, next)
+    put(b'0' + (n % 10) as u8, out, next)
 }
 
 pub fn put_decimal(n: u32, out: &mut [u8], at: usize) -> usize
@@ -38,45 +38,40 @@ fn put_natural(n: u32, out: &mut [u8], at: usize) -> usize
     put_decimal(n, out, next)
 }
 
-// A space and a number: `!z` is one less than the size of a negative one, and fits where `-z` may not.
+// A space and a number.
 fn put_integer(z: i32, out: &mut [u8], at: usize) -> usize
     requires { at + 12 ≤ length out.old }
     ensures { Wrote (spaced (z ∷ [])) 12 at out.old out.new result }
 {
     let space = put(b' ', out, at);
+    let size = z.unsigned_abs();
     if z < 0 {
         let minus = put(b'-', out, space);
-        return put_digits((!z) as u32 + 1, 9, out, minus);
+        return put_decimal(size, out, minus);
     }
-    put_digits(z as u32, 9, out, space)
+    put_decimal(size, out, space)
 }
 
 fn put_residuals(zs: &[i32], out: &mut [u8], at: usize) -> usize
     requires { at + 12 * length zs.now ≤ length out.old }
     ensures { Wrote (spaced zs.now) (12 * length zs.now) at out.old out.new result }
 {
-    let mut p = at;
-    let mut i = 0;
-    while i < zs.len() {
-        let z = zs[i];
-        p = put_integer(z, out, p);
-        i += 1;
+    let mut end = at;
+    for z in zs {
+        end = put_integer(*z, out, end);
     }
-    p
+    end
 }
 
 fn put_coefficients(zs: &[i16], out: &mut [u8], at: usize) -> usize
     requires { at + 12 * length zs.now ≤ length out.old }
     ensures { Wrote (spaced zs.now) (12 * length zs.now) at out.old out.new result }
 {
-    let mut p = at;
-    let mut i = 0;
-    while i < zs.len() {
-        let z = zs[i];
-        p = put_integer(z as i32, out, p);
-        i += 1;
+    let mut end = at;
+    for z in zs {
+        end = put_integer(i32::from(*z), out, end);
     }
-    p
+    end
 }
 
 // A letter and two numbers.

@@ -34,8 +34,8 @@ fn body_parts(shape: Shape, body: &[u8], place: u32) -> Parts
 {
     let n = body.len() / 2;
     let mut coefficients = narrow_zeros();
-    read_numbers(body, &mut coefficients[0..n]);
-    why::parts(shape, &coefficients[0..n], place)
+    read_numbers(body, &mut coefficients[..n]);
+    why::parts(shape, &coefficients[..n], place)
 }
 
 // No parts.
@@ -58,23 +58,20 @@ pub fn named(file: &[u8], n: usize, place: u32) -> Reasons
 {
     let cursor = pick(file, n);
     let advance = cursor.advance(file);
-    let number = advance.number;
-    let tag = advance.tag;
-    let offset = cursor.at;
     let shape = cursor.shape;
-    if tag == 2 {
+    if advance.tag == 2 {
         let parts = body_parts(shape, cursor.body(file), place);
         return Reasons {
             tag: 2,
-            offset,
+            offset: cursor.at,
             depth: shape.depth,
             parts,
         };
     }
     Reasons {
-        tag,
-        offset,
+        tag: advance.tag,
+        offset: cursor.at,
         depth: 0,
-        parts: none(number),
+        parts: none(advance.number),
     }
 }

@@ -130,19 +130,21 @@ module _ (sh : Shape) (r : List ℤ) (t : Took sh r) (n : ℕ) (room : n ≡ min
   pub part-fit : n ≤ length (l ++ rest)
   part-fit = simp length-append (omega (arith, all))
 
-  part-is : take (n - 0) (l ++ rest) ≡ returned sh r
-  part-is = part_same n l rest all ∙ e
+  part-is : take n (l ++ rest) ≡ returned sh r
+  part-is =
+      let whole : n ≡ n - 0 = omega arith in
+      ap (λ (k : ℕ). take k (l ++ rest)) whole ∙ part_same n l rest all ∙ e
 
-  pub part-long : length r ≡ length (take (n - 0) (l ++ rest))
+  pub part-long : length r ≡ length (take n (l ++ rest))
   part-long = omega (arith, t.long, ap length part-is, returned-long sh r)
 
-  pub part_in : NoneAbove 262144 (take (n - 0) (l ++ rest))
+  pub part_in : NoneAbove 262144 (take n (l ++ rest))
   part_in = subst (NoneAbove 262144) (sym part-is) (returned-in sh r t.taken)
 
-  pub largest-is : greatest (length r) (apart r (take (n - 0) (l ++ rest))) ≡ largest sh r
+  pub largest-is : greatest (length r) (apart r (take n (l ++ rest))) ≡ largest sh r
   unfolding largest
   largest-is = λ i. greatest (t.long i) (apart r (part-is i))
 
-  pub squares-is : sumℕ (length r) (λ k. apart r (take (n - 0) (l ++ rest)) k * apart r (take (n - 0) (l ++ rest)) k) ≡ squares sh r
+  pub squares-is : sumℕ (length r) (λ k. apart r (take n (l ++ rest)) k * apart r (take n (l ++ rest)) k) ≡ squares sh r
   unfolding squares
   squares-is = λ i. sumℕ (t.long i) (λ k. apart r (part-is i) k * apart r (part-is i) k)

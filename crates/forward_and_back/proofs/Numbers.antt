@@ -4,10 +4,16 @@ use Prim.Native.Nat.{ℕ, zero, suc, ◌+◌, ◌*◌, ◌≤◌, ◌<◌, max}
 use native.Mathlib.Nat.{mul-le-mul}
 use native.Mathlib.Omega.{arith}
 use lib.IntN.{ℤ, nat_abs, neg_ℤ, ◌-ℤ◌}
+use Rattle.std.specs.Ordering.{ord_max, nat_cmp}
+use Rattle.std.proofs.lemmas.Bool.Decides.{nat_tests}
 use Rattle.algebra.specs.Sum.{sumℕ}
 use Rattle.algebra.proofs.Sum.{sumℕ-mono, sumℕ-const}
 use Rattle.algebra.proofs.Order.{abs-add, abs_neg}
 use Rattle.forward_and_back.specs.Trip.{greatest}
+
+-- the larger of two, as the library's `max` has it
+pub max_is : (a b : ℕ) → ord_max nat_cmp a b ≡ max a b
+max_is a b = grind (arith, nat_tests)
 
 -- ---- the largest of the first k, and of one more
 pub greatest-none : (f : ℕ → ℕ) → greatest 0 f ≡ 0

@@ -3,7 +3,7 @@
 use Rattle.std.specs.Prelude.{List, [], ◌∷◌, ◌++◌, ℕ, zero, suc, ◌*◌, max, ℤ, nat_abs, ◌-ℤ◌, length}
 use Rattle.algebra.specs.Sum.{sumℕ}
 use Rattle.algebra.specs.Lists.{at}
-use Rattle.algebra.specs.Refusals.{Refusal, first_of}
+use Rattle.algebra.specs.Refusals.{Test, first_of}
 use Rattle.meaning.specs.declared.Shape.{Shape}
 use Rattle.meaning.specs.declared.Answer.{Answer}
 use Rattle.meaning.specs.Plan.{plan_of}
@@ -15,7 +15,7 @@ abbrev pub elements : Shape → ℕ
 elements sh = sh.width * sh.height
 
 -- the forward's refusals, without 7: nothing is written that could have another length
-abbrev pub trip_tests : Shape → List ℤ → List Refusal
+abbrev pub trip_tests : Shape → List ℤ → List Test
 trip_tests sh r =
     shape_tests sh ++ (input_test (elements sh) (length r) ∷ too_large_test sh r ∷ [])
 

@@ -2,26 +2,18 @@
 // block is refused. Read specs/Trip; of proofs/, Back (the way back refuses nothing).
 #![tactic(auto)]
 
-ghost use Rattle.std.specs.Prelude.{◌≡◌, ◌*◌, ◌≤◌, max, min, nat_abs, ◌-ℤ◌, length};
+ghost use Rattle.std.specs.Prelude.{◌≡◌, ◌*◌, ◌≤◌, min, nat_abs, ◌-ℤ◌, length};
 ghost use Rattle.algebra.specs.Sum.{sumℕ};
 ghost use Rattle.meaning.specs.Taken.{NoneAbove};
 ghost use Rattle.forward_and_back.specs.Trip.{trip_answer, returned, apart, greatest, largest, squares};
 
 use meaning::{Answer, Shape};
 
-// The size of a difference. What an inverse returns is no larger than 2^18.
+// The size of a difference.
 fn difference(given: i16, back: i32) -> u64
-    requires { nat_abs back ≤ 262144 }
     ensures { result ≡ nat_abs (given -ℤ back) }
 {
-    let z = given as i32 - back;
-    if z < 0 { (0 - z) as u64 } else { z as u64 }
-}
-
-pub fn larger(a: u64, b: u64) -> u64
-    ensures { result ≡ max a b }
-{
-    if a < b { b } else { a }
+    u64::from(i32::from(given).abs_diff(back))
 }
 
 fn largest_difference(given: &[i16], back: &[i32]) -> u64
@@ -29,10 +21,8 @@ fn largest_difference(given: &[i16], back: &[i32]) -> u64
     ensures { result ≡ greatest (length given.now) (apart given.now back.now) }
 {
     let mut most = 0;
-    let mut k = 0;
-    while k < given.len() {
-        most = larger(most, difference(given[k], back[k]));
-        k += 1;
+    for k in 0..given.len() {
+        most = most.max(difference(given[k], back[k]));
     }
     most
 }
@@ -42,11 +32,9 @@ fn squared_differences(given: &[i16], back: &[i32]) -> u64
     ensures { result ≡ sumℕ (length given.now) (λ k. apart given.now back.now k * apart given.now back.now k) }
 {
     let mut sum: u64 = 0;
-    let mut k = 0;
-    while k < given.len() {
+    for k in 0..given.len() {
         let size = difference(given[k], back[k]);
         sum += size * size;
-        k += 1;
     }
     sum
 }
@@ -62,8 +50,7 @@ fn there_and_back(
     ensures { (result ≡ trip_answer shape residuals.now) × (result.number ≡ 0 → back.new ≡ returned shape residuals.now) }
 {
     let forward = block::forward(shape, residuals, coefficients);
-    let number = forward.number;
-    if number != 0 {
+    if forward.number != 0 {
         return forward;
     }
     block::inverse(shape, coefficients, back)
@@ -77,42 +64,23 @@ pub struct Measured {
     pub squares: u64,
 }
 
-fn narrow_zeros() -> [i16; 1024]
-    ensures { length result ≡ 1024 }
-{
-    [0; 1024]
-}
-
-fn wide_zeros() -> [i32; 1024]
-    ensures { length result ≡ 1024 }
-{
-    [0; 1024]
-}
-
-// No block has more than 1,024 residuals.
-fn room(n: usize) -> usize
-    ensures { result ≡ min n 1024 }
-{
-    if n < 1024 { n } else { 1024 }
-}
-
 pub fn trip(shape: Shape, residuals: &[i16]) -> Measured
     ensures { (result.answer ≡ trip_answer shape residuals.now) × (result.answer.number ≡ 0 → (result.largest ≡ largest shape residuals.now) × (result.squares ≡ squares shape residuals.now)) }
 {
-    let n = room(residuals.len());
-    let mut coefficients = narrow_zeros();
-    let mut back = wide_zeros();
-    let answer = there_and_back(shape, residuals, &mut coefficients[0..n], &mut back[0..n]);
-    let number = answer.number;
-    if number != 0 {
+    // No block has more than 1,024 residuals.
+    let n = residuals.len().min(1024);
+    let mut coefficients = [0i16; 1024];
+    let mut back = [0i32; 1024];
+    let answer = there_and_back(shape, residuals, &mut coefficients[..n], &mut back[..n]);
+    if answer.number != 0 {
         return Measured {
             answer,
             largest: 0,
             squares: 0,
         };
     }
-    let largest = largest_difference(residuals, &back[0..n]);
-    let squares = squared_differences(residuals, &back[0..n]);
+    let largest = largest_difference(residuals, &back[..n]);
+    let squares = squared_differences(residuals, &back[..n]);
     Measured {
         answer,
         largest,

@@ -33,17 +33,15 @@ fn put_lines(
     ensures { Stage kept wide some (line_value pairs a.now step gap b.now apart shift) out.new out.old }
 {
     let half = half(shift);
-    let end = a.len();
     let mut e = [0i32; 32];
-    let mut y = 0;
-    while y < some {
+    for y in 0..some {
         let o = step * y;
         let q = y * wide;
         let f = q + kept;
         lines(
             pairs,
             apart,
-            &a[o..end],
+            &a[o..],
             step,
             gap,
             b,
@@ -54,7 +52,6 @@ fn put_lines(
             &mut e,
         );
         narrow(&e, &mut out[q..f]);
-        y += 1;
     }
 }
 

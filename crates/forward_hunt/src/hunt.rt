@@ -2,6 +2,7 @@
 // the smallest, eight at a time, say whether there is any, and the hunt runs only where there is.
 ghost use Rattle.std.specs.Prelude.{◌≡◌, true, false, ℕ, ◌*◌, ◌-◌, ◌^◌, ◌<◌, ltb, nat_abs, ◌≤ℤ◌, length};
 ghost use Rattle.algebra.specs.Lists.{at};
+ghost use Rattle.algebra.specs.First.{found};
 ghost use Rattle.meaning.specs.Shape.{is_depth};
 ghost use Rattle.meaning.specs.Forward.{first_too_large};
 ghost use Rattle.meaning.specs.Taken.{NoneAbove};
@@ -12,12 +13,7 @@ use meaning::Shape;
 fn size(z: i16) -> u32
     ensures { result ≡ nat_abs z }
 {
-    let wide = z as i32;
-    if wide < 0 {
-        (0 - wide) as u32
-    } else {
-        wide as u32
-    }
+    u32::from(z.unsigned_abs())
 }
 
 fn power(n: u32) -> u32
@@ -35,50 +31,32 @@ fn too_large(depth: u32, z: i16) -> bool
     power(depth) - 1 < size(z)
 }
 
-// The place of the first residual that is too large, row by row, or how many residuals there are.
-fn searched(shape: Shape, residuals: &[i16]) -> usize
+// The place of the first residual that is too large, row by row.
+fn searched(shape: Shape, residuals: &[i16]) -> Option<usize>
     requires { (is_depth shape.depth ≡ true) × (length residuals.now ≡ shape.width * shape.height) }
-    ensures { result ≡ first_too_large shape residuals.now }
+    ensures { result ≡ found (length residuals.now) (first_too_large shape residuals.now) }
 {
     let w = shape.width as usize;
     let h = shape.height as usize;
-    let mut place = residuals.len();
-    let mut y = 0;
-    'hunt: while y < h {
-        let mut x = 0;
-        while x < w {
+    let mut place = None;
+    'hunt: for y in 0..h {
+        for x in 0..w {
             let at = x + y * w;
             if too_large(shape.depth, residuals[at]) {
-                place = at;
+                place = Some(at);
                 break 'hunt;
             }
-            x += 1;
         }
-        y += 1;
     }
     place
-}
-
-fn larger(a: i16, b: i16) -> i16
-    ensures { (a ≤ℤ result) × (b ≤ℤ result) }
-{
-    if a < b { b } else { a }
-}
-
-fn smaller(a: i16, b: i16) -> i16
-    ensures { (result ≤ℤ a) × (result ≤ℤ b) }
-{
-    if b < a { b } else { a }
 }
 
 fn largest(r: &[i16]) -> i16
     ensures { (k : ℕ) → k < length r.now → at r.now k ≤ℤ result }
 {
     let mut m: i16 = 0;
-    let mut i = 0;
-    while i < r.len() {
-        m = larger(m, r[i]);
-        i += 1;
+    for z in r {
+        m = m.max(*z);
     }
     m
 }
@@ -87,10 +65,8 @@ fn smallest(r: &[i16]) -> i16
     ensures { (k : ℕ) → k < length r.now → result ≤ℤ at r.now k }
 {
     let mut m: i16 = 0;
-    let mut i = 0;
-    while i < r.len() {
-        m = smaller(m, r[i]);
-        i += 1;
+    for z in r {
+        m = m.min(*z);
     }
     m
 }
@@ -99,18 +75,16 @@ fn any_too_large(depth: u32, r: &[i16]) -> bool
     requires { is_depth depth ≡ true }
     ensures { result ≡ false → NoneAbove (2 ^ depth - 1) r.now }
 {
-    if too_large(depth, largest(r)) {
-        return true;
-    }
-    too_large(depth, smallest(r))
+    too_large(depth, largest(r)) || too_large(depth, smallest(r))
 }
 
-pub fn first_too_large(shape: Shape, residuals: &[i16]) -> usize
+pub fn first_too_large(shape: Shape, residuals: &[i16]) -> Option<usize>
     requires { (is_depth shape.depth ≡ true) × (length residuals.now ≡ shape.width * shape.height) }
-    ensures { result ≡ first_too_large shape residuals.now }
+    ensures { result ≡ found (length residuals.now) (first_too_large shape residuals.now) }
 {
     if any_too_large(shape.depth, residuals) {
-        return searched(shape, residuals);
+        searched(shape, residuals)
+    } else {
+        None
     }
-    residuals.len()
 }

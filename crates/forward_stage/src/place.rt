@@ -9,20 +9,8 @@ pub fn narrow(e: &[i32], part: &mut [i16])
     requires { (length part.old ≤ length e.now) × ((k : ℕ) → k < length part.old → SFits w16 (at e.now k)) }
     ensures { part.new ≡ tabulate (length part.old) (at e.now) }
 {
-    let mut x = 0;
-    while x < part.len() {
+    for x in 0..part.len() {
         part[x] = e[x] as i16;
-        x += 1;
-    }
-}
-
-fn clear(out: &mut [i16])
-    ensures { out.new ≡ tabulate (length out.old) (λ _. pos 0) }
-{
-    let mut i = 0;
-    while i < out.len() {
-        out[i] = 0;
-        i += 1;
     }
 }
 
@@ -31,6 +19,6 @@ pub fn clear_beyond(kept: usize, out: &mut [i16])
     ensures { (length out.new ≡ length out.old) × (kept < length out.old → (k : ℕ) → k < length out.old → at out.new k ≡ pos 0) }
 {
     if kept < out.len() {
-        clear(out);
+        out.fill(0);
     }
 }

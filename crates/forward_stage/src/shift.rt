@@ -8,14 +8,11 @@ use meaning::Shape;
 fn log(n: u32) -> u32
     ensures { result ≡ log2 n }
 {
-    if n == 4 {
-        2
-    } else if n == 8 {
-        3
-    } else if n == 16 {
-        4
-    } else {
-        5
+    match n {
+        4 => 2,
+        8 => 3,
+        16 => 4,
+        _ => 5,
     }
 }
 

@@ -23,13 +23,11 @@ fn put(kind: u32, t: &mut [i16; 64])
     requires { is_kind kind ≡ true }
     ensures { (length t.new ≡ 64) × Laid 8 4 2 16 (λ i j. weight kind 8 i j) t.new }
 {
-    if kind == 1 {
-        *t = zipped_8(1, false);
-    } else if kind == 2 {
-        *t = zipped_8(2, false);
-    } else {
-        *t = zipped_8(0, false);
-    }
+    *t = match kind {
+        1 => zipped_8(1, false),
+        2 => zipped_8(2, false),
+        _ => zipped_8(0, false),
+    };
 }
 
 // Hands back the rail count. All of the block is worked, whatever is kept: it is zero outside of its kept part.
@@ -57,8 +55,5 @@ pub fn is_eight(shape: Shape, elements: usize) -> bool
     requires { (is_size shape.width ≡ true) × (elements ≡ shape.width * shape.height) }
     ensures { result ≡ true → Square 8 shape }
 {
-    if shape.width != shape.height {
-        return false;
-    }
-    elements == 64
+    shape.width == shape.height && elements == 64
 }

@@ -74,8 +74,5 @@ pub fn four(shape: Shape, c: &[i16], r: &mut [i32]) -> u32
 pub fn is_four(shape: Shape) -> bool
     ensures { result ≡ true → Square 4 shape }
 {
-    if shape.width != 4 {
-        return false;
-    }
-    shape.height == 4
+    shape.width == 4 && shape.height == 4
 }

@@ -19,8 +19,7 @@ pub fn rows(m: &[i16; 16], n: usize, half: i32, shift: u32, r: &mut [i32])
     requires { ((length m.now ≡ 16) × (n ≡ 4)) × (Rounding half shift × (length r.old ≡ 16)) }
     ensures { r.new ≡ block 4 4 (λ x y. shifted half shift (inverse_sum 0 4 4 (λ i. at m.now (i + y * 4)) x)) }
 {
-    let mut y = 0;
-    while y < n {
+    for y in 0..n {
         let o = 4 * y;
         let a0 = m[o];
         let a1 = m[o + 1];
@@ -30,6 +29,5 @@ pub fn rows(m: &[i16; 16], n: usize, half: i32, shift: u32, r: &mut [i32])
         r[o + 1] = round(weighed(a0, a1, a2, a3, 64, 36, -64, -83), half, shift);
         r[o + 2] = round(weighed(a0, a1, a2, a3, 64, -36, -64, 83), half, shift);
         r[o + 3] = round(weighed(a0, a1, a2, a3, 64, -83, 64, -36), half, shift);
-        y += 1;
     }
 }

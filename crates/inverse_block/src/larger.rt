@@ -23,13 +23,7 @@ pub fn larger(shape: Shape, rows: usize, columns: usize, c: &[i16], r: &mut [i32
         }
         return eight(shape, shape.horizontal, c, r);
     }
-    if 128 < h * rows {
-        return large(shape, rows, columns, c, r);
-    }
-    if 128 < h * columns {
-        return large(shape, rows, columns, c, r);
-    }
-    if 128 < w * columns {
+    if 128 < h * rows || 128 < h * columns || 128 < w * columns {
         return large(shape, rows, columns, c, r);
     }
     small(shape, rows, columns, c, r)

@@ -13,20 +13,19 @@ pub fn rows(shape: Shape, c: &[i16]) -> usize
     ensures { Live c.now shape.width shape.height result }
 {
     if is_small(shape) {
-        return shape.height as usize;
+        shape.height as usize
+    } else {
+        live_rows(c, shape.width as usize, shape.height as usize)
     }
-    live_rows(c, shape.width as usize, shape.height as usize)
 }
 
 pub fn columns(shape: Shape, rows: usize, c: &[i16]) -> usize
     requires { (is_size shape.width ≡ true) × (rows * shape.width ≤ length c.now) }
     ensures { LiveColumns c.now shape.width rows result }
 {
-    if is_small(shape) {
-        return shape.width as usize;
+    if is_small(shape) || shape.width <= 4 {
+        shape.width as usize
+    } else {
+        live_columns(c, shape.width as usize, rows)
     }
-    if shape.width <= 4 {
-        return shape.width as usize;
-    }
-    live_columns(c, shape.width as usize, rows)
 }

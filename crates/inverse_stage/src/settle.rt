@@ -11,30 +11,22 @@ ghost use Rattle.inverse_stage.specs.Settled.{rails_of};
 fn clip16(v: i32) -> i16
     ensures { result ≡ clip short_range v }
 {
-    if v < -32768 {
-        return -32768;
-    }
-    if v > 32767 {
-        return 32767;
-    }
-    v as i16
+    v.clamp(-32768, 32767) as i16
 }
 
 // Whether a middle value counts: whether the clip altered it.
 fn rail(before: i32, after: i16) -> bool
     ensures { result ≡ railed before after }
 {
-    if after as i32 == before { false } else { true }
+    i32::from(after) != before
 }
 
 fn clipped(e: &[i32], m: &mut [i16])
     requires { length e.now ≡ length m.old }
     ensures { m.new ≡ tabulate (length e.now) (λ x. clip short_range (at e.now x)) }
 {
-    let mut x = 0;
-    while x < e.len() {
+    for x in 0..e.len() {
         m[x] = clip16(e[x]);
-        x += 1;
     }
 }
 
@@ -43,12 +35,10 @@ fn any_rail(e: &[i32], m: &[i16]) -> bool
     ensures { result ≡ false → rails_of (length e.now) e.now m.now ≡ 0 }
 {
     let mut found = false;
-    let mut x = 0;
-    while x < e.len() {
+    for x in 0..e.len() {
         if rail(e[x], m[x]) {
             found = true;
         }
-        x += 1;
     }
     found
 }
@@ -58,12 +48,10 @@ fn counted(e: &[i32], m: &[i16]) -> u32
     ensures { result ≡ rails_of (length e.now) e.now m.now }
 {
     let mut n: u32 = 0;
-    let mut x = 0;
-    while x < e.len() {
+    for x in 0..e.len() {
         if rail(e[x], m[x]) {
             n += 1;
         }
-        x += 1;
     }
     n
 }

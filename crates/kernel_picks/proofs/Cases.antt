@@ -1,6 +1,6 @@
 -- Which kernels there are, one by one. Assumes nothing.
 use mathlib.Core.Path.{◌≡◌}
-use mathlib.Core.Bool.{true, ◌&&◌, ◌||◌, false≢true}
+use mathlib.Core.Bool.{true, ◌&&◌, false≢true}
 use Prim.Native.Nat.{ℕ, ◌≤◌, ◌<◌}
 use native.Mathlib.Omega.{arith}
 use lib.Dec.{eqb}

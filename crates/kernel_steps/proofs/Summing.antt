@@ -1,5 +1,5 @@
 -- Products by pairs: their sizes, and what the pairs of one output are given. Assumes nothing.
-use mathlib.Core.Path.{subst}
+use mathlib.Core.Path.{◌≡◌, sym, subst}
 use mathlib.Core.List.{List}
 use Prim.Native.Nat.{ℕ, ◌+◌, ◌*◌, ◌≤◌, ◌<◌}
 use native.Mathlib.Nat.{le_trans, mul-le-mul}
@@ -7,7 +7,8 @@ use native.Mathlib.Omega.{arith}
 use lib.ListN.{length}
 use lib.IntN.{ℤ, nat_abs, ◌+ℤ◌, ◌*ℤ◌}
 use mir.Syntax.{w16, w32}
-use mir.Val.{SFits}
+use mir.Val.{SFits, to_z, of_z}
+use mir.ValLaws.{to_z-of_z}
 use Rattle.algebra.specs.Sum.{sum}
 use Rattle.algebra.specs.Lists.{at}
 use Rattle.algebra.proofs.Order.{abs-add, abs-mul, in-fits}
@@ -20,6 +21,12 @@ pub product-size : (x y : ℤ) → nat_abs x ≤ heaviest → SFits w16 y → na
 product-size x y h g =
     let q : nat_abs x * nat_abs y ≤ heaviest * 32768 = mul-le-mul h (in-fits g).within in
     omega (arith, abs-mul x y)
+
+-- .. as the code reads them
+pub read-size : (x y : ℤ) → nat_abs x ≤ heaviest → SFits w16 y → nat_abs (to_z w16 (of_z w16 x) *ℤ to_z w16 (of_z w16 y)) ≤ product_size
+read-size x y h g =
+    let e : x *ℤ y ≡ to_z w16 (of_z w16 x) *ℤ to_z w16 (of_z w16 y) = λ t. sym (to_z-of_z w16 x (small {w = w16} {B = heaviest} (omega arith) h)) t *ℤ sym (to_z-of_z w16 y g) t in
+    subst (λ (z : ℤ). nat_abs z ≤ product_size) e (product-size x y h g)
 
 pub pair_size_lem : (x y : ℤ) → nat_abs x ≤ product_size → nat_abs y ≤ product_size → nat_abs (x +ℤ y) ≤ pair_size
 pair_size_lem x y h g = omega (arith, abs-add x y)

@@ -1,7 +1,7 @@
 // Internal: the steps of which the kernels of DCT-II blocks are made; they ask that places are in their lists, weights small and
 // sums far from 32 bits, which `kernel_levels` shows of each kernel. `lfnst` takes `some` alone. Read specs/Written and specs/Weighed, then the functions in
-// the order in which a kernel calls them: `strip_8` or `take` reads inputs, `deal` takes every other one of them, `some` multiplies
-// by pairs, `lift` adds the rounding, `butterfly` or `mirror` goes up a level, `put` or `round` writes, `spread_8_8` copies a tile
+// the order in which a kernel calls them: `strip` or `take` reads inputs, `deal` takes every other one of them, `some` multiplies
+// by pairs, `lift` adds the rounding, `butterfly` or `mirror` goes up a level, `put` or `round` writes, `spread` copies a tile
 // to its rows. Of proofs/, Writing has what a caller cites.
 //
 // Every count is a literal of the kernel and an argument here, so that LLVM unrolls the steps before it makes vectors of the
@@ -17,35 +17,15 @@ ghost use Rattle.product.specs.Product.{line_sum, pair_at};
 ghost use Rattle.kernel_steps.specs.Weighed.{Small, Weighed, WeighedPairs, pair_size, product_size, sum_size};
 ghost use Rattle.kernel_steps.specs.Written.{Ends, Spread, WroteFrom, floor};
 
-// The first rows of 4 columns, side by side. `rows` is no literal of the kernel, or LLVM reads the numbers one by one.
-pub fn strip_4(c: &[i16], w: usize, x0: usize, rows: usize, b: &mut [i16])
-    requires { (4 * rows ≤ length b.old) × ((y x : ℕ) → y < rows → x < 4 → y * w + x0 + x < length c.now) }
-    ensures { WroteFrom 0 (4 * rows) b.new b.old (λ k. at c.now (k / 4 * w + x0 + k % 4)) }
+// The first rows of K columns, side by side. `rows` is no literal of the kernel, or LLVM reads the numbers one by one.
+pub fn strip<const K: usize>(c: &[i16], w: usize, x0: usize, rows: usize, b: &mut [i16])
+    requires { (K * rows ≤ length b.old) × ((y x : ℕ) → y < rows → x < K → y * w + x0 + x < length c.now) }
+    ensures { WroteFrom 0 (K * rows) b.new b.old (λ k. at c.now (k / K * w + x0 + k % K)) }
 {
-    let mut y = 0;
-    while y < rows {
-        let mut x = 0;
-        while x < 4 {
-            b[4 * y + x] = c[y * w + x0 + x];
-            x += 1;
+    for y in 0..rows {
+        for x in 0..K {
+            b[K * y + x] = c[y * w + x0 + x];
         }
-        y += 1;
-    }
-}
-
-// The same of 8 columns.
-pub fn strip_8(c: &[i16], w: usize, x0: usize, rows: usize, b: &mut [i16])
-    requires { (8 * rows ≤ length b.old) × ((y x : ℕ) → y < rows → x < 8 → y * w + x0 + x < length c.now) }
-    ensures { WroteFrom 0 (8 * rows) b.new b.old (λ k. at c.now (k / 8 * w + x0 + k % 8)) }
-{
-    let mut y = 0;
-    while y < rows {
-        let mut x = 0;
-        while x < 8 {
-            b[8 * y + x] = c[y * w + x0 + x];
-            x += 1;
-        }
-        y += 1;
     }
 }
 
@@ -54,10 +34,8 @@ pub fn take(x: &[i16], step: usize, to: usize, n: usize, a: &mut [i16])
     requires { (to + n ≤ length a.old) × ((i : ℕ) → i < n → i * step < length x.now) }
     ensures { WroteFrom to n a.new a.old (λ i. at x.now (i * step)) }
 {
-    let mut i = 0;
-    while i < n {
+    for i in 0..n {
         a[to + i] = x[i * step];
-        i += 1;
     }
 }
 
@@ -66,25 +44,9 @@ pub fn deal(x: &[i16], from: usize, step: usize, n: usize, a: &mut [i16])
     requires { (n ≤ length a.old) × ((i : ℕ) → i < n → from + i * step < length x.now) }
     ensures { WroteFrom 0 n a.new a.old (λ i. at x.now (from + i * step)) }
 {
-    let mut i = 0;
-    while i < n {
+    for i in 0..n {
         a[i] = x[from + i * step];
-        i += 1;
     }
-}
-
-fn plus(a: i32, b: i32) -> i32
-    requires { (nat_abs a ≤ 1000000000) × (nat_abs b ≤ 1000000000) }
-    ensures { result ≡ a +ℤ b }
-{
-    a + b
-}
-
-fn minus(a: i32, b: i32) -> i32
-    requires { (nat_abs a ≤ 1000000000) × (nat_abs b ≤ 1000000000) }
-    ensures { result ≡ a -ℤ b }
-{
-    a - b
 }
 
 // a * v + b * w, exact.
@@ -100,12 +62,10 @@ fn products(a: &[i16], b: &[i16], o: usize, apart: usize, pairs: usize, s: &mut 
     requires { WeighedPairs pairs a.now b.now o apart × (length s.old ≡ 8) }
     ensures { (k : ℕ) → k < pairs → (at s.new k ≡ pair_at a.now 0 2 b.now o apart k) × (nat_abs (at s.new k) ≤ pair_size) }
 {
-    let mut k = 0;
-    while k < pairs {
+    for k in 0..pairs {
         let i = 2 * k;
         let x = o + k * apart;
         s[k] = pair(b[x + 1], a[i + 1], b[x], a[i]);
-        k += 1;
     }
 }
 
@@ -114,10 +74,8 @@ fn total(s: &[i32; 8], pairs: usize) -> i32
     ensures { result ≡ sum pairs (at s.now) }
 {
     let mut sum = 0;
-    let mut k = 0;
-    while k < pairs {
-        sum = plus(sum, s[k]);
-        k += 1;
+    for k in 0..pairs {
+        sum += s[k];
     }
     sum
 }
@@ -127,12 +85,10 @@ pub fn some(pairs: usize, apart: usize, a: &[i16], b: &[i16], j: usize, e: usize
     requires { Weighed e pairs a.now b.now apart × ((j ≤ e) × (e ≤ length out.old)) }
     ensures { WroteFrom j (e - j) out.new out.old (λ i. line_sum a.now 0 2 b.now apart pairs (j + i)) × ((i : ℕ) → i < e - j → nat_abs (line_sum a.now 0 2 b.now apart pairs (j + i)) ≤ sum_size) }
 {
-    let mut i = j;
-    while i < e {
+    for i in j..e {
         let mut s = [0i32; 8];
         products(a, b, 2 * i, apart, pairs, &mut s);
         out[i] = total(&s, pairs);
-        i += 1;
     }
 }
 
@@ -141,10 +97,8 @@ pub fn lift(half: i32, n: usize, e: &mut [i32])
     requires { (nat_abs half ≤ 1000000000) × Small n e.old }
     ensures { WroteFrom 0 n e.new e.old (λ j. at e.old j +ℤ half) }
 {
-    let mut j = 0;
-    while j < n {
-        e[j] = plus(e[j], half);
-        j += 1;
+    for j in 0..n {
+        e[j] += half;
     }
 }
 
@@ -153,11 +107,9 @@ pub fn butterfly(e: &[i32], o: &[i32], h: usize, from: usize, to: usize, out: &m
     requires { Small to e.now × (Small to o.now × ((from ≤ to) × ((to ≤ h) × (h + h ≤ length out.old)))) }
     ensures { Ends from to h (λ j. at e.now j +ℤ at o.now j) (λ j. at e.now j -ℤ at o.now j) out.new out.old }
 {
-    let mut j = from;
-    while j < to {
-        out[j] = plus(e[j], o[j]);
-        out[h + h - 1 - j] = minus(e[j], o[j]);
-        j += 1;
+    for j in from..to {
+        out[j] = e[j] + o[j];
+        out[h + h - 1 - j] = e[j] - o[j];
     }
 }
 
@@ -166,30 +118,16 @@ pub fn mirror(e: &[i32], h: usize, from: usize, to: usize, out: &mut [i32])
     requires { (to ≤ length e.now) × ((from ≤ to) × ((to ≤ h) × (h + h ≤ length out.old))) }
     ensures { Ends from to h (at e.now) (at e.now) out.new out.old }
 {
-    let mut j = from;
-    while j < to {
+    for j in from..to {
         out[j] = e[j];
         out[h + h - 1 - j] = e[j];
-        j += 1;
     }
 }
 
-fn clip16(v: i32) -> i16
+pub fn clip16(v: i32) -> i16
     ensures { result ≡ clip short_range v }
 {
-    if v < -32768 {
-        return -32768;
-    }
-    if v > 32767 {
-        return 32767;
-    }
-    v as i16
-}
-
-fn shifted7(v: i32) -> i32
-    ensures { result ≡ floor 7 v }
-{
-    v >> 7
+    v.clamp(-32768, 32767) as i16
 }
 
 // Middle values, 8 of a column side by side: a tile of the block, turned.
@@ -197,18 +135,9 @@ pub fn put(y: &[i32], from: usize, n: usize, o: usize, m: &mut [i16])
     requires { (from + n ≤ length y.now) × (o + n ≤ length m.old) }
     ensures { WroteFrom o n m.new m.old (λ j. clip short_range (floor 7 (at y.now (from + j)))) }
 {
-    let mut j = 0;
-    while j < n {
-        m[o + j] = clip16(shifted7(y[from + j]));
-        j += 1;
+    for j in 0..n {
+        m[o + j] = clip16(y[from + j] >> 7);
     }
-}
-
-fn shifted(v: i32, shift: u32) -> i32
-    requires { shift < 32 }
-    ensures { result ≡ floor shift v }
-{
-    v >> shift
 }
 
 // Residuals of one row; `lift` has added the half.
@@ -216,57 +145,19 @@ pub fn round(y: &[i32], from: usize, n: usize, half: i32, shift: u32, o: usize, 
     requires { (shift < 32) × ((from + n ≤ length y.now) × (o + n ≤ length r.old)) }
     ensures { WroteFrom o n r.new r.old (λ j. floor shift (at y.now (from + j))) }
 {
-    let mut j = 0;
-    while j < n {
-        r[o + j] = shifted(y[from + j], shift);
-        j += 1;
+    for j in 0..n {
+        r[o + j] = y[from + j] >> shift;
     }
 }
 
-// A tile of 4 columns and 8 rows into the columns of r from b on.
-pub fn spread_4_8(e: &[i32; 32], b: usize, n: usize, r: &mut [i32])
-    requires { (length e.now ≡ 32) × ((b + 4 ≤ n) × (8 * n ≤ length r.old)) }
-    ensures { Spread 4 8 b n (λ j y. at e.now (4 * y + j)) r.new r.old }
+// A tile of K columns and ROWS rows into the columns of r from b on.
+pub fn spread<const K: usize, const ROWS: usize>(e: &[i32], b: usize, n: usize, r: &mut [i32])
+    requires { (length e.now ≡ K * ROWS) × ((b + K ≤ n) × (ROWS * n ≤ length r.old)) }
+    ensures { Spread K ROWS b n (λ j y. at e.now (K * y + j)) r.new r.old }
 {
-    let mut y = 0;
-    while y < 8 {
-        let mut j = 0;
-        while j < 4 {
-            r[y * n + b + j] = e[4 * y + j];
-            j += 1;
+    for y in 0..ROWS {
+        for j in 0..K {
+            r[y * n + b + j] = e[K * y + j];
         }
-        y += 1;
-    }
-}
-
-// A tile of 8 columns and 4 rows.
-pub fn spread_8_4(e: &[i32; 32], b: usize, n: usize, r: &mut [i32])
-    requires { (length e.now ≡ 32) × ((b + 8 ≤ n) × (4 * n ≤ length r.old)) }
-    ensures { Spread 8 4 b n (λ j y. at e.now (8 * y + j)) r.new r.old }
-{
-    let mut y = 0;
-    while y < 4 {
-        let mut j = 0;
-        while j < 8 {
-            r[y * n + b + j] = e[8 * y + j];
-            j += 1;
-        }
-        y += 1;
-    }
-}
-
-// A tile of 8 columns and 8 rows.
-pub fn spread_8_8(e: &[i32; 64], b: usize, n: usize, r: &mut [i32])
-    requires { (length e.now ≡ 64) × ((b + 8 ≤ n) × (8 * n ≤ length r.old)) }
-    ensures { Spread 8 8 b n (λ j y. at e.now (8 * y + j)) r.new r.old }
-{
-    let mut y = 0;
-    while y < 8 {
-        let mut j = 0;
-        while j < 8 {
-            r[y * n + b + j] = e[8 * y + j];
-            j += 1;
-        }
-        y += 1;
     }
 }

@@ -8,7 +8,7 @@ ghost use Rattle.algebra.specs.Lists.{block};
 ghost use Rattle.product.specs.Product.{shifted};
 ghost use Rattle.kernel_levels.specs.Kernels.{Rowed, rows_sum};
 
-use kernel_steps::{butterfly, deal, lift, mirror, round, some, spread_8_4, spread_8_8, take};
+use kernel_steps::{butterfly, deal, lift, mirror, round, some, spread, take};
 
 const FIRST_2_2: [i16; 4] = [64, 64, 64, -64];
 
@@ -42,8 +42,7 @@ pub fn along_16_4_8(m: &[i16], apart: usize, many: usize, half: i32, shift: u32,
 {
     let mut r0 = [0i32; 64];
     let mut r1 = [0i32; 64];
-    let mut l = 0;
-    while l < 8 {
+    for l in 0..8 {
         let mut a = [0i16; 4];
         let i0 = l;
         take(&m[i0..], 8, 0, 4, &mut a);
@@ -72,10 +71,9 @@ pub fn along_16_4_8(m: &[i16], apart: usize, many: usize, half: i32, shift: u32,
         butterfly(&e8, &o16, 8, 0, 8, &mut y);
         round(&y, 0, 8, half, shift, 8 * l, &mut r0);
         round(&y, 8, 8, half, shift, 8 * l, &mut r1);
-        l += 1;
     }
-    spread_8_8(&r0, 0, 16, r);
-    spread_8_8(&r1, 8, 16, r);
+    spread::<8, 8>(&r0, 0, 16, r);
+    spread::<8, 8>(&r1, 8, 16, r);
 }
 
 // 8 rows of 16 numbers, the first 16 of them live.
@@ -85,8 +83,7 @@ pub fn along_16_16_8(m: &[i16], apart: usize, many: usize, half: i32, shift: u32
 {
     let mut r0 = [0i32; 64];
     let mut r1 = [0i32; 64];
-    let mut l = 0;
-    while l < 8 {
+    for l in 0..8 {
         let mut a = [0i16; 16];
         let i0 = l;
         take(&m[i0..], 8, 0, 8, &mut a);
@@ -122,10 +119,9 @@ pub fn along_16_16_8(m: &[i16], apart: usize, many: usize, half: i32, shift: u32
         butterfly(&e8, &o16, 8, 0, 8, &mut y);
         round(&y, 0, 8, half, shift, 8 * l, &mut r0);
         round(&y, 8, 8, half, shift, 8 * l, &mut r1);
-        l += 1;
     }
-    spread_8_8(&r0, 0, 16, r);
-    spread_8_8(&r1, 8, 16, r);
+    spread::<8, 8>(&r0, 0, 16, r);
+    spread::<8, 8>(&r1, 8, 16, r);
 }
 
 // 4 rows of 16 numbers, the first 16 of them live.
@@ -135,8 +131,7 @@ pub fn along_16_16_4(m: &[i16], apart: usize, many: usize, half: i32, shift: u32
 {
     let mut r0 = [0i32; 32];
     let mut r1 = [0i32; 32];
-    let mut l = 0;
-    while l < 4 {
+    for l in 0..4 {
         let mut a = [0i16; 16];
         let i0 = l;
         take(&m[i0..], 4, 0, 8, &mut a);
@@ -172,8 +167,7 @@ pub fn along_16_16_4(m: &[i16], apart: usize, many: usize, half: i32, shift: u32
         butterfly(&e8, &o16, 8, 0, 8, &mut y);
         round(&y, 0, 8, half, shift, 8 * l, &mut r0);
         round(&y, 8, 8, half, shift, 8 * l, &mut r1);
-        l += 1;
     }
-    spread_8_4(&r0, 0, 16, r);
-    spread_8_4(&r1, 8, 16, r);
+    spread::<8, 4>(&r0, 0, 16, r);
+    spread::<8, 4>(&r1, 8, 16, r);
 }

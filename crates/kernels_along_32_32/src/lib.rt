@@ -8,7 +8,7 @@ ghost use Rattle.algebra.specs.Lists.{block};
 ghost use Rattle.product.specs.Product.{shifted};
 ghost use Rattle.kernel_levels.specs.Kernels.{Rowed, rows_sum};
 
-use kernel_steps::{butterfly, deal, lift, round, some, spread_8_8, take};
+use kernel_steps::{butterfly, deal, lift, round, some, spread, take};
 
 const FIRST_2_2: [i16; 4] = [64, 64, 64, -64];
 
@@ -57,8 +57,7 @@ pub fn along_32_32_8(m: &[i16], apart: usize, many: usize, half: i32, shift: u32
     let mut r1 = [0i32; 64];
     let mut r2 = [0i32; 64];
     let mut r3 = [0i32; 64];
-    let mut l = 0;
-    while l < 8 {
+    for l in 0..8 {
         let mut a = [0i16; 32];
         let i0 = l;
         take(&m[i0..], 8, 0, 8, &mut a);
@@ -114,10 +113,9 @@ pub fn along_32_32_8(m: &[i16], apart: usize, many: usize, half: i32, shift: u32
         round(&y, 8, 8, half, shift, 8 * l, &mut r1);
         round(&y, 16, 8, half, shift, 8 * l, &mut r2);
         round(&y, 24, 8, half, shift, 8 * l, &mut r3);
-        l += 1;
     }
-    spread_8_8(&r0, 0, 32, r);
-    spread_8_8(&r1, 8, 32, r);
-    spread_8_8(&r2, 16, 32, r);
-    spread_8_8(&r3, 24, 32, r);
+    spread::<8, 8>(&r0, 0, 32, r);
+    spread::<8, 8>(&r1, 8, 32, r);
+    spread::<8, 8>(&r2, 16, 32, r);
+    spread::<8, 8>(&r3, 24, 32, r);
 }

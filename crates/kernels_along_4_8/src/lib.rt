@@ -8,7 +8,7 @@ ghost use Rattle.algebra.specs.Lists.{block};
 ghost use Rattle.product.specs.Product.{shifted};
 ghost use Rattle.kernel_levels.specs.Kernels.{Rowed, rows_sum};
 
-use kernel_steps::{butterfly, deal, lift, round, some, spread_4_8, spread_8_4, spread_8_8, take};
+use kernel_steps::{butterfly, deal, lift, round, some, spread, take};
 
 const FIRST_2_2: [i16; 4] = [64, 64, 64, -64];
 
@@ -28,8 +28,7 @@ pub fn along_4_4_8(m: &[i16], apart: usize, many: usize, half: i32, shift: u32, 
     ensures { r.new ≡ block 4 8 (λ j l. shifted half shift (rows_sum 4 4 8 apart m.now j l)) }
 {
     let mut r0 = [0i32; 32];
-    let mut l = 0;
-    while l < many {
+    for l in 0..many {
         let mut a = [0i16; 4];
         let i0 = l;
         take(&m[i0..], 8, 0, 4, &mut a);
@@ -47,9 +46,8 @@ pub fn along_4_4_8(m: &[i16], apart: usize, many: usize, half: i32, shift: u32, 
         some(1, 4, &z4, &w4, 0, 2, &mut o4);
         butterfly(&e2, &o4, 2, 0, 2, &mut y);
         round(&y, 0, 4, half, shift, 4 * l, &mut r0);
-        l += 1;
     }
-    spread_4_8(&r0, 0, 4, r);
+    spread::<4, 8>(&r0, 0, 4, r);
 }
 
 // 8 rows of 8 numbers, the first 4 of them live.
@@ -58,8 +56,7 @@ pub fn along_8_4_8(m: &[i16], apart: usize, many: usize, half: i32, shift: u32, 
     ensures { r.new ≡ block 8 8 (λ j l. shifted half shift (rows_sum 8 4 8 apart m.now j l)) }
 {
     let mut r0 = [0i32; 64];
-    let mut l = 0;
-    while l < 8 {
+    for l in 0..8 {
         let mut a = [0i16; 4];
         let i0 = l;
         take(&m[i0..], 8, 0, 4, &mut a);
@@ -84,9 +81,8 @@ pub fn along_8_4_8(m: &[i16], apart: usize, many: usize, half: i32, shift: u32, 
         some(1, 8, &z8, &w8, 0, 4, &mut o8);
         butterfly(&e4, &o8, 4, 0, 4, &mut y);
         round(&y, 0, 8, half, shift, 8 * l, &mut r0);
-        l += 1;
     }
-    spread_8_8(&r0, 0, 8, r);
+    spread::<8, 8>(&r0, 0, 8, r);
 }
 
 // 8 rows of 8 numbers, the first 8 of them live.
@@ -95,8 +91,7 @@ pub fn along_8_8_8(m: &[i16], apart: usize, many: usize, half: i32, shift: u32, 
     ensures { r.new ≡ block 8 8 (λ j l. shifted half shift (rows_sum 8 8 8 apart m.now j l)) }
 {
     let mut r0 = [0i32; 64];
-    let mut l = 0;
-    while l < 8 {
+    for l in 0..8 {
         let mut a = [0i16; 8];
         let i0 = l;
         take(&m[i0..], 8, 0, 8, &mut a);
@@ -121,9 +116,8 @@ pub fn along_8_8_8(m: &[i16], apart: usize, many: usize, half: i32, shift: u32, 
         some(2, 8, &z8, &w8, 0, 4, &mut o8);
         butterfly(&e4, &o8, 4, 0, 4, &mut y);
         round(&y, 0, 8, half, shift, 8 * l, &mut r0);
-        l += 1;
     }
-    spread_8_8(&r0, 0, 8, r);
+    spread::<8, 8>(&r0, 0, 8, r);
 }
 
 // 4 rows of 8 numbers, the first 8 of them live.
@@ -132,8 +126,7 @@ pub fn along_8_8_4(m: &[i16], apart: usize, many: usize, half: i32, shift: u32, 
     ensures { r.new ≡ block 8 4 (λ j l. shifted half shift (rows_sum 8 8 4 apart m.now j l)) }
 {
     let mut r0 = [0i32; 32];
-    let mut l = 0;
-    while l < 4 {
+    for l in 0..4 {
         let mut a = [0i16; 8];
         let i0 = l;
         take(&m[i0..], 4, 0, 8, &mut a);
@@ -158,7 +151,6 @@ pub fn along_8_8_4(m: &[i16], apart: usize, many: usize, half: i32, shift: u32, 
         some(2, 8, &z8, &w8, 0, 4, &mut o8);
         butterfly(&e4, &o8, 4, 0, 4, &mut y);
         round(&y, 0, 8, half, shift, 8 * l, &mut r0);
-        l += 1;
     }
-    spread_8_4(&r0, 0, 8, r);
+    spread::<8, 4>(&r0, 0, 8, r);
 }

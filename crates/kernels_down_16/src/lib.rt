@@ -8,7 +8,7 @@ ghost use Rattle.meaning.specs.Plan.{short_range};
 ghost use Rattle.meaning.specs.Inverse.{middle};
 ghost use Rattle.kernel_levels.specs.Kernels.{Strip, strip_sum, Turned};
 
-use kernel_steps::{butterfly, deal, lift, mirror, put, some, strip_4, strip_8};
+use kernel_steps::{butterfly, deal, lift, mirror, put, some, strip};
 
 const FIRST_2_2: [i16; 4] = [64, 64, 64, -64];
 
@@ -41,9 +41,8 @@ pub fn down_16_4_8(c: &[i16], w: usize, x0: usize, rows: usize, many: usize, m: 
     ensures { Turned 8 8 16 (λ x y. middle short_range (strip_sum 16 w x0 rows c.now x y)) m.new }
 {
     let mut b = [0i16; 32];
-    strip_8(c, w, x0, rows, &mut b);
-    let mut x = 0;
-    while x < 8 {
+    strip::<8>(c, w, x0, rows, &mut b);
+    for x in 0..8 {
         let mut a = [0i16; 4];
         deal(&b, x, 8, 4, &mut a);
         let mut b2 = [0i16; 2];
@@ -71,7 +70,6 @@ pub fn down_16_4_8(c: &[i16], w: usize, x0: usize, rows: usize, many: usize, m: 
         butterfly(&e8, &o16, 8, 0, 8, &mut y);
         put(&y, 0, 8, 8 * x, m);
         put(&y, 8, 8, 64 + 8 * x, m);
-        x += 1;
     }
 }
 
@@ -81,9 +79,8 @@ pub fn down_16_16_8(c: &[i16], w: usize, x0: usize, rows: usize, many: usize, m:
     ensures { Turned 8 8 16 (λ x y. middle short_range (strip_sum 16 w x0 rows c.now x y)) m.new }
 {
     let mut b = [0i16; 128];
-    strip_8(c, w, x0, rows, &mut b);
-    let mut x = 0;
-    while x < 8 {
+    strip::<8>(c, w, x0, rows, &mut b);
+    for x in 0..8 {
         let mut a = [0i16; 16];
         deal(&b, x, 8, 16, &mut a);
         let mut b2 = [0i16; 2];
@@ -116,7 +113,6 @@ pub fn down_16_16_8(c: &[i16], w: usize, x0: usize, rows: usize, many: usize, m:
         butterfly(&e8, &o16, 8, 0, 8, &mut y);
         put(&y, 0, 8, 8 * x, m);
         put(&y, 8, 8, 64 + 8 * x, m);
-        x += 1;
     }
 }
 
@@ -126,9 +122,8 @@ pub fn down_16_16_4(c: &[i16], w: usize, x0: usize, rows: usize, many: usize, m:
     ensures { Turned 8 4 16 (λ x y. middle short_range (strip_sum 16 w x0 rows c.now x y)) m.new }
 {
     let mut b = [0i16; 64];
-    strip_4(c, w, x0, rows, &mut b);
-    let mut x = 0;
-    while x < 4 {
+    strip::<4>(c, w, x0, rows, &mut b);
+    for x in 0..4 {
         let mut a = [0i16; 16];
         deal(&b, x, 4, 16, &mut a);
         let mut b2 = [0i16; 2];
@@ -161,6 +156,5 @@ pub fn down_16_16_4(c: &[i16], w: usize, x0: usize, rows: usize, many: usize, m:
         butterfly(&e8, &o16, 8, 0, 8, &mut y);
         put(&y, 0, 8, 8 * x, m);
         put(&y, 8, 8, 32 + 8 * x, m);
-        x += 1;
     }
 }

@@ -8,7 +8,7 @@ ghost use Rattle.meaning.specs.Plan.{short_range};
 ghost use Rattle.meaning.specs.Inverse.{middle};
 ghost use Rattle.kernel_levels.specs.Kernels.{Strip, strip_sum, Turned};
 
-use kernel_steps::{butterfly, deal, lift, mirror, put, some, strip_8};
+use kernel_steps::{butterfly, deal, lift, mirror, put, some, strip};
 
 const FIRST_2_2: [i16; 4] = [64, 64, 64, -64];
 
@@ -33,9 +33,8 @@ pub fn down_32_8_8(c: &[i16], w: usize, x0: usize, rows: usize, many: usize, m: 
     ensures { Turned 8 8 32 (λ x y. middle short_range (strip_sum 32 w x0 rows c.now x y)) m.new }
 {
     let mut b = [0i16; 64];
-    strip_8(c, w, x0, rows, &mut b);
-    let mut x = 0;
-    while x < 8 {
+    strip::<8>(c, w, x0, rows, &mut b);
+    for x in 0..8 {
         let mut a = [0i16; 8];
         deal(&b, x, 8, 8, &mut a);
         let mut b2 = [0i16; 2];
@@ -75,6 +74,5 @@ pub fn down_32_8_8(c: &[i16], w: usize, x0: usize, rows: usize, many: usize, m: 
         put(&y, 8, 8, 64 + 8 * x, m);
         put(&y, 16, 8, 128 + 8 * x, m);
         put(&y, 24, 8, 192 + 8 * x, m);
-        x += 1;
     }
 }

@@ -8,7 +8,7 @@ ghost use Rattle.meaning.specs.Plan.{short_range};
 ghost use Rattle.meaning.specs.Inverse.{middle};
 ghost use Rattle.kernel_levels.specs.Kernels.{Strip, strip_sum, Turned};
 
-use kernel_steps::{butterfly, deal, lift, put, some, strip_4, strip_8};
+use kernel_steps::{butterfly, deal, lift, put, some, strip};
 
 const FIRST_2_2: [i16; 4] = [64, 64, 64, -64];
 
@@ -28,9 +28,8 @@ pub fn down_4_4_8(c: &[i16], w: usize, x0: usize, rows: usize, many: usize, m: &
     ensures { Turned 4 8 4 (λ x y. middle short_range (strip_sum 4 w x0 rows c.now x y)) m.new }
 {
     let mut b = [0i16; 32];
-    strip_8(c, w, x0, rows, &mut b);
-    let mut x = 0;
-    while x < many {
+    strip::<8>(c, w, x0, rows, &mut b);
+    for x in 0..many {
         let mut a = [0i16; 4];
         deal(&b, x, 8, 4, &mut a);
         let mut b2 = [0i16; 2];
@@ -47,7 +46,6 @@ pub fn down_4_4_8(c: &[i16], w: usize, x0: usize, rows: usize, many: usize, m: &
         some(1, 4, &z4, &w4, 0, 2, &mut o4);
         butterfly(&e2, &o4, 2, 0, 2, &mut y);
         put(&y, 0, 4, 4 * x, m);
-        x += 1;
     }
 }
 
@@ -57,9 +55,8 @@ pub fn down_8_4_8(c: &[i16], w: usize, x0: usize, rows: usize, many: usize, m: &
     ensures { Turned 8 8 8 (λ x y. middle short_range (strip_sum 8 w x0 rows c.now x y)) m.new }
 {
     let mut b = [0i16; 32];
-    strip_8(c, w, x0, rows, &mut b);
-    let mut x = 0;
-    while x < 8 {
+    strip::<8>(c, w, x0, rows, &mut b);
+    for x in 0..8 {
         let mut a = [0i16; 4];
         deal(&b, x, 8, 4, &mut a);
         let mut b2 = [0i16; 2];
@@ -83,7 +80,6 @@ pub fn down_8_4_8(c: &[i16], w: usize, x0: usize, rows: usize, many: usize, m: &
         some(1, 8, &z8, &w8, 0, 4, &mut o8);
         butterfly(&e4, &o8, 4, 0, 4, &mut y);
         put(&y, 0, 8, 8 * x, m);
-        x += 1;
     }
 }
 
@@ -93,9 +89,8 @@ pub fn down_8_8_8(c: &[i16], w: usize, x0: usize, rows: usize, many: usize, m: &
     ensures { Turned 8 8 8 (λ x y. middle short_range (strip_sum 8 w x0 rows c.now x y)) m.new }
 {
     let mut b = [0i16; 64];
-    strip_8(c, w, x0, rows, &mut b);
-    let mut x = 0;
-    while x < 8 {
+    strip::<8>(c, w, x0, rows, &mut b);
+    for x in 0..8 {
         let mut a = [0i16; 8];
         deal(&b, x, 8, 8, &mut a);
         let mut b2 = [0i16; 2];
@@ -119,7 +114,6 @@ pub fn down_8_8_8(c: &[i16], w: usize, x0: usize, rows: usize, many: usize, m: &
         some(2, 8, &z8, &w8, 0, 4, &mut o8);
         butterfly(&e4, &o8, 4, 0, 4, &mut y);
         put(&y, 0, 8, 8 * x, m);
-        x += 1;
     }
 }
 
@@ -129,9 +123,8 @@ pub fn down_8_8_4(c: &[i16], w: usize, x0: usize, rows: usize, many: usize, m: &
     ensures { Turned 8 4 8 (λ x y. middle short_range (strip_sum 8 w x0 rows c.now x y)) m.new }
 {
     let mut b = [0i16; 32];
-    strip_4(c, w, x0, rows, &mut b);
-    let mut x = 0;
-    while x < 4 {
+    strip::<4>(c, w, x0, rows, &mut b);
+    for x in 0..4 {
         let mut a = [0i16; 8];
         deal(&b, x, 4, 8, &mut a);
         let mut b2 = [0i16; 2];
@@ -155,6 +148,5 @@ pub fn down_8_8_4(c: &[i16], w: usize, x0: usize, rows: usize, many: usize, m: &
         some(2, 8, &z8, &w8, 0, 4, &mut o8);
         butterfly(&e4, &o8, 4, 0, 4, &mut y);
         put(&y, 0, 8, 8 * x, m);
-        x += 1;
     }
 }

@@ -11,12 +11,10 @@ pub fn any(c: &[i16], a: usize, b: usize) -> bool
     ensures { result ≡ false → Clear c.now a b }
 {
     let mut found = false;
-    let mut i = a;
-    while i < b {
+    for i in a..b {
         if c[i] != 0 {
             found = true;
         }
-        i += 1;
     }
     found
 }
@@ -49,10 +47,8 @@ fn mark_row(c: &[i16], o: usize, w: usize, seen: &mut [i16; 32])
     requires { (w ≤ 32) × ((o + w ≤ length c.now) × (length seen.old ≡ 32)) }
     ensures { (length seen.new ≡ 32) × ((x : ℕ) → x < w → at seen.new x ≡ pos 0 → (at seen.old x ≡ pos 0) × (at c.now (o + x) ≡ pos 0)) }
 {
-    let mut x = 0;
-    while x < w {
+    for x in 0..w {
         seen[x] = mark(seen[x], c[o + x]);
-        x += 1;
     }
 }
 
@@ -62,10 +58,8 @@ fn marks(c: &[i16], w: usize, rows: usize) -> [i16; 32]
     ensures { Unseen w rows c.now result }
 {
     let mut seen = [0i16; 32];
-    let mut y = 0;
-    while y < rows {
+    for y in 0..rows {
         mark_row(c, y * w, w, &mut seen);
-        y += 1;
     }
     seen
 }

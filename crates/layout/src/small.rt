@@ -7,8 +7,5 @@ use meaning::Shape;
 pub fn is_small(shape: Shape) -> bool
     ensures { result ≡ true → (shape.width ≤ 8) × (shape.height ≤ 8) }
 {
-    if 8 < shape.width {
-        return false;
-    }
-    shape.height <= 8
+    shape.width <= 8 && shape.height <= 8
 }

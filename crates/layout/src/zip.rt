@@ -10,11 +10,9 @@ fn zip_row(c: &[i16], a: usize, w: usize, n: usize, z: &mut [i16])
     requires { (n ≤ w) × ((a + w + n ≤ length c.now) × (length z.old ≡ 2 * n)) }
     ensures { z.new ≡ tabulate (2 * n) (zipped_at c.now a w) }
 {
-    let mut x = 0;
-    while x < n {
+    for x in 0..n {
         z[2 * x] = c[a + x];
         z[2 * x + 1] = c[a + w + x];
-        x += 1;
     }
 }
 
@@ -24,11 +22,9 @@ pub fn zip(c: &[i16], w: usize, pairs: usize, n: usize, z: &mut [i16])
     ensures { Laid n pairs 2 (2 * n) (λ i x. at c.now (x + i * w)) z.new }
 {
     let m = 2 * n;
-    let mut k = 0;
-    while k < pairs {
+    for k in 0..pairs {
         let o = k * m;
         let e = o + m;
         zip_row(c, 2 * k * w, w, n, &mut z[o..e]);
-        k += 1;
     }
 }

@@ -13,12 +13,7 @@ const ORDER: [usize; 16] = [0, 4, 1, 8, 5, 2, 12, 9, 6, 3, 13, 10, 7, 14, 11, 15
 fn kept(v: i32, x: usize, y: usize, columns: usize, rows: usize) -> i32
     ensures { result ≡ cond (ltb x columns && ltb y rows) v (pos 0) }
 {
-    if x < columns {
-        if y < rows {
-            return v;
-        }
-    }
-    0
+    if x < columns && y < rows { v } else { 0 }
 }
 
 // The corner of 4 by 4, row by row. What is not read is there too, and is looked at before the test: else each number is a branch.
@@ -26,12 +21,10 @@ pub fn read_corner(w: usize, columns: usize, rows: usize, numbers: &[i32], corne
     requires { (4 ≤ w) × ((w ≤ 64) × ((4 * w ≤ length numbers.now) × (length corner.old ≡ 16))) }
     ensures { corner.new ≡ tabulate 16 (λ k. corner_at w columns rows numbers.now (k % 4) (k / 4)) }
 {
-    let mut k = 0;
-    while k < 16 {
+    for k in 0..16 {
         let x = k % 4;
         let y = k / 4;
         corner[k] = kept(numbers[x + y * w], x, y, columns, rows);
-        k += 1;
     }
 }
 
@@ -40,10 +33,8 @@ pub fn in_order(corner: &[i32; 16], u: &mut [i32; 16])
     ensures { u.new ≡ tabulate 16 (input (λ x y. at corner.now (x + 4 * y))) }
 {
     let order = ORDER;
-    let mut i = 0;
-    while i < 16 {
+    for i in 0..16 {
         u[i] = corner[order[i]];
-        i += 1;
     }
 }
 
@@ -53,9 +44,7 @@ pub fn short_in_order(corner: &[i32; 16], u: &mut [i16; 16])
     ensures { u.new ≡ tabulate 16 (input (λ x y. at corner.now (x + 4 * y))) }
 {
     let order = ORDER;
-    let mut i = 0;
-    while i < 16 {
+    for i in 0..16 {
         u[i] = corner[order[i]] as i16;
-        i += 1;
     }
 }

@@ -85,10 +85,8 @@ pub fn place_16(transposed: bool, w: usize, v: &[i32; 48], numbers: &mut [i32])
     requires { (length v.now ≡ 48) × ((4 ≤ w) × (4 * w ≤ length numbers.old)) }
     ensures { Placed 4 4 w (standing false transposed (at v.now)) numbers.old numbers.new }
 {
-    let mut y = 0;
-    while y < 4 {
+    for y in 0..4 {
         row_16(transposed, y, v, numbers, y * w);
-        y += 1;
     }
 }
 
@@ -97,9 +95,7 @@ pub fn place_48(transposed: bool, w: usize, v: &[i32; 48], numbers: &mut [i32])
     requires { (length v.now ≡ 48) × ((8 ≤ w) × (8 * w ≤ length numbers.old)) }
     ensures { Placed 8 8 w (standing true transposed (at v.now)) numbers.old numbers.new }
 {
-    let mut y = 0;
-    while y < 8 {
+    for y in 0..8 {
         row_48(transposed, y, v, numbers, y * w);
-        y += 1;
     }
 }

@@ -6,26 +6,14 @@ ghost use Rattle.lfnst.specs.LowFrequency.{inputs, is_wide};
 pub fn pairs_of(width: u32, height: u32) -> usize
     ensures { (2 * result ≡ inputs width height) × ((result ≡ 4) ⊎ (result ≡ 8)) }
 {
-    if width == 4 {
-        if height == 4 {
-            return 4;
-        }
-        return 8;
+    match (width, height) {
+        (4, 4) | (8, 8) => 4,
+        _ => 8,
     }
-    if width == 8 {
-        if height == 8 {
-            return 4;
-        }
-        return 8;
-    }
-    8
 }
 
 pub fn is_wide(width: u32, height: u32) -> bool
     ensures { result ≡ is_wide width height }
 {
-    if width < 8 {
-        return false;
-    }
-    8 <= height
+    8 <= width && 8 <= height
 }

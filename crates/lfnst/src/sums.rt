@@ -31,10 +31,8 @@ fn long_sums(t: &[i16], n: usize, pairs: usize, u: &[i32; 16], v: &mut [i32])
     requires { GivenSums n pairs t.now u.now v.old }
     ensures { WroteFrom 0 n v.new v.old (line_sum u.now 0 2 t.now (2 * n) pairs) }
 {
-    let mut j = 0;
-    while j < n {
+    for j in 0..n {
         v[j] = dot(t, 2 * j, 2 * n, u, 0, 1, pairs) as i32;
-        j += 1;
     }
 }
 

@@ -18,10 +18,8 @@ pub fn finish(n: usize, reach: u32, v: &mut [i32])
     requires { Small n v.old × (reach ≤ 20) }
     ensures { WroteFrom 0 n v.new v.old (λ j. middle (range_of reach) (at v.old j)) }
 {
-    let mut j = 0;
-    while j < n {
+    for j in 0..n {
         v[j] = clipped(round(v[j], 64, 7) as i64, reach);
-        j += 1;
     }
 }
 

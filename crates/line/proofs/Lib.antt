@@ -1,3 +1,4 @@
 pub mod Lent
 pub mod Agreement
 pub mod Unique
+pub mod Answered

@@ -13,21 +13,12 @@ ghost use Rattle.shared_steps.specs.Lines.{is_shared};
 ghost use Rattle.line.specs.Line.{is_place, weight_or_zero, line_outcome};
 
 use full_line::{eight, full};
-use meaning::{Answer, accepted, is_kind, is_size, line_refusal, refused};
+use meaning::{Answer, accepted, is_kind, is_size, line_refusal};
 
 fn is_place(kind: u32, n: u32, i: u32, j: u32) -> bool
     ensures { result ≡ is_place kind n i j }
 {
-    if !is_kind(kind) {
-        return false;
-    }
-    if !is_size(n) {
-        return false;
-    }
-    if i >= n {
-        return false;
-    }
-    j < n
+    is_kind(kind) && is_size(n) && i < n && j < n
 }
 
 /// The weight in row i and column j of the matrix of n points; 0 where there is no such kind, size, row or column.
@@ -80,9 +71,8 @@ fn fast_inverse(n: u32, kind: u32, x: &[i16], y: &mut [i32])
 fn total(n: u32, kind: u32, forward: bool, x: &[i16], y: &mut [i32]) -> Answer
     ensures { ◌≡◌ {A = Outcome} (result, y.new) (line_outcome forward n kind x.now y.old) }
 {
-    let number = line_refusal(n, kind, x.len(), y.len());
-    if number != 0 {
-        return refused(number, 0);
+    if let Err(refused) = line_refusal(n, kind, x.len(), y.len()) {
+        return refused.at(0);
     }
     full(n as usize, kind, forward, x, y);
     accepted(0)
@@ -92,9 +82,8 @@ fn total(n: u32, kind: u32, forward: bool, x: &[i16], y: &mut [i32]) -> Answer
 pub fn forward(n: u32, kind: u32, x: &[i16], y: &mut [i32]) -> Answer
     ensures { ◌≡◌ {A = Outcome} (result, y.new) (forward_line_outcome n kind x.now y.old) }
 {
-    let refusal = line_refusal(n, kind, x.len(), y.len());
-    if refusal != 0 {
-        return refused(refusal, 0);
+    if let Err(refusal) = line_refusal(n, kind, x.len(), y.len()) {
+        return refusal.at(0);
     }
     fast_forward(n, kind, x, y);
     accepted(0)
@@ -111,9 +100,8 @@ pub fn forward_product(n: u32, kind: u32, x: &[i16], y: &mut [i32]) -> Answer
 pub fn inverse(n: u32, kind: u32, x: &[i16], y: &mut [i32]) -> Answer
     ensures { ◌≡◌ {A = Outcome} (result, y.new) (inverse_line_outcome n kind x.now y.old) }
 {
-    let refusal = line_refusal(n, kind, x.len(), y.len());
-    if refusal != 0 {
-        return refused(refusal, 0);
+    if let Err(refusal) = line_refusal(n, kind, x.len(), y.len()) {
+        return refusal.at(0);
     }
     fast_inverse(n, kind, x, y);
     accepted(0)

@@ -8,24 +8,21 @@ ghost use Rattle.meaning.specs.Answer.{Outcome};
 ghost use Rattle.meaning.specs.Long.{long_outcome};
 
 use long_stages::{hunt, live, rules, stages};
-use meaning::{Answer, Shape, accepted, block_refusal, refused};
+use meaning::{Answer, Refusal, Shape, accepted, block_refusal};
 
 /// The inverse of a block of long numbers: residuals from coefficients, with the rail count. Any numbers, any buffers.
 pub fn inverse(shape: Shape, extended: bool, coefficients: &[i32], residuals: &mut [i32]) -> Answer
     ensures { ◌≡◌ {A = Outcome} (result, residuals.new) (long_outcome extended shape coefficients.now residuals.old) }
 {
-    let number = block_refusal(shape, extended, coefficients.len(), residuals.len());
-    if number != 0 {
-        return refused(number, 0);
+    if let Err(refusal) = block_refusal(shape, extended, coefficients.len(), residuals.len()) {
+        return refusal.at(0);
     }
-    let place = hunt::first_outside(shape, coefficients);
-    if place < coefficients.len() {
-        return refused(8, place as u32);
+    if let Some(place) = hunt::first_outside(shape, coefficients) {
+        return Refusal::OutsideKept.at(place as u32);
     }
     let reach = rules::reach_of(extended, shape.depth);
-    let far = hunt::first_beyond(reach, coefficients);
-    if far < coefficients.len() {
-        return refused(27, far as u32);
+    if let Some(place) = hunt::first_beyond(reach, coefficients) {
+        return Refusal::OutOfRange.at(place as u32);
     }
     let w = shape.width as usize;
     let rows = live::row_pairs(coefficients, w, shape.height as usize);

@@ -2,4 +2,5 @@ pub mod Edge
 pub mod Summing
 pub mod Ceil
 pub mod Rails
+pub mod Finds
 pub mod Whole

@@ -3,8 +3,11 @@ use native.Mathlib.Omega.{arith}
 use mathlib.Core.Path.{◌≡◌, sym, ap, ◌∙◌}
 use Prim.Native.Nat.{ℕ, ◌+◌, ◌*◌}
 use native.Mathlib.Nat.{add-mul, one-mul}
-use lib.IntN.{ℤ, ◌+ℤ◌}
+use mathlib.Core.List.{List}
+use lib.IntN.{ℤ, ◌+ℤ◌, ◌*ℤ◌}
 use Rattle.algebra.specs.Sum.{sum}
+use Rattle.algebra.specs.Lists.{at}
+use Rattle.product.specs.Product.{spot}
 use Rattle.algebra.proofs.Sum.{sum-next}
 
 pub two-more : (k : ℕ) (f : ℕ → ℤ) → sum (2 * k) f +ℤ f (2 * k) +ℤ f (2 * k + 1) ≡ sum (2 * (k + 1)) f
@@ -14,3 +17,7 @@ two-more k f =
 
 pub odd-input : (p gap k : ℕ) → p + 2 * k * gap + gap ≡ p + (2 * k + 1) * gap
 odd-input p gap k = omega (arith, add-mul (2 * k) 1 gap, one-mul gap)
+
+-- one product of a sum
+abbrev pub term : List ℤ → ℕ → ℕ → List ℤ → ℕ → ℕ → ℕ → ℤ
+term t o apart v p gap i = at t (o + spot apart i) *ℤ at v (p + i * gap)

@@ -28,13 +28,7 @@ fn clip_to(v: i64, low: i32, high: i32) -> i32
     requires { low ≤ℤ high }
     ensures { result ≡ clip (record { low = low; high = high }) v }
 {
-    if v < low as i64 {
-        return low;
-    }
-    if v > high as i64 {
-        return high;
-    }
-    v as i32
+    v.clamp(low as i64, high as i64) as i32
 }
 
 // "clipped to" -2^R .. 2^R - 1.
@@ -49,7 +43,7 @@ pub fn clipped(v: i64, reach: u32) -> i32
 pub fn rail(before: i64, after: i32) -> u32
     ensures { result ≡ count (railed before after) }
 {
-    if after as i64 == before { 0 } else { 1 }
+    u32::from(after as i64 != before)
 }
 
 // "(r + 2^(s-1)) >> s".

@@ -8,12 +8,10 @@ ghost use Rattle.layout.specs.Live.{Clear};
 fn used(c: &[i32]) -> usize
     ensures { (result ≤ length c.now) × Clear c.now result (length c.now) }
 {
-    let mut k = c.len();
-    while 0 < k {
-        if c[k - 1] != 0 {
-            return k;
+    for k in (0..c.len()).rev() {
+        if c[k] != 0 {
+            return k + 1;
         }
-        k -= 1;
     }
     0
 }
@@ -23,8 +21,7 @@ pub fn row_pairs(c: &[i32], w: usize, h: usize) -> usize
     requires { (is_size w ≡ true) × ((is_size h ≡ true) × (length c.now ≡ h * w)) }
     ensures { (2 * result ≤ h) × Clear c.now (2 * result * w) (h * w) }
 {
-    let two = 2 * w;
-    (used(c) + (two - 1)) / two
+    used(c).div_ceil(2 * w)
 }
 
 // Whether column x has something in the first rows.
@@ -32,14 +29,7 @@ fn any(c: &[i32], x: usize, w: usize, rows: usize) -> bool
     requires { (x < w) × (rows * w ≤ length c.now) }
     ensures { result ≡ false → (i : ℕ) → i < rows → at c.now (x + i * w) ≡ pos 0 }
 {
-    let mut i = 0;
-    while i < rows {
-        if c[x + i * w] != 0 {
-            return true;
-        }
-        i += 1;
-    }
-    false
+    (0..rows).any(|i| c[x + i * w] != 0)
 }
 
 // Of w columns, in the first rows.
@@ -47,12 +37,10 @@ pub fn column_pairs(c: &[i32], w: usize, rows: usize) -> usize
     requires { (is_size w ≡ true) × (rows * w ≤ length c.now) }
     ensures { (2 * result ≤ w) × ((x i : ℕ) → 2 * result ≤ x → x < w → i < rows → at c.now (x + i * w) ≡ pos 0) }
 {
-    let mut k = w;
-    while 0 < k {
-        if any(c, k - 1, w, rows) {
-            return (k + 1) / 2;
+    for x in (0..w).rev() {
+        if any(c, x, w, rows) {
+            return (x + 2) / 2;
         }
-        k -= 1;
     }
     0
 }

@@ -6,16 +6,7 @@ ghost use Rattle.meaning.specs.Plan.{reach};
 pub fn reach_of(extended: bool, d: u32) -> u32
     ensures { result ≡ reach extended d }
 {
-    if extended {
-        if d < 9 {
-            return 15;
-        }
-        if 14 < d {
-            return 20;
-        }
-        return d + 6;
-    }
-    15
+    if extended { d.clamp(9, 14) + 6 } else { 15 }
 }
 
 // s = 5 + R - d, which is 20 - d with the switch off.
@@ -31,7 +22,7 @@ pub fn low_end(reach: u32) -> i32
     requires { reach ≤ 20 }
     ensures { result ≡ negsuc (2 ^ reach - 1) }
 {
-    0 - (1 << reach)
+    -(1 << reach)
 }
 
 pub fn high_end(reach: u32) -> i32

@@ -28,13 +28,11 @@ fn middle_row(
     ensures { (m.new ≡ tabulate (length m.old) (λ x. middle (range_of reach) (column_at t.now h c.now w pairs x y))) × (result ≡ sumℕ (length m.old) (λ x. rail_of reach (column_at t.now h c.now w pairs x y))) }
 {
     let mut rails = 0;
-    let mut x = 0;
-    while x < m.len() {
+    for x in 0..m.len() {
         let before = rounded(dot(t, 2 * y, 2 * h, c, x, w, pairs));
         let after = clipped(before, reach);
         m[x] = after;
         rails += rail(before, after);
-        x += 1;
     }
     rails
 }
@@ -54,12 +52,10 @@ pub fn middles(
     ensures { (m.new ≡ block columns h (λ x y. middle (range_of reach) (column_at t.now h c.now w pairs x y)) ++ drop (h * columns) m.old) × (result ≡ sumℕ h (λ y. sumℕ columns (λ x. rail_of reach (column_at t.now h c.now w pairs x y)))) }
 {
     let mut rails = 0;
-    let mut y = 0;
-    while y < h {
+    for y in 0..h {
         let o = y * columns;
         let e = o + columns;
         rails += middle_row(t, h, y, c, w, pairs, reach, &mut m[o..e]);
-        y += 1;
     }
     rails
 }
@@ -79,10 +75,8 @@ pub fn residual_row(
     requires { Along t.now w h m.now columns pairs last × ((y < h) × (length out.old ≡ w)) }
     ensures { out.new ≡ tabulate w (λ x. nearest last (row_at t.now w m.now columns pairs x y)) }
 {
-    let mut x = 0;
-    while x < w {
+    for x in 0..w {
         out[x] = nearest(dot(t, 2 * x, 2 * w, m, y * columns, 1, pairs), last) as i32;
-        x += 1;
     }
 }
 
@@ -100,12 +94,10 @@ pub fn residuals(
     requires { Along t.now w h m.now columns pairs last × (length out.old ≡ h * w) }
     ensures { out.new ≡ block w h (λ x y. nearest last (row_at t.now w m.now columns pairs x y)) }
 {
-    let mut y = 0;
-    while y < h {
+    for y in 0..h {
         let o = y * w;
         let e = o + w;
         residual_row(t, w, h, y, m, columns, pairs, last, &mut out[o..e]);
-        y += 1;
     }
 }
 

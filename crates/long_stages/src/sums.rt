@@ -10,13 +10,11 @@ pub fn dot(t: &[i16], o: usize, apart: usize, v: &[i32], p: usize, gap: usize, p
     ensures { (result ≡ dotted t.now o apart v.now p gap pairs) × (nat_abs result ≤ 2251799813685248) }
 {
     let mut sum = 0;
-    let mut k = 0;
-    while k < pairs {
+    for k in 0..pairs {
         let a = o + k * apart;
         let b = p + 2 * k * gap;
         let even = mac(sum, t[a], v[b]);
         sum = mac(even, t[a + 1], v[b + gap]);
-        k += 1;
     }
     sum
 }

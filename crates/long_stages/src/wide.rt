@@ -8,9 +8,7 @@ pub fn widen(c: &[i16], out: &mut [i32])
     requires { length c.now ≡ length out.old }
     ensures { (out.new ≡ c.now) × ((k : ℕ) → k < length c.now → SFits w16 (at c.now k)) }
 {
-    let mut k = 0;
-    while k < c.len() {
+    for k in 0..c.len() {
         out[k] = c[k] as i32;
-        k += 1;
     }
 }

@@ -11,7 +11,7 @@ use borrow.Author.Tests.{eqb-true, not-false, eq-eqb}
 use lib.Dec.{T, eqb, ltb}
 use lib.IntN.{ℤ}
 use lib.ListN.{length}
-use Rattle.algebra.specs.Refusals.{Refusal, first_of, number_of}
+use Rattle.algebra.specs.Refusals.{Test, first_of, number_of}
 use Rattle.algebra.proofs.Refusals.{Clear, clear-split, numbered, clear, no_number, left_out}
 use Rattle.meaning.specs.declared.Shape.{Shape}
 use Rattle.meaning.specs.Shape.{is_size, is_kind, is_depth, is_long_depth, keeps}
@@ -25,7 +25,7 @@ use Rattle.meaning.proofs.Cases.{size_in}
 use Rattle.meaning.proofs.Small.{none-too-large}
 
 -- by the outcome of a call
-pub no-refusal : (ts : List Refusal) (out : List ℤ) (done : Outcome) → T (numbered ts) → (outcome ts out done).0.number ≡ 0 → Clear ts
+pub no-refusal : (ts : List Test) (out : List ℤ) (done : Outcome) → T (numbered ts) → (outcome ts out done).0.number ≡ 0 → Clear ts
 no-refusal ts out done = clear (λ (o : Outcome). o.0.number) (λ number place. (refused number place, out)) done (λ n place. refl) ts
 
 -- ---- 1 to 5 and 20
@@ -69,12 +69,12 @@ module _ (sh : Shape) (input output : List ℤ) where
   abbrev elements : ℕ
   elements = sh.width * sh.height
 
-  abbrev lengths : List Refusal
+  abbrev lengths : List Test
   lengths = length_tests elements (length input) (length output)
 
   -- 1 to 5, 20, 6 and 7, and then more
   module _ (extended : Bool) where
-    pub block-clear : (ts : List Refusal) → Clear (long_shape_tests extended sh ++ lengths ++ ts) → TakenLongBlock extended sh input output × Clear ts
+    pub block-clear : (ts : List Test) → Clear (long_shape_tests extended sh ++ lengths ++ ts) → TakenLongBlock extended sh input output × Clear ts
     block-clear ts c =
         let first = clear-split (long_shape_tests extended sh) (lengths ++ ts) c in
         let then = clear-split lengths ts first.1 in
@@ -112,7 +112,7 @@ module _ (sh : Shape) (input output : List ℤ) where
 
 -- ---- 7 never applies to an output that is as long as it has to be wherever the tests before 7 pass
 module _ {A : Type 0} (refused : ℕ → ℕ → A) (done : A) (wide high deep : Bool) (sh : Shape) (n input output : ℕ) (same : TakenBy wide high deep sh → input ≡ n → output ≡ n) where
-  pub without-7 : (ts : List Refusal)
+  pub without-7 : (ts : List Test)
       → first_of (shape_tests_by wide high deep sh ++ length_tests n input output ++ ts) refused done ≡ first_of (shape_tests_by wide high deep sh ++ (input_test n input ∷ ts)) refused done
   without-7 ts =
       left_out refused done (shape_tests_by wide high deep sh ++ (input_test n input ∷ [])) (test (not (eqb output n)) 7) ts

@@ -3,7 +3,7 @@ use Rattle.std.specs.Prelude.{Bool, cond, ◌&&◌, List, [], ◌∷◌, ◌++�
 use Rattle.algebra.specs.Shift.{nearest}
 use Rattle.algebra.specs.Lists.{at, block}
 use Rattle.algebra.specs.First.{first_at}
-use Rattle.algebra.specs.Refusals.{Refusal}
+use Rattle.algebra.specs.Refusals.{Test}
 use Rattle.meaning.specs.declared.Shape.{Shape}
 use Rattle.meaning.specs.Line.{forward_sum}
 use Rattle.meaning.specs.Answer.{Outcome, outcome, test_at, accepted, shape_tests, length_tests}
@@ -56,10 +56,10 @@ abbrev pub first_too_large : Shape → List ℤ → ℕ
 first_too_large sh r = first_at (too_large sh) 0 r
 
 -- 9, with its place
-abbrev pub too_large_test : Shape → List ℤ → Refusal
+abbrev pub too_large_test : Shape → List ℤ → Test
 too_large_test sh r = test_at (first_too_large sh r) (length r) 9
 
-abbrev pub forward_tests : Shape → List ℤ → List ℤ → List Refusal
+abbrev pub forward_tests : Shape → List ℤ → List ℤ → List Test
 forward_tests sh r out =
     shape_tests sh ++ length_tests (sh.width * sh.height) (length r) (length out) ++ (too_large_test sh r ∷ [])
 

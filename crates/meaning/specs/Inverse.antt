@@ -6,7 +6,7 @@ use Rattle.algebra.specs.Shift.{◌>>◌, nearest}
 use Rattle.algebra.specs.Clip.{Range, clip}
 use Rattle.algebra.specs.Lists.{at, block}
 use Rattle.algebra.specs.First.{first_at}
-use Rattle.algebra.specs.Refusals.{Refusal}
+use Rattle.algebra.specs.Refusals.{Test}
 use Rattle.meaning.specs.declared.Shape.{Shape}
 use Rattle.meaning.specs.Line.{inverse_sum}
 use Rattle.meaning.specs.Plan.{Plan, plan_of}
@@ -64,19 +64,19 @@ abbrev pub first_outside : Plan → List ℤ → ℕ
 first_outside p c = first_at (outside p) 0 c
 
 -- 8, with its place
-abbrev pub outside_test : Plan → List ℤ → Refusal
+abbrev pub outside_test : Plan → List ℤ → Test
 outside_test p c = test_at (first_outside p c) (length c) 8
 
 -- 6, 7 and 8, after those of a shape
-abbrev pub plan_tests : List Refusal → Plan → List ℤ → List ℤ → List Refusal
+abbrev pub plan_tests : List Test → Plan → List ℤ → List ℤ → List Test
 plan_tests tests p c out =
     tests ++ length_tests (p.width * p.height) (length c) (length out) ++ (outside_test p c ∷ [])
 
 -- the outcome of an inverse by any plan
-abbrev pub plan_outcome : List Refusal → Plan → List ℤ → List ℤ → Outcome
+abbrev pub plan_outcome : List Test → Plan → List ℤ → List ℤ → Outcome
 plan_outcome tests p c out = outcome tests out (accepted (rails p c), inverse_block p c)
 
-abbrev pub inverse_tests : Shape → List ℤ → List ℤ → List Refusal
+abbrev pub inverse_tests : Shape → List ℤ → List ℤ → List Test
 inverse_tests sh c out = plan_tests (shape_tests sh) (plan_of sh) c out
 
 abbrev pub inverse_outcome : Shape → List ℤ → List ℤ → Outcome

@@ -4,6 +4,7 @@ pub mod Shape
 pub mod Plan
 pub mod Taken
 pub mod Answer
+pub mod Refusal
 pub mod Inverse
 pub mod Long
 pub mod Forward

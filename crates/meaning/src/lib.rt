@@ -4,11 +4,16 @@
 // of long numbers LongRules, LongSizes, LongCall and LongOff, and Unique; the others serve these or the crates above.
 #![tactic(auto)]
 
+mod refusal;
+
 ghost use Rattle.std.specs.Prelude.{◌≡◌, ◌++◌, ◌*◌, min};
 ghost use Rattle.algebra.specs.Refusals.{number_of};
 ghost use Rattle.meaning.specs.Shape.{is_size, is_kind, is_depth, is_long_depth, most_kept, is_kept, keeps, shape_of, keeping};
 ghost use Rattle.meaning.specs.Answer.{shape_tests_by, shape_tests, length_tests, line_tests, refused, accepted};
 ghost use Rattle.meaning.specs.Long.{long_shape_tests};
+ghost use Rattle.meaning.specs.Refusal.{number_in};
+
+pub use crate::refusal::Refusal;
 
 /// What a block is: its sides, a kind for each direction, its bit depth, and how many columns and rows are kept. Any numbers.
 #[repr(C)]
@@ -44,60 +49,55 @@ impl Shape {
         ensures { result ≡ keeping self columns rows }
     {
         Shape {
-            width: self.width,
-            height: self.height,
-            horizontal: self.horizontal,
-            vertical: self.vertical,
-            depth: self.depth,
             columns,
             rows,
+            ..self
         }
     }
 
+    #[tactic(auto, unfolding(crate::specs::Shape::keeps))]
     fn keeps(self) -> bool
         ensures { result ≡ keeps self }
     {
-        if is_kept(self.horizontal, self.width, self.columns) {
-            return is_kept(self.vertical, self.height, self.rows);
-        }
-        false
+        is_kept(self.horizontal, self.width, self.columns)
+            && is_kept(self.vertical, self.height, self.rows)
     }
 
-    /// The number of the first of the refusals 1 to 5 and 20 that applies, or 0, by what a call takes for a width, a height and a
-    /// depth.
-    pub fn refusal_by(self, width: bool, height: bool, depth: bool) -> u32
-        ensures { result ≡ number_of (shape_tests_by width height depth self) }
+    /// The first of the refusals 1 to 5 and 20 that applies, by what a call takes for a width, a height and a depth.
+    pub fn refusal_by(self, width: bool, height: bool, depth: bool) -> Result<(), Refusal>
+        ensures { number_in result ≡ number_of (shape_tests_by width height depth self) }
     {
         if !width {
-            return 1;
+            return Err(Refusal::Width);
         }
         if !height {
-            return 2;
+            return Err(Refusal::Height);
         }
         if !is_kind(self.horizontal) {
-            return 3;
+            return Err(Refusal::Horizontal);
         }
         if !is_kind(self.vertical) {
-            return 4;
+            return Err(Refusal::Vertical);
         }
         if !depth {
-            return 5;
+            return Err(Refusal::Depth);
         }
         if !self.keeps() {
-            return 20;
+            return Err(Refusal::Kept);
         }
-        0
+        Ok(())
     }
 
-    pub fn refusal(self) -> u32
-        ensures { result ≡ number_of (shape_tests self) }
+    #[tactic(auto, unfolding(crate::specs::Shape::is_long_depth))]
+    pub fn refusal(self) -> Result<(), Refusal>
+        ensures { number_in result ≡ number_of (shape_tests self) }
     {
         self.long_refusal(false)
     }
 
     /// The same of the call of long numbers.
-    pub fn long_refusal(self, extended: bool) -> u32
-        ensures { result ≡ number_of (long_shape_tests extended self) }
+    pub fn long_refusal(self, extended: bool) -> Result<(), Refusal>
+        ensures { number_in result ≡ number_of (long_shape_tests extended self) }
     {
         self.refusal_by(
             is_size(self.width),
@@ -116,80 +116,53 @@ pub struct Answer {
     pub rails: u32,
 }
 
+#[tactic(auto, unfolding(crate::specs::Shape::is_size))]
 pub fn is_size(n: u32) -> bool
     ensures { result ≡ is_size n }
 {
-    if n == 4 {
-        return true;
-    }
-    if n == 8 {
-        return true;
-    }
-    if n == 16 {
-        return true;
-    }
-    n == 32
+    matches!(n, 4 | 8 | 16 | 32)
 }
 
+#[tactic(auto, unfolding(crate::specs::Shape::is_kind))]
 pub fn is_kind(kind: u32) -> bool
     ensures { result ≡ is_kind kind }
 {
-    if kind == 1 {
-        return true;
-    }
-    if kind == 2 {
-        return true;
-    }
-    kind == 0
+    matches!(kind, 0 | 1 | 2)
 }
 
+#[tactic(auto, unfolding(crate::specs::Shape::is_depth))]
 pub fn is_depth(d: u32) -> bool
     ensures { result ≡ is_depth d }
 {
-    if d < 8 {
-        return false;
-    }
-    d <= 12
+    8 <= d && d <= 12
 }
 
 /// "5 accepts 13..16 only with the switch on".
+#[tactic(auto, unfolding(crate::specs::Shape::is_long_depth, crate::specs::Shape::is_depth))]
 pub fn is_long_depth(extended: bool, d: u32) -> bool
     ensures { result ≡ is_long_depth extended d }
 {
     if extended {
-        if d < 8 {
-            return false;
-        }
-        return d <= 16;
+        8 <= d && d <= 16
+    } else {
+        is_depth(d)
     }
-    is_depth(d)
-}
-
-fn least(n: u32, most: u32) -> u32
-    ensures { result ≡ min n most }
-{
-    if n < most { n } else { most }
 }
 
 /// The most columns, or rows, that can be kept in a direction: "the first min(w,16), .. the first min(h,16)", and "All 32 .. in a
 /// direction of kind 0".
+#[tactic(auto, unfolding(crate::specs::Shape::most_kept))]
 pub fn most_kept(kind: u32, n: u32) -> u32
     ensures { result ≡ most_kept kind n }
 {
-    if kind == 0 {
-        return least(n, 32);
-    }
-    least(n, 16)
+    n.min(if kind == 0 { 32 } else { 16 })
 }
 
 /// "at least 1 and at most" the most.
 pub fn is_kept(kind: u32, n: u32, k: u32) -> bool
     ensures { result ≡ is_kept kind n k }
 {
-    if k < 1 {
-        return false;
-    }
-    k <= most_kept(kind, n)
+    1 <= k && k <= most_kept(kind, n)
 }
 
 /// The kept columns of a shape, for an index.
@@ -206,40 +179,42 @@ pub fn kept_rows(shape: Shape) -> usize
     shape.rows as usize
 }
 
-/// 6 and 7, or 0.
-pub fn length_refusal(n: usize, input: usize, output: usize) -> u32
-    ensures { result ≡ number_of (length_tests n input output) }
+/// 6 and 7.
+pub fn length_refusal(n: usize, input: usize, output: usize) -> Result<(), Refusal>
+    ensures { number_in result ≡ number_of (length_tests n input output) }
 {
     if input != n {
-        return 6;
+        return Err(Refusal::Input);
     }
     if output != n {
-        return 7;
+        return Err(Refusal::Output);
     }
-    0
+    Ok(())
 }
 
-/// 1 to 5, 20, 6 and 7 of a block, or 0: of long numbers, and with the switch off of any inverse or forward.
-pub fn block_refusal(shape: Shape, extended: bool, input: usize, output: usize) -> u32
-    ensures { result ≡ number_of (long_shape_tests extended shape ++ length_tests (shape.width * shape.height) input output) }
+/// 1 to 5, 20, 6 and 7 of a block: of long numbers, and with the switch off of any inverse or forward.
+pub fn block_refusal(
+    shape: Shape,
+    extended: bool,
+    input: usize,
+    output: usize,
+) -> Result<(), Refusal>
+    ensures { number_in result ≡ number_of (long_shape_tests extended shape ++ length_tests (shape.width * shape.height) input output) }
 {
-    let number = shape.long_refusal(extended);
-    if number != 0 {
-        return number;
-    }
+    shape.long_refusal(extended)?;
     let elements = shape.width as usize * shape.height as usize;
     length_refusal(elements, input, output)
 }
 
-/// 1, 3, 6 and 7 of a line, or 0.
-pub fn line_refusal(n: u32, kind: u32, input: usize, output: usize) -> u32
-    ensures { result ≡ number_of (line_tests n kind input output) }
+/// 1, 3, 6 and 7 of a line.
+pub fn line_refusal(n: u32, kind: u32, input: usize, output: usize) -> Result<(), Refusal>
+    ensures { number_in result ≡ number_of (line_tests n kind input output) }
 {
     if !is_size(n) {
-        return 1;
+        return Err(Refusal::Width);
     }
     if !is_kind(kind) {
-        return 3;
+        return Err(Refusal::Horizontal);
     }
     length_refusal(n as usize, input, output)
 }

@@ -12,10 +12,8 @@ fn narrow_row(c: &[i32], room: &mut [i16])
     requires { (length c.now ≡ length room.old) × ((k : ℕ) → k < length c.now → SFits w16 (at c.now k)) }
     ensures { room.new ≡ tabulate (length room.old) (at c.now) }
 {
-    let mut k = 0;
-    while k < c.len() {
+    for k in 0..c.len() {
         room[k] = c[k] as i16;
-        k += 1;
     }
 }
 
@@ -23,14 +21,12 @@ fn narrow_rows(c: &[i32], w: usize, columns: usize, rows: usize, broad: usize, r
     requires { GivenNarrow c.now w columns rows broad room.old }
     ensures { Narrowed (length room.old) c.now w columns rows broad room.new }
 {
-    let mut y = 0;
-    while y < rows {
+    for y in 0..rows {
         let a = y * w;
         let o = y * broad;
         let b = a + columns;
         let e = o + columns;
         narrow_row(&c[a..b], &mut room[o..e]);
-        y += 1;
     }
 }
 

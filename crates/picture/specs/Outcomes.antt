@@ -2,7 +2,7 @@
 -- untouched".
 use Rattle.std.specs.Prelude.{cond, not, List, [], ◌∷◌, ℕ, ◌*◌, eqb, ltb, ℤ, length, drop}
 use Rattle.algebra.specs.Lists.{over}
-use Rattle.algebra.specs.Refusals.{Refusal, first_of}
+use Rattle.algebra.specs.Refusals.{Test, first_of}
 use Rattle.meaning.specs.Shape.{is_size}
 use Rattle.meaning.specs.Answer.{test, input_test, output_test}
 use Rattle.picture_header.specs.Header.{header_of, is_picture}
@@ -12,7 +12,7 @@ use Rattle.picture.specs.declared.read.Picture.{Picture}
 use Rattle.picture.specs.Picture.{picture_of}
 
 -- "writing, 1, 2, 6, then 23 for a residual outside -32768..32767, then 7 for an output too short to hold the file"
-abbrev pub write_tests : ℕ → ℕ → List ℤ → ℕ → List Refusal
+abbrev pub write_tests : ℕ → ℕ → List ℤ → ℕ → List Test
 write_tests w h zs room =
     test (not (is_size w)) 1
     ∷ test (not (is_size h)) 2
@@ -34,7 +34,7 @@ behind file = drop (header_of file).start file
 
 -- "reading, 24 for a header that isn't such a graymap, or sizes that 1 and 2 would refuse, then 25 for too few or too many
 -- samples, then 7 as in document 01"
-abbrev pub read_tests : List ℕ → List ℤ → List Refusal
+abbrev pub read_tests : List ℕ → List ℤ → List Test
 read_tests file out =
     let head = (header_of file).header in
     let count = head.width * head.height in

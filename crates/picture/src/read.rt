@@ -1,7 +1,9 @@
 // "read such a file back".
 ghost use Rattle.std.specs.Prelude.{◌≡◌, List, ℤ};
+ghost use Rattle.meaning.specs.Refusal.{refusal_number};
 ghost use Rattle.picture.specs.Outcomes.{read_outcome};
 
+use meaning::Refusal;
 use picture_header::{header_of, is_picture};
 use picture_samples::read::read_samples;
 
@@ -14,11 +16,11 @@ pub struct Picture {
     pub height: u32,
 }
 
-fn answer(number: u32, width: u32, height: u32) -> Picture
-    ensures { result ≡ record { number = number; width = width; height = height } }
+fn refused(refusal: Refusal, width: u32, height: u32) -> Picture
+    ensures { result ≡ record { number = refusal_number refusal; width = width; height = height } }
 {
     Picture {
-        number,
+        number: refusal.number(),
         width,
         height,
     }
@@ -32,17 +34,21 @@ pub fn read(file: &[u8], residuals: &mut [i32]) -> Picture
     let start = found.start;
     let header = found.header;
     if !is_picture(header) {
-        return answer(24, 0, 0);
+        return refused(Refusal::Header, 0, 0);
     }
     let width = header.width;
     let height = header.height;
     let count = width as usize * height as usize;
     if file.len() - start != 2 * count {
-        return answer(25, width, height);
+        return refused(Refusal::Samples, width, height);
     }
     if residuals.len() != count {
-        return answer(7, width, height);
+        return refused(Refusal::Output, width, height);
     }
     read_samples(&file[start..], residuals);
-    answer(0, width, height)
+    Picture {
+        number: 0,
+        width,
+        height,
+    }
 }

@@ -1,13 +1,14 @@
 // "Write it as a binary graymap".
 ghost use Rattle.std.specs.Prelude.{◌≡◌, true, List, ℕ, ◌+◌, ◌≤◌, length};
 ghost use Rattle.meaning.specs.Shape.{is_size};
+ghost use Rattle.meaning.specs.Refusal.{refusal_number};
 ghost use Rattle.file_text.specs.Text.{decimal};
 ghost use Rattle.file_text.specs.Wrote.{Wrote};
 ghost use Rattle.picture.specs.Picture.{number, header_text};
 ghost use Rattle.picture.specs.Outcomes.{write_outcome};
 
 use file_text::text::{put, put_decimal};
-use meaning::is_size;
+use meaning::{Refusal, is_size};
 use picture_samples::put::{any_beyond, put_samples};
 
 /// What writing hands back: the number of the refusal or 0, and how many bytes the file has.
@@ -47,10 +48,13 @@ fn put_header(width: u32, height: u32, file: &mut [u8]) -> usize
     put_number(65535, b'\n', file, high)
 }
 
-fn refused(number: u32) -> Written
-    ensures { result ≡ record { number = number; bytes = 0 } }
+fn refused(refusal: Refusal) -> Written
+    ensures { result ≡ record { number = refusal_number refusal; bytes = 0 } }
 {
-    Written { number, bytes: 0 }
+    Written {
+        number: refusal.number(),
+        bytes: 0,
+    }
 }
 
 /// Writes a block of residuals, which stand row by row, as a picture at the start of `file`. Any numbers and lengths.
@@ -58,21 +62,21 @@ pub fn write(width: u32, height: u32, residuals: &[i32], file: &mut [u8]) -> Wri
     ensures { ◌≡◌ {A = Written × List ℕ} (result, file.new) (write_outcome width height residuals.now file.old) }
 {
     if !is_size(width) {
-        return refused(1);
+        return refused(Refusal::Width);
     }
     if !is_size(height) {
-        return refused(2);
+        return refused(Refusal::Height);
     }
     let count = width as usize * height as usize;
     if residuals.len() != count {
-        return refused(6);
+        return refused(Refusal::Input);
     }
     if any_beyond(residuals) {
-        return refused(23);
+        return refused(Refusal::Residual);
     }
     let bytes = digits_of(width) + digits_of(height) + 11 + 2 * count;
     if file.len() < bytes {
-        return refused(7);
+        return refused(Refusal::Output);
     }
     let start = put_header(width, height, file);
     let end = put_samples(residuals, file, start);

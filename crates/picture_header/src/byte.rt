@@ -7,31 +7,19 @@ use crate::Header;
 fn ends_line(b: u8) -> bool
     ensures { result ≡ ends_line b }
 {
-    if b == b'\n' {
-        return true;
-    }
-    b == b'\r'
+    b == b'\n' || b == b'\r'
 }
 
 fn is_space(b: u8) -> bool
     ensures { result ≡ is_space b }
 {
-    if b == b' ' {
-        return true;
-    }
-    if b == b'\t' {
-        return true;
-    }
-    ends_line(b)
+    b == b' ' || b == b'\t' || ends_line(b)
 }
 
 fn is_digit(b: u8) -> bool
     ensures { result ≡ is_digit b }
 {
-    if b < b'0' {
-        return false;
-    }
-    b <= b'9'
+    b'0' <= b && b <= b'9'
 }
 
 pub fn no_header() -> Header
@@ -50,10 +38,7 @@ pub fn no_header() -> Header
 pub fn ended(header: Header) -> bool
     ensures { result ≡ ended header }
 {
-    if header.part < 3 {
-        return false;
-    }
-    !header.going
+    header.part >= 3 && !header.going
 }
 
 // A digit more of a number.
@@ -61,49 +46,30 @@ fn more(n: u32, b: u8) -> u32
     requires { is_digit b ≡ true }
     ensures { result ≡ more n (b - 48) }
 {
+    // no sum wraps: 10 times a number above 6553 is more than 65536 as it is
     if n > 6553 {
         return 65536;
     }
-    let sum = n * 10 + (b - b'0') as u32;
-    if sum > 65536 {
-        return 65536;
-    }
-    sum
+    (n * 10 + u32::from(b - b'0')).min(65536)
 }
 
 // White space, or the end of a comment's line.
 fn white(header: Header) -> Header
     ensures { result ≡ white header }
 {
-    let part = header.part;
-    let width = header.width;
-    let height = header.height;
-    let maximum = header.maximum;
     Header {
-        part,
         going: false,
         comment: false,
-        width,
-        height,
-        maximum,
+        ..header
     }
 }
 
 fn commented(header: Header) -> Header
     ensures { result ≡ commented header }
 {
-    let part = header.part;
-    let going = header.going;
-    let width = header.width;
-    let height = header.height;
-    let maximum = header.maximum;
     Header {
-        part,
-        going,
         comment: true,
-        width,
-        height,
-        maximum,
+        ..header
     }
 }
 
@@ -112,10 +78,7 @@ fn with_digit(mine: u32, part: u32, n: u32, b: u8) -> u32
     requires { is_digit b ≡ true }
     ensures { result ≡ with_digit mine part n (b - 48) }
 {
-    if mine == part {
-        return more(n, b);
-    }
-    n
+    if mine == part { more(n, b) } else { n }
 }
 
 // The part that a digit belongs to.
@@ -123,11 +86,11 @@ fn part_of(header: Header) -> u32
     requires { ended header ≡ false }
     ensures { result ≡ part_of header }
 {
-    let part = header.part;
     if header.going {
-        return part;
+        header.part
+    } else {
+        header.part + 1
     }
-    part + 1
 }
 
 fn digit(header: Header, b: u8) -> Header

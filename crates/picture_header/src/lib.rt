@@ -42,13 +42,7 @@ fn behind_p5() -> Header
 fn is_p5(file: &[u8]) -> bool
     ensures { result ≡ is_p5 file.now }
 {
-    if file.len() < 2 {
-        return false;
-    }
-    if file[0] != b'P' {
-        return false;
-    }
-    file[1] == b'5'
+    file.len() >= 2 && file[0] == b'P' && file[1] == b'5'
 }
 
 /// Reads the header of a file. Any bytes.
@@ -60,32 +54,26 @@ pub fn header_of(file: &[u8]) -> FoundHeader
         return FoundHeader { header, start: 0 };
     }
     let mut header = behind_p5();
-    let mut start = 2;
-    while start < file.len() {
+    for start in 2..file.len() {
         if byte::ended(header) {
-            break;
+            return FoundHeader { header, start };
         }
         header = byte::with_byte(header, file[start]);
-        start += 1;
     }
-    FoundHeader { header, start }
+    FoundHeader {
+        header,
+        start: file.len(),
+    }
 }
 
 /// Whether a header is that of a picture: whole, with the maximum value 65535 and sizes that 1 and 2 would not refuse.
+#[tactic(auto, unfolding(crate::specs::Header::is_picture))]
 pub fn is_picture(header: Header) -> bool
     ensures { result ≡ is_picture header }
 {
-    if header.part != 3 {
-        return false;
-    }
-    if header.going {
-        return false;
-    }
-    if header.maximum != 65535 {
-        return false;
-    }
-    if !meaning::is_size(header.width) {
-        return false;
-    }
-    meaning::is_size(header.height)
+    header.part == 3
+        && !header.going
+        && header.maximum == 65535
+        && meaning::is_size(header.width)
+        && meaning::is_size(header.height)
 }

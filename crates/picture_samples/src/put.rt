@@ -10,23 +10,13 @@ use file_text::text::put;
 fn is_beyond(z: i32) -> bool
     ensures { result ≡ beyond short_range z }
 {
-    if z < -32768 {
-        return true;
-    }
-    z > 32767
+    z < -32768 || z > 32767
 }
 
 pub fn any_beyond(residuals: &[i32]) -> bool
     ensures { result ≡ any_beyond residuals.now }
 {
-    let mut i = 0;
-    while i < residuals.len() {
-        if is_beyond(residuals[i]) {
-            return true;
-        }
-        i += 1;
-    }
-    false
+    residuals.iter().any(|&z| is_beyond(z))
 }
 
 // "the residual plus 32768".
@@ -52,11 +42,8 @@ pub fn put_samples(residuals: &[i32], file: &mut [u8], at: usize) -> usize
     ensures { Wrote (samples residuals.now) (2 * length residuals.now) at file.old file.new result }
 {
     let mut p = at;
-    let mut i = 0;
-    while i < residuals.len() {
-        let z = residuals[i];
+    for &z in residuals {
         p = put_sample(z, file, p);
-        i += 1;
     }
     p
 }

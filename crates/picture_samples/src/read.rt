@@ -14,10 +14,7 @@ pub fn read_samples(samples: &[u8], out: &mut [i32])
     requires { length samples.now ≡ 2 * length out.old }
     ensures { out.new ≡ residuals samples.now }
 {
-    let mut i = 0;
-    while i < out.len() {
-        let z = residual(samples[i + i], samples[i + i + 1]);
-        out[i] = z;
-        i += 1;
+    for i in 0..out.len() {
+        out[i] = residual(samples[2 * i], samples[2 * i + 1]);
     }
 }

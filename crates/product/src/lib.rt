@@ -56,12 +56,10 @@ fn products(
     requires { Column pairs a.now p gap b.now o apart × (length s.old ≡ 16) }
     ensures { (k : ℕ) → k < pairs → (at s.new k ≡ pair_at a.now p gap b.now o apart k) × (nat_abs (at s.new k) ≤ 5963776) }
 {
-    let mut k = 0;
-    while k < pairs {
+    for k in 0..pairs {
         let i = p + k * gap;
         let x = o + k * apart;
         s[k] = pair(b[x + 1], a[i + 1], b[x], a[i]);
-        k += 1;
     }
 }
 
@@ -70,10 +68,8 @@ fn total(s: &[i32; 16], pairs: usize) -> i32
     ensures { result ≡ sum pairs (at s.now) }
 {
     let mut sum = 0;
-    let mut k = 0;
-    while k < pairs {
+    for k in 0..pairs {
         sum = plus(sum, s[k]);
-        k += 1;
     }
     sum
 }
@@ -93,12 +89,10 @@ pub fn line(
     requires { Line (length out.old) pairs a.now p gap b.now apart × Rounding half shift }
     ensures { out.new ≡ tabulate (length out.old) (λ j. shifted half shift (line_sum a.now p gap b.now apart pairs j)) }
 {
-    let mut j = 0;
-    while j < out.len() {
+    for j in 0..out.len() {
         let mut s = [0i32; 16];
         products(a, p, gap, b, 2 * j, apart, pairs, &mut s);
         out[j] = round(total(&s, pairs), half, shift);
-        j += 1;
     }
 }
 
@@ -119,8 +113,7 @@ pub fn lines(
     requires { Lines lines n pairs a.now step gap b.now apart × (Rounding half shift × (lines * n ≤ length out.old)) }
     ensures { out.new ≡ block n lines (λ j l. shifted half shift (line_sum a.now (step * l) gap b.now apart pairs j)) ++ drop (lines * n) out.old }
 {
-    let mut l = 0;
-    while l < lines {
+    for l in 0..lines {
         let q = l * n;
         let e = q + n;
         line(
@@ -134,6 +127,5 @@ pub fn lines(
             shift,
             &mut out[q..e],
         );
-        l += 1;
     }
 }

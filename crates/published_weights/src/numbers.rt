@@ -89,14 +89,12 @@ pub fn agreeing(kind: u32, n: u32, odd: bool, columns: u32, published: &[i32]) -
     requires { (0 < columns) × (length published.now ≤ 1024) }
     ensures { result ≤ length published.now }
 {
-    let mut good: usize = 0;
-    let mut k: usize = 0;
-    while k < published.len() {
+    let mut good = 0;
+    for (k, weight_there) in published.iter().enumerate() {
         let at = k as u32;
-        if weight(kind, n, row(odd, at / columns), at % columns) == published[k] {
+        if weight(kind, n, row(odd, at / columns), at % columns) == *weight_there {
             good += 1;
         }
-        k += 1;
     }
     good
 }

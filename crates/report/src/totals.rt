@@ -4,8 +4,8 @@ ghost use Rattle.meaning.specs.Shape.{is_kind};
 ghost use Rattle.forward_and_back.specs.Trip.{trip_answer};
 ghost use Rattle.report.specs.Totals.{empty, side, place, entered, counted, plus, add_outcome};
 
-use forward_and_back::{larger, trip};
-use meaning::{Answer, Shape, refused};
+use forward_and_back::trip;
+use meaning::{Answer, Refusal, Shape};
 
 /// The totals of no blocks.
 pub fn empty() -> [u64; 578]
@@ -25,16 +25,12 @@ pub fn clear(totals: &mut [u64; 578])
 fn side(n: u32) -> usize
     ensures { (result ≡ side n) × (result ≤ 3) }
 {
-    if n == 4 {
-        return 0;
+    match n {
+        4 => 0,
+        8 => 1,
+        16 => 2,
+        _ => 3,
     }
-    if n == 8 {
-        return 1;
-    }
-    if n == 16 {
-        return 2;
-    }
-    3
 }
 
 // Where the four totals of a shape start.
@@ -54,7 +50,7 @@ fn count(totals: &mut [u64; 578], i: usize, more: u64)
     requires { i < 578 }
     ensures { totals.new ≡ plus i more totals.old }
 {
-    totals[i] = std::num::wrapping_add_u64(totals[i], more);
+    totals[i] = totals[i].wrapping_add(more);
 }
 
 // The four of a block.
@@ -64,7 +60,7 @@ fn enter(totals: &mut [u64; 578], i: usize, rails: u64, largest: u64, squares: u
 {
     count(totals, i, 1);
     count(totals, i + 1, rails);
-    totals[i + 2] = larger(totals[i + 2], largest);
+    totals[i + 2] = totals[i + 2].max(largest);
     count(totals, i + 3, squares);
 }
 
@@ -94,7 +90,7 @@ pub fn add(totals: &mut [u64; 578], shape: Shape, residuals: &[i16]) -> Answer
     ensures { ◌≡◌ {A = Answer × List ℕ} (result, totals.new) (add_outcome totals.old shape residuals.now) }
 {
     if totals[577] >= 65536 {
-        return refused(22, 0);
+        return Refusal::TotalsFull.at(0);
     }
     let answer = tally(totals, shape, residuals);
     count(totals, 577, 1);

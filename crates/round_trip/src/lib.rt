@@ -23,10 +23,8 @@ fn column_product(kind: u32, n: u32, j: u32, k: u32) -> i32
     ensures { result ≡ G kind n j k }
 {
     let mut sum: i32 = 0;
-    let mut i = 0;
-    while i < n {
+    for i in 0..n {
         sum = mac(sum, weight(kind, n, i, j), weight(kind, n, i, k));
-        i += 1;
     }
     sum
 }
@@ -63,13 +61,7 @@ fn apart(kind: u32, n: u32, j: u32, k: u32) -> u32
 fn is_column(kind: u32, n: u32, j: u32) -> bool
     ensures { result ≡ is_column kind n j }
 {
-    if !is_kind(kind) {
-        return false;
-    }
-    if !is_size(n) {
-        return false;
-    }
-    j < n
+    is_kind(kind) && is_size(n) && j < n
 }
 
 /// D(j) of a kind at n points: how many times the size of a line's numbers its round trip can stray at place j; 0 where there
@@ -81,10 +73,8 @@ pub fn stray(kind: u32, n: u32, j: u32) -> u32
         return 0;
     }
     let mut total: u32 = 0;
-    let mut k = 0;
-    while k < n {
+    for k in 0..n {
         total += apart(kind, n, j, k);
-        k += 1;
     }
     total
 }

@@ -9,7 +9,7 @@ use lib.ListN.{length, take, drop, length-append, length-drop, get_or-append}
 use lib.Seq.{length-take-le, get_or-append-add, get_or-take, get_or-drop}
 use Rattle.meaning.specs.declared.Shape.{Shape}
 use Rattle.file_fields.specs.declared.cursor.Cursor.{Cursor}
-use Rattle.file_fields.specs.declared.field.Field.{Field}
+use Rattle.file_fields.specs.Field.{Field}
 use Rattle.file_fields.specs.Cursor.{file_start, advance_of}
 use Rattle.salvage.specs.Pieces.{reads, onward, pieces, joined, kept_of, written, dropped, reads_all, undamaged}
 use Rattle.salvage.proofs.Moves.{onward-read, onward-lost}

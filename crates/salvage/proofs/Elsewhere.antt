@@ -10,8 +10,7 @@ use lib.ListN.{length}
 use Rattle.meaning.specs.declared.Shape.{Shape}
 use Rattle.meaning.specs.Shape.{shape_of, keeping}
 use Rattle.file_fields.specs.declared.cursor.Cursor.{Cursor}
-use Rattle.file_fields.specs.declared.field.Field.{Field}
-use Rattle.file_fields.specs.Field.{byte_at, length_at, body_at, shape_at, shape_behind, shape_number, is_shape, is_keeping, header_number, field_number, field_at, whole_field, nothing}
+use Rattle.file_fields.specs.Field.{Field, byte_at, length_at, body_at, shape_at, shape_behind, shape_number, is_shape, is_keeping, header_number, field_number, field_at, whole_field, nothing}
 use Rattle.file_fields.specs.Cursor.{advance_of, found_at}
 use Rattle.file_fields.proofs.Whole.{Whole, whole-field, in_order, of_header, of_shape}
 use Rattle.salvage.specs.Pieces.{reads}

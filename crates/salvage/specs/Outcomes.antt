@@ -2,7 +2,7 @@
 -- 1,024 places; 26 for more than 1,024 dropped stretches."
 use Rattle.std.specs.Prelude.{List, [], ◌∷◌, ℕ, ◌*◌, ◌/◌, ltb, length}
 use Rattle.algebra.specs.Lists.{over}
-use Rattle.algebra.specs.Refusals.{Refusal, first_of}
+use Rattle.algebra.specs.Refusals.{Test, first_of}
 use Rattle.meaning.specs.Answer.{test}
 use Rattle.file_fields.specs.Cursor.{too_long}
 use Rattle.salvage.specs.declared.saving.Saved.{Saved}
@@ -12,7 +12,7 @@ use Rattle.salvage.specs.Pieces.{written, dropped}
 abbrev pub places : ℕ
 places = 1024
 
-abbrev pub salvage_tests : List ℕ → List ℕ → List ℕ → List Refusal
+abbrev pub salvage_tests : List ℕ → List ℕ → List ℕ → List Test
 salvage_tests file out list =
     test (too_long file) 14
     ∷ test (ltb (length out) (length file)) 7

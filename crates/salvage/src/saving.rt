@@ -1,6 +1,7 @@
 // The new file and the list of dropped stretches.
 ghost use Rattle.std.specs.Prelude.{◌≡◌, List, ℕ, ◌+◌, ◌≤◌, length};
 ghost use Rattle.algebra.specs.Lists.{over};
+ghost use Rattle.meaning.specs.Refusal.{refusal_number};
 ghost use Rattle.file_text.specs.Wrote.{Wrote};
 ghost use Rattle.salvage.specs.Pieces.{kept_of, written, dropped_of, dropped};
 ghost use Rattle.salvage.specs.Outcomes.{salvage_outcome};
@@ -8,6 +9,7 @@ ghost use Rattle.salvage.specs.Outcomes.{salvage_outcome};
 use crate::search::{Piece, piece_at};
 use file_fields::cursor::Cursor;
 use file_text::text::put;
+use meaning::Refusal;
 
 /// The number of the refusal or 0, how many bytes the new file has, and how many stretches were dropped.
 #[repr(C)]
@@ -23,10 +25,7 @@ fn counted(piece: Piece, n: usize) -> usize
     requires { n ≤ 131072 }
     ensures { result ≡ n + length (dropped_of piece) }
 {
-    if piece.kept {
-        return n;
-    }
-    n + 2
+    if piece.kept { n } else { n + 2 }
 }
 
 fn count(file: &[u8]) -> usize
@@ -35,6 +34,7 @@ fn count(file: &[u8]) -> usize
 {
     let mut cursor = Cursor::new();
     let mut n = 0;
+    // no `for`: each piece says where the next one starts
     while cursor.at < file.len() {
         let found = piece_at(file, cursor);
         n = counted(found.piece, n);
@@ -48,10 +48,8 @@ fn copy(part: &[u8], out: &mut [u8], at: usize) -> usize
     ensures { Wrote part.now (length part.now) at out.old out.new result }
 {
     let mut p = at;
-    let mut i = 0;
-    while i < part.len() {
-        p = put(part[i], out, p);
-        i += 1;
+    for &byte in part {
+        p = put(byte, out, p);
     }
     p
 }
@@ -75,6 +73,7 @@ fn put_kept(file: &[u8], out: &mut [u8]) -> usize
 {
     let mut cursor = Cursor::new();
     let mut p = 0;
+    // no `for`: each piece says where the next one starts
     while cursor.at < file.len() {
         let found = piece_at(file, cursor);
         p = keep(file, found.piece, out, p);
@@ -103,6 +102,7 @@ fn put_dropped(file: &[u8], list: &mut [u32]) -> usize
 {
     let mut cursor = Cursor::new();
     let mut p = 0;
+    // no `for`: each piece says where the next one starts
     while cursor.at < file.len() {
         let found = piece_at(file, cursor);
         p = list_stretch(found.piece, list, p);
@@ -111,11 +111,11 @@ fn put_dropped(file: &[u8], list: &mut [u32]) -> usize
     p
 }
 
-fn refused(number: u32) -> Saved
-    ensures { result ≡ record { number = number; bytes = 0; stretches = 0 } }
+fn refused(refusal: Refusal) -> Saved
+    ensures { result ≡ record { number = refusal_number refusal; bytes = 0; stretches = 0 } }
 {
     Saved {
-        number,
+        number: refusal.number(),
         bytes: 0,
         stretches: 0,
     }
@@ -127,16 +127,16 @@ pub fn salvage(file: &[u8], out: &mut [u8], list: &mut [u32]) -> Saved
     ensures { ◌≡◌ {A = Saved × List ℕ × List ℕ} (result, out.new, list.new) (salvage_outcome file.now out.old list.old) }
 {
     if file.len() > 65536 {
-        return refused(14);
+        return refused(Refusal::FileTooLong);
     }
     if out.len() < file.len() {
-        return refused(7);
+        return refused(Refusal::Output);
     }
     if list.len() < 2048 {
-        return refused(7);
+        return refused(Refusal::Output);
     }
     if count(file) > 2048 {
-        return refused(26);
+        return refused(Refusal::TooManyDropped);
     }
     let bytes = put_kept(file, out);
     let numbers = put_dropped(file, list);

@@ -25,42 +25,30 @@ fn data_follows(file: &[u8], cursor: Cursor) -> bool
     ensures { result ≡ data_follows file.now cursor }
 {
     let field = cursor.advance(file);
-    if is_data(field.tag) {
-        return true;
-    }
-    if field.tag != 4 {
-        return false;
-    }
-    let next = field.next;
-    let last = next.advance(file);
-    is_data(last.tag)
+    is_data(field.tag) || field.tag == 4 && is_data(field.next.advance(file).tag)
 }
 
 fn goes_on(file: &[u8], at: usize) -> bool
     ensures { result ≡ goes_on file.now at }
 {
-    let start = Cursor::new();
-    let shape = start.shape;
-    let here = Cursor { at, shape };
+    let here = Cursor {
+        at,
+        ..Cursor::new()
+    };
     let first = here.advance(file);
-    if first.tag != 1 {
-        return false;
-    }
-    data_follows(file, first.next)
+    first.tag == 1 && data_follows(file, first.next)
 }
 
 fn next_after(file: &[u8], at: usize) -> usize
     requires { at < length file.now }
     ensures { result ≡ next_after file.now at }
 {
-    let mut i = at + 1;
-    while i < file.len() {
+    for i in at + 1..file.len() {
         if goes_on(file, i) {
             return i;
         }
-        i += 1;
     }
-    i
+    file.len()
 }
 
 fn onward(file: &[u8], cursor: Cursor, advance: Advance) -> Cursor
@@ -70,10 +58,9 @@ fn onward(file: &[u8], cursor: Cursor, advance: Advance) -> Cursor
     if advance.number == 0 {
         return advance.next;
     }
-    let shape = cursor.shape;
     Cursor {
         at: next_after(file, cursor.at),
-        shape,
+        ..cursor
     }
 }
 

@@ -14,7 +14,7 @@ use Rattle.algebra.specs.Lists.{at}
 use Rattle.algebra.proofs.Ring.{*ℤ-add, one-*ℤ}
 use Rattle.algebra.proofs.Sum.{sum-cong, sum-add}
 use Rattle.algebra.proofs.Table.{all_to, all_to-at, and_left, and_right, eq_z→eq}
-use Rattle.meaning.specs.Weights.{S, first}
+use Rattle.meaning.specs.Weights.{S}
 use Rattle.shared_steps.specs.Folds.{SignedPlace, folded, occurrence, half, class_of, width, signed_places, into}
 use Rattle.shared_steps.specs.Steps.{Factored, short_sum, only, Class, joined_sums}
 use Rattle.shared_steps.proofs.Law.{below, folded-sum, fold-inputs, fold-sums}

@@ -10,12 +10,6 @@ pub fn mac(a: i32, w: i32, v: i32) -> i32
     a + w * v
 }
 
-pub fn wide(a: i16) -> i32
-    ensures { (result ≡ a) × (nat_abs result ≤ 32768) }
-{
-    a as i32
-}
-
 pub fn plus(a: i32, b: i32) -> i32
     requires { (nat_abs a ≤ 1000000000) × (nat_abs b ≤ 1000000000) }
     ensures { result ≡ a +ℤ b }
@@ -35,7 +29,7 @@ pub fn negated(a: i32) -> i32
     requires { nat_abs a ≤ 1000000000 }
     ensures { result ≡ neg_ℤ a }
 {
-    0 - a
+    -a
 }
 
 pub fn sign(less: bool, a: i32) -> i32
@@ -50,8 +44,8 @@ pub fn sign_of_input(less: bool, input: i16) -> i32
     ensures { (result ≡ signed less input) × (nat_abs result ≤ 32768) }
 {
     if less {
-        0 - (input as i32)
+        -i32::from(input)
     } else {
-        input as i32
+        i32::from(input)
     }
 }

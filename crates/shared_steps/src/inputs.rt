@@ -29,6 +29,7 @@ fn periodic_input(x: &[i16], n: usize, q: usize, back: bool, g: usize) -> i32
 {
     let mut sum: i32 = 0;
     let mut k = 0;
+    // With `for` here and below, calls of `gather` are not written out, and a forward line takes 13 to 20 percent more.
     while k < n / q {
         let first = taken(x, n, back, k * q + g);
         let second = taken(x, n, back, k * q + q - 2 - g);
@@ -42,13 +43,11 @@ fn folded_input(x: &[i16], n: usize, p: usize, q: usize, class: usize, back: boo
     requires { (length x.now ≡ n) × ((g < width p q class) × Factored n p q) }
     ensures { (result ≡ folded (reading back n x.now) (into n p q class g)) × (nat_abs result ≤ 425984) }
 {
-    if class == 1 {
-        return leading_input(x, n, p, q, back, g);
+    match class {
+        1 => leading_input(x, n, p, q, back, g),
+        2 => periodic_input(x, n, q, back, g),
+        _ => periodic_input(x, n, p, back, g),
     }
-    if class == 2 {
-        return periodic_input(x, n, q, back, g);
-    }
-    periodic_input(x, n, p, back, g)
 }
 
 // Numbers `from` to `to` of a class. Callers take eight at a time: the compiler writes out a loop of so few.

@@ -12,10 +12,8 @@ fn dot(w: &[i16], n: usize, i: usize, t: &[i32], m: usize) -> i32
     ensures { (result ≡ short_sum n m t.now i) × (nat_abs result ≤ 1000000000) }
 {
     let mut sum: i32 = 0;
-    let mut g = 0;
-    while g < m {
+    for g in 0..m {
         sum = mac(sum, stored(w, n, i, g), t[g]);
-        g += 1;
     }
     sum
 }

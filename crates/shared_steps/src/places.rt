@@ -5,8 +5,6 @@ ghost use Rattle.tables.specs.Table.{Table};
 ghost use Rattle.shared_steps.specs.Folds.{nearer as nearest};
 ghost use Rattle.shared_steps.specs.Lines.{turned, reading};
 
-use crate::arith::wide;
-
 // Place k of n, counted from the end where asked.
 pub fn place(back: bool, n: usize, k: usize) -> usize
     requires { k < n }
@@ -28,7 +26,7 @@ pub fn taken(x: &[i16], n: usize, back: bool, k: usize) -> i32
     requires { (length x.now ≡ n) × (k < n) }
     ensures { (result ≡ reading back n x.now k) × (nat_abs result ≤ 32768) }
 {
-    wide(x[place(back, n, k)])
+    i32::from(x[place(back, n, k)])
 }
 
 // The weight of row i in column j.
@@ -36,5 +34,5 @@ pub fn stored(w: &[i16], n: usize, i: usize, j: usize) -> i32
     requires { (i < n) × ((j < n) × ((n ≤ 32) × Table n w.now)) }
     ensures { result ≡ S n i j }
 {
-    wide(w[i * n + j])
+    i32::from(w[i * n + j])
 }

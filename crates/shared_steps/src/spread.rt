@@ -33,7 +33,7 @@ fn periodic(c: &[i32], n: usize, q: usize, k: usize) -> i32
     if w == 0 {
         return 0;
     }
-    sign(!((k + 1) % (2 * q) < q), c[nearer(w, q) - 1])
+    sign((k + 1) % (2 * q) >= q, c[nearer(w, q) - 1])
 }
 
 // Places `from` to `to`, written from the end where asked. Callers take eight at a time, as `gather` does.
@@ -52,10 +52,8 @@ pub fn spread(
     requires { ((from ≤ to) × (to ≤ n)) × (ClassSums n p q a.now c.now d.now × FilledTo back n from (joined_sums p q a.now c.now d.now) y.old) }
     ensures { FilledTo back n to (joined_sums p q a.now c.now d.now) y.new }
 {
-    let mut k = from;
-    while k < to {
+    for k in from..to {
         let others = plus(periodic(c, n, q, k), periodic(d, n, p, k));
         y[place(back, n, k)] = plus(leading(a, n, p, q, k), others);
-        k += 1;
     }
 }

@@ -12,9 +12,7 @@ pub fn row(w: &[i16], n: usize, i: usize, m: usize, x: &[i16], change: bool, a: 
     ensures { Added n m i (used change x.now i) a.old a.new × Adding n m (i + 1) w.now x.now a.new }
 {
     let v = sign_of_input(change & (i % 2 == 1), x[i]);
-    let mut g = 0;
-    while g < m {
+    for g in 0..m {
         a[g] = mac(a[g], stored(w, n, i, g), v);
-        g += 1;
     }
 }

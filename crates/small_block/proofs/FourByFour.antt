@@ -12,7 +12,7 @@ use lib.IntN.{ℤ, pos}
 use lib.ListN.{length, get_or}
 use lib.Seq.{ext_get_or}
 use Rattle.algebra.specs.Lists.{at, tabulate, flat}
-use Rattle.algebra.specs.Refusals.{Refusal}
+use Rattle.algebra.specs.Refusals.{Test}
 use Rattle.algebra.proofs.Lists.{flat-at}
 use Rattle.meaning.specs.Shape.{is_size, is_kind, is_depth, most_kept, keeps}
 use Rattle.meaning.specs.Plan.{plan_of}
@@ -25,7 +25,7 @@ use Rattle.layout.proofs.Inside.{none-outside}
 use Rattle.small_block.specs.Small.{small_shape, zeros, small_forward, small_inverse}
 
 -- 3, 4 and 5
-abbrev pub small_tests : ℕ → ℕ → ℕ → List Refusal
+abbrev pub small_tests : ℕ → ℕ → ℕ → List Test
 small_tests horizontal vertical depth = test (not (is_kind horizontal)) 3 ∷ test (not (is_kind vertical)) 4 ∷ test (not (is_depth depth)) 5 ∷ []
 
 -- all of a 4 by 4 block is kept

@@ -1,4 +1,3 @@
-pub mod ByValue
 pub mod Sixteen
 pub mod FourByFour
 pub mod Unique

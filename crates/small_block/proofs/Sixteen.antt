@@ -1,23 +1,22 @@
 -- Sixteen numbers as four lines of four, and back. Assumes nothing.
 use mathlib.Core.Path.{◌≡◌, refl, sym, ap, ◌∙◌}
-use mathlib.Core.List.{List, [], ◌∷◌}
-use Prim.Native.Nat.{ℕ, zero, suc, ◌+◌, ◌*◌, ◌/◌, ◌%◌, ◌<◌}
-use native.Mathlib.Nat.{add-zero, div-add-mod', mod-lt, div-lt_iff_lt-mul, le_of_suc-le-suc, not-suc-le-zero}
-use native.Mathlib.Omega.{arith}
+use mathlib.Core.List.{List, [], ◌∷◌, ◌++◌}
+use Rattle.std.specs.List.{flat_map}
+use Prim.Native.Nat.{ℕ, zero, suc, ◌+◌}
+use native.Mathlib.Nat.{add-zero}
 use lib.Pow.{pow_pos}
 use lib.IntN.{ℤ, pos}
-use lib.ListN.{length, get_or}
+use lib.ListN.{length}
 use mir.Syntax.{Width}
 use mir.Val.{Val, SFits, hbits, to_z, of_z}
 use mir.ValLaws.{to_z-of_z}
-use denote.RattleType.{RattleType}
-use denote.Array.{Array, each}
+use denote.Array.{each}
 use denote.Shadow.{shadow}
 use denote.Signed.{SInt}
 use Rattle.algebra.specs.Lists.{at, tabulate, flat}
-use Rattle.algebra.proofs.Lists.{tabulated, flat-length, flat-at}
+use Rattle.algebra.proofs.Lists.{tabulated}
 
--- ---- what is known of an array by value: its numbers fit their width, and each of its lines has four
+-- ---- what is known of an array by value: its numbers fit their width
 zero-fits : (w : Width) → SFits w (pos 0)
 zero-fits w = record { sfits = pow_pos (hbits w) }
 
@@ -26,19 +25,6 @@ number_fits w [] us p k = zero-fits w
 number_fits w (x ∷ xs) [] p k = absurd p
 number_fits w (x ∷ xs) (u ∷ us) p zero = record { sfits = p.0.1 }
 number_fits w (x ∷ xs) (u ∷ us) p (suc k) = number_fits w xs us p.1 k
-
-pub line-fits : (w : Width) (m : ℕ) (xs : List (List ℤ)) (us : List Val) → shadow (each (List ℤ) (Array (SInt w) m).own_val xs us) → (y x : ℕ) → SFits w (at (get_or xs y []) x)
-line-fits w m [] us p y x = zero-fits w
-line-fits w m (r ∷ xs) [] p y x = absurd p
-line-fits w m (r ∷ xs) (u ∷ us) p zero x = number_fits w r p.0.0 p.0.1.1 x
-line-fits w m (r ∷ xs) (u ∷ us) p (suc y) x = line-fits w m xs us p.1 y x
-
-pub line-length : (R : RattleType) (m : ℕ) (xs : List (List R.Denot)) (us : List Val) → shadow (each (List R.Denot) (Array R m).own_val xs us)
-    → (y : ℕ) → y < length xs → length (get_or xs y []) ≡ m
-line-length R m [] us p y h = absurd (not-suc-le-zero h)
-line-length R m (x ∷ xs) [] p y h = absurd p
-line-length R m (x ∷ xs) (u ∷ us) p zero h = p.0.1.0.1
-line-length R m (x ∷ xs) (u ∷ us) p (suc y) h = line-length R m xs us p.1 y (le_of_suc-le-suc h)
 
 -- ---- a line of sixteen numbers, and four of them
 -- number k as it is read
@@ -58,18 +44,8 @@ pub four-lines : (l a b c d : List ℤ) → length l ≡ 16 → a ≡ line_of l 
 unfolding tabulate flat
 four-lines l a b c d n p q r s = (λ t. flat (p t ∷ q t ∷ r t ∷ s t ∷ [])) ∙ sym (tabulated 16 l (at l) n (λ k h. refl))
 
-module _ (b : List (List ℤ)) (n : length b ≡ 4) (each-four : (y : ℕ) → y < length b → length (get_or b y []) ≡ 4) where
-  pub flat-sixteen : length (flat b) ≡ 16
-  flat-sixteen = flat-length 4 b each-four ∙ ap (λ (k : ℕ). k * 4) n
-
-  -- number k stands in line k / 4
-  pub in_lines : (k : ℕ) → k < 16 → at (get_or b (k / 4) []) (k % 4) ≡ at (flat b) k
-  in_lines k h =
-      let some : 0 < 4 = omega arith in
-      let p : k < 4 * 4 = omega arith in
-      let hy : k / 4 < 4 = (div-lt_iff_lt-mul some).1 p in
-      let q : k % 4 + k / 4 * 4 ≡ k = omega (arith, div-add-mod' k 4) in
-      sym (flat-at 4 b each-four (k % 4) (k / 4) (mod-lt k some) (omega arith)) ∙ ap (at (flat b)) q
-
-  pub all_lines : tabulate 16 (at (flat b)) ≡ flat b
-  all_lines = sym (tabulated 16 (flat b) (at (flat b)) flat-sixteen (λ k h. refl))
+-- four lines as they are read, one after the other
+pub flat_is : (b : List (List ℤ)) → flat_map (λ x. x) b ≡ flat b
+unfolding flat
+flat_is [] = refl
+flat_is (row ∷ rows) = ap (λ (l : List ℤ). row ++ l) (flat_is rows)

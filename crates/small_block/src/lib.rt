@@ -24,18 +24,6 @@ pub struct SmallResiduals {
     pub block: [[i32; 4]; 4],
 }
 
-fn small_coefficients(answer: Answer, block: [[i16; 4]; 4]) -> SmallCoefficients
-    ensures { (result.answer ≡ answer) × (result.block ≡ block) }
-{
-    SmallCoefficients { answer, block }
-}
-
-fn small_residuals(answer: Answer, block: [[i32; 4]; 4]) -> SmallResiduals
-    ensures { (result.answer ≡ answer) × (result.block ≡ block) }
-{
-    SmallResiduals { answer, block }
-}
-
 /// The coefficients, for a caller that is proved.
 pub fn coefficients_of(c: SmallCoefficients) -> [[i16; 4]; 4]
     ensures { result ≡ c.block }
@@ -50,36 +38,7 @@ pub fn residuals_of(r: SmallResiduals) -> [[i32; 4]; 4]
     r.block
 }
 
-// The lines, one after the other.
-fn joined(b: [[i16; 4]; 4]) -> [i16; 16]
-    ensures { result ≡ flat b }
-{
-    let mut out = [0i16; 16];
-    let mut i = 0;
-    while i < 16 {
-        let y = i / 4;
-        let x = i % 4;
-        out[i] = b[y][x];
-        i += 1;
-    }
-    out
-}
-
-fn joined_residuals(r: [[i32; 4]; 4]) -> [i32; 16]
-    ensures { result ≡ flat r }
-{
-    let mut out = [0i32; 16];
-    let mut i = 0;
-    while i < 16 {
-        let y = i / 4;
-        let x = i % 4;
-        out[i] = r[y][x];
-        i += 1;
-    }
-    out
-}
-
-// .. and back: the line that starts at a place, and the four of them.
+// The line that starts at a place, and the four of them.
 fn coefficient_line(c: [i16; 16], from: usize) -> [i16; 4]
     requires { from ≤ 12 }
     ensures { result ≡ tabulate 4 (λ k. at c (from + k)) }
@@ -123,11 +82,13 @@ pub fn forward_4x4(
 ) -> SmallCoefficients
     ensures { ◌≡◌ {A = Outcome} (result.answer, flat result.block) (small_forward block horizontal vertical depth) }
 {
-    let residuals = joined(block);
     let mut coefficients = [0i16; 16];
     let shape = Shape::new(4, 4, horizontal, vertical, depth);
-    let answer = forward(shape, &residuals, &mut coefficients);
-    small_coefficients(answer, coefficient_lines(coefficients))
+    let answer = forward(shape, block.as_flattened(), &mut coefficients);
+    SmallCoefficients {
+        answer,
+        block: coefficient_lines(coefficients),
+    }
 }
 
 /// The inverse of 4 by 4 coefficients, with the rail count. Refusals 3, 4 and 5.
@@ -139,11 +100,13 @@ pub fn inverse_4x4(
 ) -> SmallResiduals
     ensures { ◌≡◌ {A = Outcome} (result.answer, flat result.block) (small_inverse block horizontal vertical depth) }
 {
-    let coefficients = joined(block);
     let mut residuals = [0i32; 16];
     let shape = Shape::new(4, 4, horizontal, vertical, depth);
-    let answer = inverse(shape, &coefficients, &mut residuals);
-    small_residuals(answer, residual_lines(residuals))
+    let answer = inverse(shape, block.as_flattened(), &mut residuals);
+    SmallResiduals {
+        answer,
+        block: residual_lines(residuals),
+    }
 }
 
 /// What both forms of the forward block hand back, each with its coefficients.
@@ -175,14 +138,13 @@ pub fn forward_both(
     ensures agree { ◌≡◌ {A = Outcome} (result.by_value, result.by_value_block) (result.lent, result.lent_block) }
 {
     let small = forward_4x4(block, horizontal, vertical, depth);
-    let residuals = joined(block);
     let mut lent_block = [0i16; 16];
     let shape = Shape::new(4, 4, horizontal, vertical, depth);
-    let lent = forward(shape, &residuals, &mut lent_block);
-    let by_value = small.answer;
-    let by_value_block = joined(coefficients_of(small));
+    let lent = forward(shape, block.as_flattened(), &mut lent_block);
+    let mut by_value_block = [0i16; 16];
+    by_value_block.copy_from_slice(small.block.as_flattened());
     BothCoefficients {
-        by_value,
+        by_value: small.answer,
         lent,
         by_value_block,
         lent_block,
@@ -200,14 +162,13 @@ pub fn inverse_both(
     ensures agree { ◌≡◌ {A = Outcome} (result.by_value, result.by_value_block) (result.lent, result.lent_block) }
 {
     let small = inverse_4x4(block, horizontal, vertical, depth);
-    let coefficients = joined(block);
     let mut lent_block = [0i32; 16];
     let shape = Shape::new(4, 4, horizontal, vertical, depth);
-    let lent = inverse(shape, &coefficients, &mut lent_block);
-    let by_value = small.answer;
-    let by_value_block = joined_residuals(residuals_of(small));
+    let lent = inverse(shape, block.as_flattened(), &mut lent_block);
+    let mut by_value_block = [0i32; 16];
+    by_value_block.copy_from_slice(small.block.as_flattened());
     BothResiduals {
-        by_value,
+        by_value: small.answer,
         lent,
         by_value_block,
         lent_block,

@@ -15,11 +15,7 @@ pub fn front(t: &[i16], most: usize, u: &mut [i16])
     requires { most ≡ min (length t.now) (length u.old) }
     ensures { Front (length u.old) u.new t.now }
 {
-    let mut k = 0;
-    while k < most {
-        u[k] = t[k];
-        k += 1;
-    }
+    u[..most].copy_from_slice(&t[..most]);
 }
 
 // The weights of up to 8 points, for which every room is large enough.

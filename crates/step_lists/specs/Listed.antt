@@ -2,7 +2,7 @@
 -- input". The list of n points as numbers, and the forward line by it.
 use Rattle.std.specs.Prelude.{Bool, not, cond, ◌||◌, List, [], ◌∷◌, map, ℕ, ◌/◌, eqb, ℤ, pos, length}
 use Rattle.algebra.specs.Lists.{at}
-use Rattle.algebra.specs.Refusals.{Refusal, first_of}
+use Rattle.algebra.specs.Refusals.{Test, first_of}
 use Rattle.meaning.specs.Answer.{test, output_test, length_tests}
 use Rattle.meaning.specs.Line.{forward_line}
 use Rattle.steps.specs.Steps.{StepList}
@@ -40,7 +40,7 @@ list_outcome n steps outs =
     cond (is_listed n) (handed_list p.inputs p.cells (encode p.steps) (map pos p.outs) steps outs) (listed 1 0 0 [] [], (steps, outs))
 
 -- ---- the forward line by its list
-abbrev pub step_line_tests : ℕ → ℕ → ℕ → List Refusal
+abbrev pub step_line_tests : ℕ → ℕ → ℕ → List Test
 step_line_tests n input output = test (not (is_listed n)) 1 ∷ length_tests n input output
 
 -- "The multiplying steps in the lists number at most 8, 127 and 620"

@@ -2,7 +2,7 @@
 use mathlib.Core.Path.{◌≡◌, refl, sym, ap, ◌∙◌}
 use mathlib.Core.Bool.{Bool, true, false, cond, not, ◌||◌}
 use mathlib.Core.List.{List, [], ◌∷◌, ◌++◌, map}
-use Prim.Native.Nat.{ℕ, zero, suc, ◌-◌, ◌/◌, ◌≤◌}
+use Prim.Native.Nat.{ℕ, zero, suc, ◌-◌, ◌/◌, ◌≤◌, ◌<◌}
 use native.Mathlib.Omega.{arith}
 use native.Mathlib.Nat.{sub-zero, zero-sub, suc-sub-suc}
 use lib.Dec.{ltb, eqb}
@@ -10,11 +10,14 @@ use lib.IntN.{ℤ, pos}
 use lib.ListN.{length, drop, replicate}
 use borrow.Author.Tests.{ltb-false, eqb-true}
 use Rattle.algebra.specs.Refusals.{number_of}
-use Rattle.steps.specs.Steps.{State, Run, refused, ran, and_then, run, first_state, finished, whole_run}
+use Rattle.meaning.specs.declared.refusal.Refusal.{Refusal}
+use Rattle.meaning.specs.Refusal.{refusal_number}
+use Rattle.steps.specs.Steps.{Run, refused, ran, and_then, first_state, finished}
 use Rattle.steps.specs.Numbers.{cell_of, decode, list_of}
 use Rattle.steps.specs.Outcome.{Result, untouched, list_tests, given, whole_numbers}
 use Rattle.step_run.specs.Parts.{state, tell, outs_refusal, readings}
 use Rattle.step_run.proofs.Laws.{decoded, read-outs}
+use Rattle.meaning.proofs.RefusalNumbers.{above}
 
 -- ---- before the first step
 map-long : (os : List ℤ) → length (map cell_of os) ≡ length os
@@ -61,13 +64,17 @@ started x v w e f =
     }
 
 -- ---- a number that is told, and one that is not
-told : {A : Type 0} (q : ℕ) (a : A) → (q ≡ 0 → ⊥) → refused q ≡ tell q a
+pub told : {A : Type 0} (q : ℕ) (a : A) → (q ≡ 0 → ⊥) → refused q ≡ tell q a
 told zero a h = absurd (h refl)
 told (suc k) a h = refl
 
 untold : {A : Type 0} (q : ℕ) (a : A) → q ≡ 0 → ran a ≡ tell q a
 untold zero a h = refl
 untold (suc k) a h = absurd (omega arith)
+
+-- 0 is the number of none
+pub numbered : (refusal : Refusal) → refusal_number refusal ≡ 0 → ⊥
+numbered refusal e = let p = above refusal in omega (arith, p, e)
 
 module _ (n : ℕ) (outs y v : List ℤ) (w : List Bool) (c : ℕ) where
   -- the output cells: the first that is refused, or what they hold
@@ -79,14 +86,3 @@ module _ (n : ℕ) (outs y v : List ℤ) (w : List Bool) (c : ℕ) where
 
   pub all_read : (q : ℕ) → q ≡ outs_refusal n w outs → q ≡ 0 → (record { number = 0; count = c }, readings v outs) ≡ given y (finished whole_numbers n (map cell_of outs) (state v w c))
   all_read q u z = ap last (untold q (readings v outs) z ∙ ap (λ m. tell m (readings v outs)) u ∙ read-outs n v w c outs)
-
-  -- the steps: the first that is refused, or the output cells
-  module _ (s x : List ℤ) (q : ℕ) (e : tell q (state v w c) ≡ run whole_numbers n (decode s) (first_state whole_numbers x)) where
-    abbrev rest : Run (State ℤ) → Result
-    rest r = given y (and_then r (λ st. finished whole_numbers n (map cell_of outs) st))
-
-    pub stopped : (q ≡ 0 → ⊥) → untouched y q ≡ given y (whole_run whole_numbers (list_of (length x) n s outs) x)
-    stopped h = ap rest (told q (state v w c) h ∙ e)
-
-    pub went_on : q ≡ 0 → {o : Result} → o ≡ given y (finished whole_numbers n (map cell_of outs) (state v w c)) → o ≡ given y (whole_run whole_numbers (list_of (length x) n s outs) x)
-    went_on z f = f ∙ ap rest (untold q (state v w c) z ∙ e)

@@ -1,7 +1,9 @@
 -- What the runner's functions are to give, part by part: one step from its four numbers, the states between, the output cells.
-use Rattle.std.specs.Prelude.{Bool, false, cond, ◌||◌, List, [], ◌∷◌, ℕ, zero, suc, ◌+◌, ltb, get_or, ℤ, pos, neg_ℤ, ◌+ℤ◌, ◌-ℤ◌, ◌*ℤ◌}
+use Rattle.std.specs.Prelude.{Bool, false, cond, ◌||◌, List, [], ◌∷◌, Result, Ok, Err, ℕ, zero, suc, ◌+◌, ltb, get_or, ℤ, pos, neg_ℤ, ◌+ℤ◌, ◌-ℤ◌, ◌*ℤ◌}
 use Rattle.algebra.specs.Equal.{eq_z}
 use Rattle.algebra.specs.Lists.{at}
+use Rattle.meaning.specs.declared.refusal.Refusal.{Refusal}
+use Rattle.meaning.specs.Refusal.{refusal_number}
 use Rattle.steps.specs.Steps.{Step, State, Run, refused, ran}
 use Rattle.steps.specs.Numbers.{cell_of, step_from}
 
@@ -23,6 +25,11 @@ state v w c = record { values = v; written = w; count = c }
 abbrev pub tell : {A : Type 0} → ℕ → A → Run A
 tell zero st = ran st
 tell (suc k) st = refused (suc k)
+
+-- the same with the count of the multiplying steps, or the refusal
+abbrev pub tell_count : {A : Type 0} → Result ℕ Refusal → (ℕ → A) → Run A
+tell_count (Ok count) st = ran (st count)
+tell_count (Err refusal) st = refused (refusal_number refusal)
 
 -- the first output cell that is refused; 0 where none is
 unfoldable pub outs_refusal : ℕ → List Bool → List ℤ → ℕ

@@ -13,7 +13,7 @@ use lib.Signed.{mag}
 use Rattle.algebra.specs.Equal.{eq_z}
 use Rattle.algebra.specs.Lists.{at, tabulate}
 use Rattle.algebra.specs.Sum.{sum}
-use Rattle.algebra.specs.Refusals.{Refusal, number_of}
+use Rattle.algebra.specs.Refusals.{Test, number_of}
 use Rattle.algebra.proofs.Refusals.{passed_first}
 use Rattle.algebra.proofs.Order.{mag-abs}
 use Rattle.algebra.proofs.Sum.{sum-cong}
@@ -105,7 +105,7 @@ module _ (W : ℕ → ℕ → ℤ) (n : ℕ) (p : StepList) (xs out : List ℤ) 
   finish (ran d) (ran e) t f c = λ i. (record { number = 0; count = c i }, outs-are d.outs e.outs t f i)
 
   module _ (passes : T (gives W n p)) where
-    abbrev tests : ℕ → ℕ → List Refusal
+    abbrev tests : ℕ → ℕ → List Test
     tests input output = list_tests (length p.steps) p.cells p.inputs (length p.outs) input output
 
     runs : Ran (λ d. given out (ran d) ≡ (record { number = 0; count = multiplying p.steps }, product W n xs)) (whole_run whole_numbers p xs)

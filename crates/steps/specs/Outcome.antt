@@ -2,7 +2,7 @@
 use Rattle.std.specs.Prelude.{Bool, ◌||◌, List, [], ◌∷◌, ℕ, ◌^◌, ◌≤◌, ◌<◌, ltb, ℤ, pos, neg_ℤ, nat_abs, ◌+ℤ◌, ◌-ℤ◌, ◌*ℤ◌, length}
 use Rattle.std.specs.Int.Signed.{mag}
 use Rattle.algebra.specs.Lists.{at}
-use Rattle.algebra.specs.Refusals.{Refusal, first_of}
+use Rattle.algebra.specs.Refusals.{Test, first_of}
 use Rattle.meaning.specs.Answer.{test, input_test, output_test}
 use Rattle.steps.specs.declared.StepCount.{StepCount}
 use Rattle.steps.specs.Steps.{StepList, Carrier, Done, Run, refused, ran, whole_run, limit}
@@ -28,7 +28,7 @@ untouched out number = (record { number = number; count = 0 }, out)
 
 -- "18 for more than 2,048 steps or cells; 6 and 7 for lengths other than the list's own"; "more inputs than cells is 28, before any
 -- step"
-abbrev pub list_tests : (steps cells inputs outs input output : ℕ) → List Refusal
+abbrev pub list_tests : (steps cells inputs outs input output : ℕ) → List Test
 list_tests steps cells inputs outs input output =
     test (ltb limit steps || ltb limit cells) 18
     ∷ input_test inputs input

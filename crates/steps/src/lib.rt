@@ -5,10 +5,31 @@
 // `step_lists`.
 #![tactic(auto)]
 
+ghost use Rattle.std.specs.Prelude.{◌≡◌};
+ghost use Rattle.steps.specs.Counted.{step_count};
+
+use meaning::Refusal;
+
 /// What a run hands back beside its output: the number of the refusal or 0, and how many multiplying steps it took.
 #[repr(C)]
 #[derive(Clone, Copy)]
 pub struct StepCount {
     pub number: u32,
     pub count: u32,
+}
+
+impl From<Result<u32, Refusal>> for StepCount {
+    ghost from_gives = { λ run count. count ≡ step_count run };
+
+    fn from(run: Result<u32, Refusal>) -> StepCount
+        ensures { result ≡ step_count run }
+    {
+        match run {
+            Ok(count) => StepCount { number: 0, count },
+            Err(refusal) => StepCount {
+                number: refusal.number(),
+                count: 0,
+            },
+        }
+    }
 }

@@ -479,64 +479,40 @@ const FORWARD_0_32: [i16; 1024] = [
 pub fn zipped_4(kind: u32, forward: bool) -> [i16; 16]
     ensures { Laid 4 2 2 8 (λ i j. term forward kind 4 j i) result }
 {
-    if kind == 1 {
-        if forward {
-            return FORWARD_1_4;
-        }
-        return INVERSE_1_4;
+    match (kind, forward) {
+        (0, false) => INVERSE_0_4,
+        (0, true) => FORWARD_0_4,
+        (1, false) => INVERSE_1_4,
+        (1, true) => FORWARD_1_4,
+        (2, _) => BOTH_2_4,
+        _ => [0; 16],
     }
-    if kind == 2 {
-        return BOTH_2_4;
-    }
-    if kind == 0 {
-        if forward {
-            return FORWARD_0_4;
-        }
-        return INVERSE_0_4;
-    }
-    [0; 16]
 }
 
 pub fn zipped_8(kind: u32, forward: bool) -> [i16; 64]
     ensures { Laid 8 4 2 16 (λ i j. term forward kind 8 j i) result }
 {
-    if kind == 1 {
-        if forward {
-            return FORWARD_1_8;
-        }
-        return INVERSE_1_8;
+    match (kind, forward) {
+        (0, false) => INVERSE_0_8,
+        (0, true) => FORWARD_0_8,
+        (1, false) => INVERSE_1_8,
+        (1, true) => FORWARD_1_8,
+        (2, _) => BOTH_2_8,
+        _ => [0; 64],
     }
-    if kind == 2 {
-        return BOTH_2_8;
-    }
-    if kind == 0 {
-        if forward {
-            return FORWARD_0_8;
-        }
-        return INVERSE_0_8;
-    }
-    [0; 64]
 }
 
 pub fn zipped_16(kind: u32, forward: bool) -> [i16; 256]
     ensures { Laid 16 8 2 32 (λ i j. term forward kind 16 j i) result }
 {
-    if kind == 1 {
-        if forward {
-            return FORWARD_1_16;
-        }
-        return INVERSE_1_16;
+    match (kind, forward) {
+        (0, false) => INVERSE_0_16,
+        (0, true) => FORWARD_0_16,
+        (1, false) => INVERSE_1_16,
+        (1, true) => FORWARD_1_16,
+        (2, _) => BOTH_2_16,
+        _ => [0; 256],
     }
-    if kind == 2 {
-        return BOTH_2_16;
-    }
-    if kind == 0 {
-        if forward {
-            return FORWARD_0_16;
-        }
-        return INVERSE_0_16;
-    }
-    [0; 256]
 }
 
 // A number that is no kind weighs nothing. As a constant it is copied; as an array it would be made on the stack first.
@@ -546,25 +522,12 @@ const NONE_32: [i16; 1024] = [0; 1024];
 pub fn put_32(kind: u32, forward: bool, u: &mut [i16; 1024])
     ensures { (length u.new ≡ 1024) × Laid 32 16 2 64 (λ i j. term forward kind 32 j i) u.new }
 {
-    if kind == 1 {
-        if forward {
-            *u = FORWARD_1_32;
-            return;
-        }
-        *u = INVERSE_1_32;
-        return;
+    match (kind, forward) {
+        (0, false) => *u = INVERSE_0_32,
+        (0, true) => *u = FORWARD_0_32,
+        (1, false) => *u = INVERSE_1_32,
+        (1, true) => *u = FORWARD_1_32,
+        (2, _) => *u = BOTH_2_32,
+        _ => *u = NONE_32,
     }
-    if kind == 2 {
-        *u = BOTH_2_32;
-        return;
-    }
-    if kind == 0 {
-        if forward {
-            *u = FORWARD_0_32;
-            return;
-        }
-        *u = INVERSE_0_32;
-        return;
-    }
-    *u = NONE_32;
 }

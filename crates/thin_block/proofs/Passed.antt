@@ -10,7 +10,7 @@ use borrow.Author.Tests.{eqb-true, not-false, ltb-false}
 use lib.Dec.{eqb, ltb}
 use lib.IntN.{ℤ}
 use lib.ListN.{length}
-use Rattle.algebra.specs.Refusals.{Refusal, number_of}
+use Rattle.algebra.specs.Refusals.{Test, number_of}
 use Rattle.algebra.proofs.Refusals.{Clear, clear-split, none-applies, clear, no_number, side_by_side}
 use Rattle.meaning.specs.declared.Shape.{Shape}
 use Rattle.meaning.specs.Shape.{is_depth}
@@ -29,7 +29,7 @@ module _ (sh : Shape) (c a b : List ℤ) where
   abbrev elements : ℕ
   elements = sh.width * sh.height
 
-  abbrev eight : List Refusal
+  abbrev eight : List Test
   eight = thin_shape_tests sh ++ area_tests elements (length c) (length a) (length b)
 
   pub record Passed : Type 0 where

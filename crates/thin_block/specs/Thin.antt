@@ -3,7 +3,7 @@
 use Rattle.std.specs.Prelude.{Bool, cond, ◌&&◌, ◌||◌, List, [], ◌∷◌, ◌++◌, ℕ, ◌*◌, ◌-◌, eqb, ltb, ℤ, length, drop}
 use Rattle.algebra.specs.Shift.{nearest}
 use Rattle.algebra.specs.Lists.{at, tabulate, block}
-use Rattle.algebra.specs.Refusals.{Refusal, first_of}
+use Rattle.algebra.specs.Refusals.{Test, first_of}
 use Rattle.meaning.specs.declared.Shape.{Shape}
 use Rattle.meaning.specs.Line.{inverse_sum}
 use Rattle.meaning.specs.Shape.{is_size, is_depth}
@@ -44,15 +44,15 @@ unfoldable pub thin_block : Shape → List ℤ → List ℤ
 thin_block sh c = tabulate (sh.width * sh.height) (thin_residual sh c)
 
 -- 1 to 5 and 20, "in this call alone"
-abbrev pub thin_shape_tests : Shape → List Refusal
+abbrev pub thin_shape_tests : Shape → List Test
 thin_shape_tests sh = shape_tests_by (is_side sh.width sh.height) (is_side sh.height sh.width) (is_depth sh.depth) sh
 
 -- 6, and "19 for a work area shorter than w*h, in place of 7"
-abbrev pub area_tests : ℕ → ℕ → ℕ → ℕ → List Refusal
+abbrev pub area_tests : ℕ → ℕ → ℕ → ℕ → List Test
 area_tests n input first second = input_test n input ∷ test (ltb first n || ltb second n) 19 ∷ []
 
 -- and 8
-abbrev pub thin_tests : Shape → List ℤ → List ℤ → List ℤ → List Refusal
+abbrev pub thin_tests : Shape → List ℤ → List ℤ → List ℤ → List Test
 thin_tests sh c a b =
     thin_shape_tests sh ++ area_tests (sh.width * sh.height) (length c) (length a) (length b) ++ (outside_test (plan_of sh) c ∷ [])
 

@@ -9,6 +9,7 @@ mod one;
 mod two;
 
 ghost use Rattle.std.specs.Prelude.{◌≡◌};
+ghost use Rattle.meaning.specs.Refusal.{refusal_number};
 ghost use Rattle.thin_block.specs.Thin.{Areas, thin_outcome};
 ghost use Rattle.thin_block.specs.Handed.{handed};
 
@@ -16,7 +17,7 @@ use crate::check::thin_refusal;
 use crate::one::{one_stage, single};
 use crate::two::two_stages;
 use inverse_hunt::hunt::first_outside;
-use meaning::Shape;
+use meaning::{Refusal, Shape};
 
 /// What a call hands back beside its areas: the number of the refusal or 0, its place, the rail count, and which area starts with
 /// the residuals: 1, 2, or 0 for a refused call.
@@ -29,48 +30,50 @@ pub struct Thin {
     pub area: u32,
 }
 
+impl Thin {
+    fn refused(refusal: Refusal, place: u32) -> Thin
+        ensures { result ≡ record { number = refusal_number refusal; place = place; rails = 0; area = 0 } }
+    {
+        Thin {
+            number: refusal.number(),
+            place,
+            rails: 0,
+            area: 0,
+        }
+    }
+
+    fn accepted(rails: u32, area: u32) -> Thin
+        ensures { result ≡ record { number = 0; place = 0; rails = rails; area = area } }
+    {
+        Thin {
+            number: 0,
+            place: 0,
+            rails,
+            area,
+        }
+    }
+}
+
 /// The inverse of a block of which one side may be 1: the residuals stand in the first area after one stage, in the second after
 /// two. Any numbers, any buffers.
 pub fn work(shape: Shape, coefficients: &[i16], first: &mut [i32], second: &mut [i32]) -> Thin
     ensures { ◌≡◌ {A = Areas} (record { answer = result; first = first.new; second = second.new }) (thin_outcome shape coefficients.now first.old second.old) }
 {
-    let number = thin_refusal(shape, coefficients.len(), first.len(), second.len());
-    if number != 0 {
-        return Thin {
-            number,
-            place: 0,
-            rails: 0,
-            area: 0,
-        };
+    if let Err(refusal) = thin_refusal(shape, coefficients.len(), first.len(), second.len()) {
+        return Thin::refused(refusal, 0);
     }
     let w = shape.width as usize;
     let h = shape.height as usize;
-    let place = first_outside(shape, w, h, coefficients);
-    if place < coefficients.len() {
-        return Thin {
-            number: 8,
-            place: place as u32,
-            rails: 0,
-            area: 0,
-        };
+    if let Some(place) = first_outside(shape, w, h, coefficients) {
+        return Thin::refused(Refusal::OutsideKept, place as u32);
     }
     let n = coefficients.len();
     if one_stage(shape) {
         single(shape, coefficients, &mut first[..n]);
-        return Thin {
-            number: 0,
-            place: 0,
-            rails: 0,
-            area: 1,
-        };
+        return Thin::accepted(0, 1);
     }
     let rails = two_stages(shape, coefficients, &mut first[..n], &mut second[..n]);
-    Thin {
-        number: 0,
-        place: 0,
-        rails,
-        area: 2,
-    }
+    Thin::accepted(rails, 2)
 }
 
 /// The same, with the residuals handed back as the stretch that holds them, and the answer beside it.

@@ -9,13 +9,11 @@ ghost use Rattle.thin_block.specs.Given.{Lined, Single};
 use long_stages::arith::nearest;
 use meaning::Shape;
 
+#[tactic(auto, unfolding(crate::specs::Thin::one_stage))]
 pub fn one_stage(shape: Shape) -> bool
     ensures { result ≡ one_stage shape }
 {
-    if shape.width == 1 {
-        return true;
-    }
-    shape.height == 1
+    shape.width == 1 || shape.height == 1
 }
 
 // Each number over 2^s, to the nearest.
@@ -23,10 +21,8 @@ fn round_each(s: u32, out: &mut [i32])
     requires { (0 < s) × (s ≤ 32) }
     ensures { out.new ≡ tabulate (length out.old) (λ k. nearest s (at out.old k)) }
 {
-    let mut k = 0;
-    while k < out.len() {
+    for k in 0..out.len() {
         out[k] = nearest(out[k] as i64, s) as i32;
-        k += 1;
     }
 }
 

@@ -12,7 +12,7 @@ use borrow.Author.Tests.{eq-eqb, le-ltb, ltb-false}
 use lib.Dec.{eqb, ltb}
 use lib.IntN.{ℤ}
 use lib.ListN.{length}
-use Rattle.algebra.specs.Refusals.{Refusal}
+use Rattle.algebra.specs.Refusals.{Test}
 use Rattle.algebra.proofs.Refusals.{Clear, clear-split, none-applies}
 use Rattle.meaning.specs.Answer.{Outcome, refused, test_at}
 use Rattle.meaning.proofs.AcceptedCalls.{no-refusal}

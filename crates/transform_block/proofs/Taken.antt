@@ -10,7 +10,7 @@ use lib.Dec.{eqb, leb}
 use lib.IntN.{ℤ, pos, nat_abs}
 use lib.ListN.{length}
 use lib.Pow.{pow_mono, pow_pos}
-use Rattle.algebra.specs.Refusals.{Refusal, number_of}
+use Rattle.algebra.specs.Refusals.{Test, number_of}
 use Rattle.algebra.specs.Lists.{at}
 use Rattle.algebra.proofs.Refusals.{Clear, clear-split, no_number}
 use Rattle.algebra.proofs.Order.{le_parts, parts-abs}

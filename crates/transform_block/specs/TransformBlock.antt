@@ -5,7 +5,7 @@ use Rattle.std.specs.Prelude.{Bool, true, not, cond, ◌&&◌, ◌||◌, List, [
 use Rattle.algebra.specs.Shift.{nearest}
 use Rattle.algebra.specs.Lists.{at, tabulate, block}
 use Rattle.algebra.specs.First.{first_at}
-use Rattle.algebra.specs.Refusals.{Refusal}
+use Rattle.algebra.specs.Refusals.{Test}
 use Rattle.meaning.specs.Line.{inverse_sum}
 use Rattle.meaning.specs.Shape.{is_size, is_kind, is_depth_to, most_kept, is_kept}
 use Rattle.meaning.specs.Plan.{Plan, range_of, reach}
@@ -152,7 +152,7 @@ abbrev pub first_read_beyond : Plan → List ℤ → ℕ
 first_read_beyond p c = first_at (read_beyond p) 0 c
 
 -- 1 to 4, 30, 5, 20 and 31
-abbrev pub block_tests : TransformBlock → List Refusal
+abbrev pub block_tests : TransformBlock → List Test
 block_tests b =
     test (not (is_block_side b.width)) 1
     ∷ test (not (is_pair b)) 2
@@ -165,11 +165,11 @@ block_tests b =
     ∷ []
 
 -- and 6
-abbrev pub handed_tests : TransformBlock → ℕ → List Refusal
+abbrev pub handed_tests : TransformBlock → ℕ → List Test
 handed_tests b n = block_tests b ++ (input_test (b.width * b.height) n ∷ [])
 
 -- and 27, with its place
-abbrev pub transform_tests : TransformBlock → List ℤ → List Refusal
+abbrev pub transform_tests : TransformBlock → List ℤ → List Test
 transform_tests b c = handed_tests b (length c) ++ (test_at (first_read_beyond (transform_plan b) c) (length c) 27 ∷ [])
 
 -- columns and rows; "The rail count is as in document 02; 0 with one stage"

@@ -15,17 +15,9 @@ fn short_of(block: TransformBlock) -> TransformBlock
     ensures { result ≡ shortened block }
 {
     TransformBlock {
-        width: block.width,
-        height: block.height,
-        horizontal: block.horizontal,
-        vertical: block.vertical,
         depth: 20 - last(block),
         extended: 0,
-        columns: block.columns,
-        rows: block.rows,
-        lfnst: block.lfnst,
-        set: block.set,
-        transposed: block.transposed,
+        ..block
     }
 }
 

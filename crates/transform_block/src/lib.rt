@@ -28,7 +28,7 @@ use crate::hunt::first_beyond;
 use crate::low::after_low;
 use crate::usual::tried;
 use crate::work::work;
-use meaning::{Answer, accepted, most_kept, refused};
+use meaning::{Answer, Refusal, accepted, most_kept};
 
 /// What a transform block is: its sides, a kind for each direction, its bit depth, the extended-precision switch (0 off, any other
 /// number on), how many columns and rows are read, and LFNST: its index (0 none), the set of its matrices, and whether its values go
@@ -80,13 +80,11 @@ impl TransformBlock {
 fn ordinary(block: TransformBlock, numbers: &mut [i32]) -> Answer
     ensures { ◌≡◌ {A = Outcome} (result, numbers.new) (transform_outcome block numbers.old) }
 {
-    let number = field_refusal(block, numbers.len());
-    if number != 0 {
-        return refused(number, 0);
+    if let Err(refusal) = field_refusal(block, numbers.len()) {
+        return refusal.at(0);
     }
-    let place = first_beyond(block, numbers);
-    if place < numbers.len() {
-        return refused(27, place as u32);
+    if let Some(place) = first_beyond(block, numbers) {
+        return Refusal::OutOfRange.at(place as u32);
     }
     let behind = after_low(block, numbers);
     let calm = calmed(behind, numbers);

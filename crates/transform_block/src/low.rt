@@ -25,17 +25,10 @@ fn low(block: TransformBlock, side: u32, numbers: &mut [i32]) -> TransformBlock
         numbers,
     );
     TransformBlock {
-        width: block.width,
-        height: block.height,
-        horizontal: block.horizontal,
-        vertical: block.vertical,
-        depth: block.depth,
-        extended: block.extended,
         columns: side,
         rows: side,
         lfnst: 0,
-        set: block.set,
-        transposed: block.transposed,
+        ..block
     }
 }
 

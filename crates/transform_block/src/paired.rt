@@ -8,23 +8,18 @@ use crate::TransformBlock;
 use crate::rules::{is_on, last, one_stage};
 use transform_pairs::stages::stages;
 
+#[tactic(auto, unfolding(crate::specs::Given::is_paired))]
 pub fn is_paired(block: TransformBlock) -> bool
     ensures { result ≡ is_paired block }
 {
-    if is_on(block) {
-        return false;
-    }
-    !one_stage(block)
+    !is_on(block) && !one_stage(block)
 }
 
 // Whether a side is 2.
 fn has_two(block: TransformBlock) -> bool
     ensures { result ≡ true → (block.width ≡ 2) ⊎ (block.height ≡ 2) }
 {
-    if block.width == 2 {
-        return true;
-    }
-    block.height == 2
+    block.width == 2 || block.height == 2
 }
 
 // Hands back the rail count. A side of 2 has code of its own.

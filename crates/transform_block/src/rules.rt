@@ -11,13 +11,11 @@ pub fn is_on(block: TransformBlock) -> bool
     block.extended != 0
 }
 
+#[tactic(auto, unfolding(crate::specs::TransformBlock::is_thin))]
 pub fn one_stage(block: TransformBlock) -> bool
     ensures { result ≡ is_thin block }
 {
-    if block.width == 1 {
-        return true;
-    }
-    block.height == 1
+    block.width == 1 || block.height == 1
 }
 
 pub fn has_low(block: TransformBlock) -> bool

@@ -10,19 +10,11 @@ use meaning::{Shape, is_depth, is_size};
 use transform_short::rooms::stages;
 
 // Whether document 01's call takes the block.
+#[tactic(auto, unfolding(crate::specs::Given::is_short))]
 pub fn is_short(block: TransformBlock) -> bool
     ensures { result ≡ is_short block }
 {
-    if is_on(block) {
-        return false;
-    }
-    if !is_size(block.width) {
-        return false;
-    }
-    if !is_size(block.height) {
-        return false;
-    }
-    is_depth(block.depth)
+    !is_on(block) && is_size(block.width) && is_size(block.height) && is_depth(block.depth)
 }
 
 // Hands back the rail count.

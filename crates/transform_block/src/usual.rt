@@ -12,65 +12,37 @@ use transform_short::quick::quick;
 fn is_plain(block: TransformBlock) -> bool
     ensures { result ≡ true → Plain block }
 {
-    if block.extended != 0 {
-        return false;
-    }
-    if block.lfnst != 0 {
-        return false;
-    }
-    if block.set != 0 {
-        return false;
-    }
-    if block.transposed != 0 {
-        return false;
-    }
-    if block.horizontal != 0 {
-        return false;
-    }
-    block.vertical == 0
+    block.extended == 0
+        && block.lfnst == 0
+        && block.set == 0
+        && block.transposed == 0
+        && block.horizontal == 0
+        && block.vertical == 0
 }
 
 // Whether 1 to n of n are read.
 fn is_some(n: u32, k: u32) -> bool
     ensures { result ≡ true → (1 ≤ k) × (k ≤ n) }
 {
-    if k < 1 {
-        return false;
-    }
-    k <= n
+    1 <= k && k <= n
 }
 
 fn is_one(block: TransformBlock) -> bool
     ensures { result ≡ true → (block.columns ≡ 1) × (block.rows ≡ 1) }
 {
-    if block.columns != 1 {
-        return false;
-    }
-    block.rows == 1
+    block.columns == 1 && block.rows == 1
 }
 
 fn is_usual(block: TransformBlock, numbers: usize) -> bool
     ensures { result ≡ true → Usual block numbers }
 {
-    if !is_plain(block) {
-        return false;
-    }
-    if !is_size(block.width) {
-        return false;
-    }
-    if !is_size(block.height) {
-        return false;
-    }
-    if !is_depth(block.depth) {
-        return false;
-    }
-    if !is_some(block.width, block.columns) {
-        return false;
-    }
-    if !is_some(block.height, block.rows) {
-        return false;
-    }
-    numbers == block.width as usize * block.height as usize
+    is_plain(block)
+        && is_size(block.width)
+        && is_size(block.height)
+        && is_depth(block.depth)
+        && is_some(block.width, block.columns)
+        && is_some(block.height, block.rows)
+        && numbers == block.width as usize * block.height as usize
 }
 
 // Where one number alone is read, a fill, if the number is in the range.

@@ -16,22 +16,12 @@ use dct2_block::alone::flat;
 fn is_flat(block: TransformBlock) -> bool
     ensures { result ≡ true → Flat block }
 {
-    if block.columns != 1 {
-        return false;
-    }
-    if block.rows != 1 {
-        return false;
-    }
-    if block.horizontal != 0 {
-        return false;
-    }
-    if block.vertical != 0 {
-        return false;
-    }
-    if is_on(block) {
-        return false;
-    }
-    !one_stage(block)
+    block.columns == 1
+        && block.rows == 1
+        && block.horizontal == 0
+        && block.vertical == 0
+        && !is_on(block)
+        && !one_stage(block)
 }
 
 // Hands back the rail count.

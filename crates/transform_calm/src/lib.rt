@@ -12,10 +12,7 @@ fn size(v: i32) -> u32
     requires { nat_abs v ≤ 1048576 }
     ensures { result ≡ nat_abs v }
 {
-    if v < 0 {
-        return (0 - v) as u32;
-    }
-    v as u32
+    v.unsigned_abs()
 }
 
 fn row_size(c: &[i32]) -> u32
@@ -23,10 +20,8 @@ fn row_size(c: &[i32]) -> u32
     ensures { (result ≡ sumℕ (length c.now) (λ x. nat_abs (at c.now x))) × (result ≤ 33554432) }
 {
     let mut sum: u32 = 0;
-    let mut x = 0;
-    while x < c.len() {
+    for x in 0..c.len() {
         sum += size(c[x]);
-        x += 1;
     }
     sum
 }
@@ -37,12 +32,10 @@ pub fn is_calm(c: &[i32], w: usize, columns: usize, rows: usize) -> bool
     ensures { result ≡ leb (read_sizes w columns rows c.now) 32767 }
 {
     let mut sum: u32 = 0;
-    let mut y = 0;
-    while y < rows {
+    for y in 0..rows {
         let a = y * w;
         let b = a + columns;
         sum += row_size(&c[a..b]);
-        y += 1;
     }
     sum <= 32767
 }

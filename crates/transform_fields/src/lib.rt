@@ -10,91 +10,46 @@ use meaning::is_size;
 pub fn is_side(n: u32) -> bool
     ensures { result ≡ (eqb n 1 || (eqb n 2 || (is_size n || eqb n 64))) }
 {
-    if n == 1 {
-        return true;
-    }
-    if n == 2 {
-        return true;
-    }
-    if is_size(n) {
-        return true;
-    }
-    n == 64
+    matches!(n, 1 | 2 | 64) || is_size(n)
 }
 
 // "not both 1".
 pub fn is_pair(width: u32, height: u32) -> bool
     ensures { result ≡ ((eqb height 1 || (eqb height 2 || (is_size height || eqb height 64))) && not (eqb width 1 && eqb height 1)) }
 {
-    if !is_side(height) {
-        return false;
-    }
-    if width == 1 {
-        return height != 1;
-    }
-    true
+    is_side(height) && !(width == 1 && height == 1)
 }
 
 // "a kind other than 0 where the side is 2 or 64".
 pub fn no_line(kind: u32, n: u32) -> bool
     ensures { result ≡ ((eqb n 2 || eqb n 64) && not (eqb kind 0)) }
 {
-    if n == 2 {
-        return kind != 0;
-    }
-    if n == 64 {
-        return kind != 0;
-    }
-    false
+    matches!(n, 2 | 64) && kind != 0
 }
 
 pub fn is_depth(d: u32) -> bool
     ensures { result ≡ is_depth_to 16 d }
 {
-    if d < 8 {
-        return false;
-    }
-    d <= 16
+    8 <= d && d <= 16
 }
 
 // "at most 4" columns and rows with LFNST.
 pub fn is_corner(lfnst: u32, columns: u32, rows: u32) -> bool
     ensures { result ≡ cond (not (eqb lfnst 0)) (leb columns 4 && leb rows 4) true }
 {
-    if lfnst == 0 {
-        return true;
-    }
-    if 4 < columns {
-        return false;
-    }
-    rows <= 4
+    lfnst == 0 || (columns <= 4 && rows <= 4)
 }
 
 // Sides of 4 or more, and kind 0.
 pub fn takes_low(width: u32, height: u32, horizontal: u32, vertical: u32) -> bool
     ensures { result ≡ ((leb 4 width && leb 4 height) && (eqb horizontal 0 && eqb vertical 0)) }
 {
-    if width < 4 {
-        return false;
-    }
-    if height < 4 {
-        return false;
-    }
-    if horizontal != 0 {
-        return false;
-    }
-    vertical == 0
+    4 <= width && 4 <= height && horizontal == 0 && vertical == 0
 }
 
 // The index, the set and the flag of LFNST.
 pub fn known_low(lfnst: u32, set: u32, transposed: u32) -> bool
     ensures { result ≡ (leb lfnst 2 && (leb set 3 && leb transposed 1)) }
 {
-    if 2 < lfnst {
-        return false;
-    }
-    if 3 < set {
-        return false;
-    }
-    transposed <= 1
+    lfnst <= 2 && set <= 3 && transposed <= 1
 }

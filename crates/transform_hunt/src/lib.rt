@@ -3,8 +3,9 @@
 // specs/Hunt.
 #![tactic(auto)]
 
-ghost use Rattle.std.specs.Prelude.{◌≡◌, true, false, ℕ, ◌+◌, ◌*◌, ◌≤◌, ◌<◌, length};
+ghost use Rattle.std.specs.Prelude.{◌≡◌, true, false, ℕ, ◌+◌, ◌*◌, ◌≤◌, ◌<◌, MatchOption, length};
 ghost use Rattle.algebra.specs.Lists.{at};
+ghost use Rattle.algebra.specs.First.{found};
 ghost use Rattle.meaning.specs.Plan.{range_of};
 ghost use Rattle.meaning.specs.Long.{beyond};
 ghost use Rattle.transform_hunt.specs.Hunt.{GivenHunt, first_read, BeyondFrom};
@@ -17,12 +18,10 @@ fn any_long(c: &[i32], count: usize) -> bool
     ensures { result ≡ false → (k : ℕ) → k < count → beyond (range_of 15) (at c.now k) ≡ false }
 {
     let mut found = false;
-    let mut k = 0;
-    while k < count {
+    for k in 0..count {
         if is_beyond(c[k], 15) {
             found = true;
         }
-        k += 1;
     }
     found
 }
@@ -32,52 +31,37 @@ fn is_clear(c: &[i32], count: usize, reach: u32) -> bool
     requires { count ≤ length c.now }
     ensures { result ≡ true → (k : ℕ) → k < count → beyond (range_of reach) (at c.now k) ≡ false }
 {
-    if reach != 15 {
-        return false;
-    }
-    !any_long(c, count)
+    reach == 15 && !any_long(c, count)
 }
 
-// Where the first of `count` numbers from o on stands that is outside the range, or where they end.
-fn row_beyond(c: &[i32], o: usize, count: usize, reach: u32) -> usize
+// Where the first of `count` numbers from o on stands that is outside the range.
+fn row_beyond(c: &[i32], o: usize, count: usize, reach: u32) -> Option<usize>
     requires { (o + count ≤ length c.now) × (reach ≤ 20) }
-    ensures { BeyondFrom c.now o count reach result }
+    ensures { MatchOption result (BeyondFrom c.now o count reach (o + count)) (λ k. (k < o + count) × BeyondFrom c.now o count reach k) }
 {
-    let e = o + count;
-    let mut k = o;
-    while k < e {
-        if is_beyond(c[k], reach) {
-            return k;
-        }
-        k += 1;
-    }
-    k
+    (o..o + count).find(|k| is_beyond(c[*k], reach))
 }
 
-fn one_by_one(c: &[i32], w: usize, columns: usize, rows: usize, reach: u32) -> usize
+fn one_by_one(c: &[i32], w: usize, columns: usize, rows: usize, reach: u32) -> Option<usize>
     requires { GivenHunt c.now w columns rows reach }
-    ensures { result ≡ first_read w columns rows reach c.now }
+    ensures { result ≡ found (length c.now) (first_read w columns rows reach c.now) }
 {
-    let mut y = 0;
-    while y < rows {
-        let e = y * w + columns;
-        let k = row_beyond(c, y * w, columns, reach);
-        if k < e {
-            return k;
+    for y in 0..rows {
+        if let Some(k) = row_beyond(c, y * w, columns, reach) {
+            return Some(k);
         }
-        y += 1;
     }
-    c.len()
+    None
 }
 
-// The place of the first number that is read and outside the range, or how many numbers there are. The look takes whole rows, what
-// stands beside the columns included.
-pub fn first_read(c: &[i32], w: usize, columns: usize, rows: usize, reach: u32) -> usize
+// The place of the first number that is read and outside the range. The look takes whole rows, what stands beside the columns
+// included.
+pub fn first_read(c: &[i32], w: usize, columns: usize, rows: usize, reach: u32) -> Option<usize>
     requires { GivenHunt c.now w columns rows reach }
-    ensures { result ≡ first_read w columns rows reach c.now }
+    ensures { result ≡ found (length c.now) (first_read w columns rows reach c.now) }
 {
     if is_clear(c, rows * w, reach) {
-        return c.len();
+        return None;
     }
     one_by_one(c, w, columns, rows, reach)
 }

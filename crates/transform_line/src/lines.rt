@@ -95,8 +95,5 @@ pub fn lines_of(
 pub fn step_of(n: usize) -> usize
     ensures { result ≡ min n 32 }
 {
-    if n <= 32 {
-        return n;
-    }
-    32
+    n.min(32)
 }

@@ -12,10 +12,8 @@ use product::half;
 fn fill(v: i32, r: &mut [i32])
     ensures { r.new ≡ tabulate (length r.old) (λ _. v) }
 {
-    let mut i = 0;
-    while i < r.len() {
+    for i in 0..r.len() {
         r[i] = v;
-        i += 1;
     }
 }
 

@@ -33,12 +33,10 @@ pub fn rows_of_two(
     requires { GivenTwoPoints step apart h half shift z.now out.old }
     ensures { out.new ≡ block 2 h (two_at z.now step apart half shift) }
 {
-    let mut y = 0;
-    while y < h {
+    for y in 0..h {
         let a = z[y * step];
         let b = z[y * step + apart];
         out[2 * y] = sum_of(a, b, half, shift);
         out[2 * y + 1] = difference_of(a, b, half, shift);
-        y += 1;
     }
 }

@@ -8,10 +8,8 @@ fn copy(c: &[i32], o: usize, count: usize, p: usize, room: &mut [i32])
     requires { (o + count ≤ length c.now) × (p + count ≤ length room.old) }
     ensures { Copied c.now o count p room.old room.new }
 {
-    let mut x = 0;
-    while x < count {
+    for x in 0..count {
         room[p + x] = c[o + x];
-        x += 1;
     }
 }
 
@@ -31,9 +29,7 @@ pub fn read(c: &[i32], w: usize, columns: usize, rows: usize, room: &mut [i32; 1
     requires { Readable w columns rows c.now × RoomRead c.now w columns 0 room.old }
     ensures { RoomRead c.now w columns rows room.new }
 {
-    let mut y = 0;
-    while y < rows {
+    for y in 0..rows {
         copy(c, y * w, columns, y * 32, room);
-        y += 1;
     }
 }

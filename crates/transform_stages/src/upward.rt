@@ -11,9 +11,7 @@ pub fn upward(t: &[i16], w: usize, h: usize, columns: usize, pairs: usize, last:
     requires { GivenRows t.now w h columns pairs last m.old }
     ensures { m.new ≡ block w h (residual_at t.now w columns pairs last m.old) }
 {
-    let mut y = h;
-    while 0 < y {
-        y -= 1;
+    for y in (0..h).rev() {
         let line = line_of(m, y * columns, columns);
         let o = y * w;
         let e = o + w;

@@ -15,7 +15,7 @@ use lib.Dec.{eqb, ltb}
 use lib.IntN.{ℤ, pos, ◌+ℤ◌, ◌*ℤ◌}
 use lib.ListN.{length}
 use Rattle.algebra.specs.Lists.{at}
-use Rattle.algebra.specs.Refusals.{Refusal}
+use Rattle.algebra.specs.Refusals.{Test}
 use Rattle.algebra.proofs.Lists.{block_at, every-place, column-of, row_of}
 use Rattle.algebra.proofs.Refusals.{Clear, clear-split, clear-join, none-applies, clear}
 use Rattle.meaning.specs.declared.Shape.{Shape}
@@ -49,7 +49,7 @@ module _ (p : Plan) (c : List ℤ) (place : ℕ) (below : place < p.width * p.he
       sym (ap (λ (z : ℤ). pos (2 ^ (7 + p.last)) *ℤ z) placed ∙ four-parts p c (place % p.width) (place / p.width))
 
 -- ---- an accepted call, by the tests of its shape and those between 8 and 15
-module _ (shape between : List Refusal) (p : Plan) (c out : List ℤ) (place : ℕ) (room : length out ≡ p.width * p.height)
+module _ (shape between : List Test) (p : Plan) (c out : List ℤ) (place : ℕ) (room : length out ≡ p.width * p.height)
     (none : Clear (why_tests shape p c between place)) where
   past : Clear shape × Clear (input_test (p.width * p.height) (length c) ∷ outside_test p c ∷ (between ++ (place_test p place ∷ [])))
   past = clear-split shape (input_test (p.width * p.height) (length c) ∷ outside_test p c ∷ (between ++ (place_test p place ∷ []))) none
@@ -108,7 +108,7 @@ module _ (extended : Bool) (sh : Shape) (c out : List ℤ) (place : ℕ) (number
   abbrev q : Plan
   q = long_plan extended sh
 
-  abbrev last : List Refusal
+  abbrev last : List Test
   last = beyond_test q c ∷ []
 
   long-clear : Clear (why_tests (long_shape_tests extended sh) q c last place)

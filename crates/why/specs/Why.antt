@@ -1,7 +1,7 @@
 -- Document 02, Wish 4: "Why is this residual what it is?" The four parts of meaning/specs/Exact at a place, and the refusals of the
 -- two calls, over any plan.
 use Rattle.std.specs.Prelude.{Bool, not, List, [], ◌∷◌, ◌++◌, ℕ, ◌*◌, ◌/◌, ◌%◌, ltb, ℤ, pos, length}
-use Rattle.algebra.specs.Refusals.{Refusal, first_of}
+use Rattle.algebra.specs.Refusals.{Test, first_of}
 use Rattle.meaning.specs.declared.Shape.{Shape}
 use Rattle.meaning.specs.Plan.{Plan, plan_of, long_plan}
 use Rattle.meaning.specs.Answer.{test, input_test, shape_tests}
@@ -31,16 +31,16 @@ no_parts number place =
     record { number = number; place = place; exact = pos 0; middle_roundings = pos 0; clippings = pos 0; last_rounding = pos 0 }
 
 -- "15 for a place not below w*h"
-abbrev pub place_test : Plan → ℕ → Refusal
+abbrev pub place_test : Plan → ℕ → Test
 place_test p place = test (not (ltb place (p.width * p.height))) 15
 
 -- "those of the inverse without 7, then 15": the tests of a shape, 6, 8, those that stand between 8 and 15, and 15
-abbrev pub why_tests : List Refusal → Plan → List ℤ → List Refusal → ℕ → List Refusal
+abbrev pub why_tests : List Test → Plan → List ℤ → List Test → ℕ → List Test
 why_tests shape p c between place =
     shape ++ (input_test (p.width * p.height) (length c) ∷ outside_test p c ∷ (between ++ (place_test p place ∷ [])))
 
 -- the outcome by any plan
-abbrev pub why_by : List Refusal → Plan → List ℤ → ℕ → Parts
+abbrev pub why_by : List Test → Plan → List ℤ → ℕ → Parts
 why_by tests p c place = first_of tests no_parts (parts_of p c place)
 
 abbrev pub why_outcome : Shape → List ℤ → ℕ → Parts

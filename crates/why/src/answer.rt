@@ -3,6 +3,7 @@ ghost use Rattle.std.specs.Prelude.{◌≡◌, [], ◌∷◌, ◌*◌, ◌<◌};
 ghost use Rattle.algebra.specs.Refusals.{first_of};
 ghost use Rattle.meaning.specs.Long.{beyond_test};
 ghost use Rattle.meaning.specs.Plan.{long_plan};
+ghost use Rattle.meaning.specs.Refusal.{refusal_number};
 ghost use Rattle.meaning.specs.Inverse.{outside_test};
 ghost use Rattle.why.specs.Why.{parts_of, no_parts, place_test};
 ghost use Rattle.why.specs.Work.{Passed, Clean};
@@ -11,7 +12,7 @@ use crate::arith::last_rounding;
 use crate::sums::carried;
 use long_stages::hunt::{first_beyond, first_outside};
 use long_stages::rules::{last_shift, reach_of};
-use meaning::Shape;
+use meaning::{Refusal, Shape};
 
 /// What a call hands back: the number of the refusal or 0, its place, and the four parts, whose sum is 2^(27-d) times the residual,
 /// or 2^(7+s) times for the long numbers.
@@ -27,11 +28,11 @@ pub struct Parts {
 }
 
 // "Refusals, all four parts 0".
-pub fn refused(number: u32, place: u32) -> Parts
-    ensures { result ≡ no_parts number place }
+pub fn refused(refusal: Refusal, place: u32) -> Parts
+    ensures { result ≡ no_parts (refusal_number refusal) place }
 {
     Parts {
-        number,
+        number: refusal.number(),
         place,
         exact: 0,
         middle_roundings: 0,
@@ -64,16 +65,14 @@ pub fn later(shape: Shape, extended: bool, c: &[i32], place: u32) -> Parts
     requires { Passed extended shape c.now }
     ensures { result ≡ first_of (outside_test (long_plan extended shape) c.now ∷ beyond_test (long_plan extended shape) c.now ∷ place_test (long_plan extended shape) place ∷ []) no_parts (parts_of (long_plan extended shape) c.now place) }
 {
-    let first = first_outside(shape, c);
-    if first < c.len() {
-        return refused(8, first as u32);
+    if let Some(first) = first_outside(shape, c) {
+        return refused(Refusal::OutsideKept, first as u32);
     }
-    let far = first_beyond(reach_of(extended, shape.depth), c);
-    if far < c.len() {
-        return refused(27, far as u32);
+    if let Some(far) = first_beyond(reach_of(extended, shape.depth), c) {
+        return refused(Refusal::OutOfRange, far as u32);
     }
     if place < shape.width * shape.height {
         return told(shape, extended, c, place);
     }
-    refused(15, 0)
+    refused(Refusal::Place, 0)
 }

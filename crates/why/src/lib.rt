@@ -28,9 +28,8 @@ pub fn parts(shape: Shape, coefficients: &[i16], place: u32) -> Parts
 {
     let n = coefficients.len();
     // "those of the inverse without 7": as of an output that is as long as the input
-    let number = block_refusal(shape, false, n, n);
-    if number != 0 {
-        return refused(number, 0);
+    if let Err(refusal) = block_refusal(shape, false, n, n) {
+        return refused(refusal, 0);
     }
     let mut wide = room();
     widen(coefficients, &mut wide[0..n]);
@@ -42,9 +41,8 @@ pub fn long_parts(shape: Shape, extended: bool, coefficients: &[i32], place: u32
     ensures { result ≡ long_why_outcome extended shape coefficients.now place }
 {
     let n = coefficients.len();
-    let number = block_refusal(shape, extended, n, n);
-    if number != 0 {
-        return refused(number, 0);
+    if let Err(refusal) = block_refusal(shape, extended, n, n) {
+        return refused(refusal, 0);
     }
     later(shape, extended, coefficients, place)
 }

@@ -145,6 +145,14 @@ once-at (suc n) l e k h =
     let both = and_cases (eqb (times n l) 1) (once_to n l) e in
     last (λ (m : ℕ). times m l ≡ 1) n k h (eqb-true (times n l) 1 both.0) (λ i. once-at n l both.1 k i)
 
+-- a number that does not stand once
+pub once-off : (n : ℕ) (l : List ℕ) (k : ℕ) → k < n → (times k l ≡ 1 → ⊥) → once_to n l ≡ false
+once-off n l k h d = go (once_to n l) refl
+  where
+    go : (b : Bool) → once_to n l ≡ b → b ≡ false
+    go true e = absurd (d (once-at n l e k h))
+    go false e = refl
+
 pub is-order : (n : ℕ) (l : List ℕ) → is_order n l ≡ true → Order n l
 unfolding is_order
 is-order n l e =

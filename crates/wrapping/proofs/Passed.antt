@@ -1,10 +1,12 @@
 -- What a call that hands back number 0 has passed: the line's tests, and that of the order. Assumes nothing.
-use Rattle.std.proofs.Common.{◌≡◌, ℕ, eqb, List, eqb-true}
+use Rattle.std.proofs.Common.{◌≡◌, ◌<◌, ℕ, eqb, List, eqb-true, arith}
 use borrow.Author.Tests.{not-false}
 use Rattle.algebra.specs.Refusals.{number_of}
 use Rattle.algebra.proofs.Refusals.{Clear, no_number}
 use Rattle.meaning.specs.Shape.{is_size, is_kind}
 use Rattle.meaning.specs.Taken.{TakenLine}
+use Rattle.meaning.specs.declared.refusal.Refusal.{Refusal}
+use Rattle.meaning.specs.Refusal.{refusal_number}
 use Rattle.wrapping.specs.Order.{is_order, Order}
 use Rattle.wrapping.specs.Outcome.{wrapped_tests}
 use Rattle.wrapping.proofs.Orders.{is-order}

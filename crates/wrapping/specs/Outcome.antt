@@ -2,13 +2,13 @@
 -- line": neither stands in what is handed back, but that the order is refused where it is none.
 use Rattle.std.specs.Prelude.{ℕ, not, List, [], ◌∷◌, ◌++◌, length, ℤ}
 use Rattle.algebra.specs.Lists.{at}
-use Rattle.algebra.specs.Refusals.{Refusal}
+use Rattle.algebra.specs.Refusals.{Test}
 use Rattle.meaning.specs.Line.{forward_line, inverse_line}
 use Rattle.meaning.specs.Answer.{Outcome, outcome, accepted, test, line_tests}
 use Rattle.wrapping.specs.Order.{is_order}
 
 -- "those of the line, then 21"
-abbrev pub wrapped_tests : ℕ → ℕ → ℕ → ℕ → List ℕ → List Refusal
+abbrev pub wrapped_tests : ℕ → ℕ → ℕ → ℕ → List ℕ → List Test
 wrapped_tests n kind input output order = line_tests n kind input output ++ (test (not (is_order n order)) 21 ∷ [])
 
 -- the outcome of a line whose sums are z

@@ -12,25 +12,29 @@ ghost use Rattle.std.specs.Prelude.{◌≡◌};
 ghost use Rattle.algebra.specs.Lists.{at};
 ghost use Rattle.algebra.specs.Refusals.{number_of};
 ghost use Rattle.meaning.specs.Answer.{Outcome};
+ghost use Rattle.meaning.specs.Refusal.{number_in};
 ghost use Rattle.wrapping.specs.Feed.{line_sums};
 ghost use Rattle.wrapping.specs.Outcome.{wrapped_tests, wrapped_outcome, forward_wrapped, inverse_wrapped};
 
 use crate::places::is_order;
 use crate::running::line;
-use meaning::{Answer, accepted, line_refusal, refused};
+use meaning::{Answer, Refusal, accepted, line_refusal};
 
-// 1, 3, 6, 7 and 21, or 0.
-fn wrapped_refusal(n: u32, kind: u32, input: usize, output: usize, order: &[u32]) -> u32
-    ensures { result ≡ number_of (wrapped_tests n kind input output order.now) }
+// 1, 3, 6, 7 and 21.
+fn wrapped_refusal(
+    n: u32,
+    kind: u32,
+    input: usize,
+    output: usize,
+    order: &[u32],
+) -> Result<(), Refusal>
+    ensures { number_in result ≡ number_of (wrapped_tests n kind input output order.now) }
 {
-    let number = line_refusal(n, kind, input, output);
-    if number != 0 {
-        return number;
-    }
+    line_refusal(n, kind, input, output)?;
     if !is_order(order, n as usize) {
-        return 21;
+        return Err(Refusal::Order);
     }
-    0
+    Ok(())
 }
 
 // Either direction: the first refusal that applies, or the line.
@@ -45,9 +49,8 @@ fn total(
 ) -> Answer
     ensures { ◌≡◌ {A = Outcome} (result, y.new) (wrapped_outcome n kind order.now x.now y.old (line_sums forward kind n (at x.now))) }
 {
-    let number = wrapped_refusal(n, kind, x.len(), y.len(), order);
-    if number != 0 {
-        return refused(number, 0);
+    if let Err(refusal) = wrapped_refusal(n, kind, x.len(), y.len(), order) {
+        return refusal.at(0);
     }
     line(n as usize, kind, forward, start, order, x, y);
     accepted(0)

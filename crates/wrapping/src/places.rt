@@ -7,12 +7,10 @@ fn times_of(order: &[u32], k: usize) -> usize
     ensures { result ≡ times k order.now }
 {
     let mut t: usize = 0;
-    let mut i = 0;
-    while i < order.len() {
-        if order[i] as usize == k {
+    for place in order {
+        if *place as usize == k {
             t += 1;
         }
-        i += 1;
     }
     t
 }
@@ -23,13 +21,10 @@ pub fn is_order(order: &[u32], n: usize) -> bool
     if order.len() != n {
         return false;
     }
-    let mut once = true;
-    let mut k = 0;
-    while k < n {
+    for k in 0..n {
         if times_of(order, k) != 1 {
-            once = false;
+            return false;
         }
-        k += 1;
     }
-    once
+    true
 }

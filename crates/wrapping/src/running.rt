@@ -27,11 +27,9 @@ fn fed(t: &[i16], apart: usize, j: usize, x: &[i16], order: &[u32], start: u32) 
     ensures { (result ≡ adder start order.now (product_at t.now apart j x.now)) × (unsigned_abs (sum (length x.now) (product_at t.now apart j x.now)) ≤ length x.now * 2981888) }
 {
     let mut held = start;
-    let mut k = 0;
-    while k < order.len() {
+    for k in 0..order.len() {
         let p = product_at(t, apart, j, x, order[k] as usize);
         held = std::num::wrapping_add_u32(held, p);
-        k += 1;
     }
     held
 }
@@ -49,10 +47,8 @@ fn line_of(t: &[i16], apart: usize, start: u32, order: &[u32], x: &[i16], y: &mu
     requires { Feed (length x.now) apart t.now order.now × (length y.old ≡ length x.now) }
     ensures { y.new ≡ tabulate (length x.now) (λ j. sum (length x.now) (product_at t.now apart j x.now)) }
 {
-    let mut j = 0;
-    while j < y.len() {
+    for j in 0..y.len() {
         y[j] = sum_of(t, apart, j, x, order, start);
-        j += 1;
     }
 }
 

@@ -1,9 +1,7 @@
 -- `clip_all` meets its contract. Assumes nothing.
 use borrow.Author.Rules.{rules}
 use native.Mathlib.Omega.{arith}
-use mathlib.Core.Path.{◌≡◌, refl, sym}
-use Prim.Native.Nat.{ℕ, ◌*◌, ◌≤◌}
-use Rattle.clipping.specs.Clips.{Clips}
+use mathlib.Core.Path.{refl, sym}
 use Rattle.clipping.proofs.Clipped.{whole, as_many}
 use Rattle.clipping.proofs.clip_all.Statement.{statement}
 use Rattle.clipping.proofs.clip_all.Tie as tie

@@ -1,6 +1,5 @@
 -- `clip_read` meets its contract. Assumes nothing.
 use borrow.Author.Rules.{rules}
-use native.Mathlib.Omega.{arith}
 use borrow.Author.Tests.{not-true}
 use Rattle.clipping.proofs.Clipped.{held, fits}
 use Rattle.clipping.proofs.clip_read.Statement.{statement}

@@ -1,15 +1,14 @@
 -- `both` meets its contract: the second stage turns back what the first has turned. Assumes nothing.
 use borrow.Author.Rules.{rules}
 use native.Mathlib.Omega.{arith}
-use mathlib.Core.Path.{◌≡◌, refl, sym, ap, ◌∙◌, subst}
+use mathlib.Core.Path.{◌≡◌, sym, ap, ◌∙◌, subst}
 use mathlib.Core.List.{List}
-use Prim.Native.Nat.{ℕ, ◌+◌, ◌*◌, ◌-◌, ◌^◌, ◌/◌, ◌%◌, ◌≤◌, ◌<◌}
+use Prim.Native.Nat.{ℕ, ◌+◌, ◌*◌, ◌-◌, ◌^◌, ◌%◌, ◌≤◌, ◌<◌}
 use lib.ListN.{length, replicate, length-replicate}
 use lib.IntN.{ℤ, pos, nat_abs}
 use lib.Pow.{pow_mono}
 use mir.Syntax.{w32}
 use mir.Val.{to_z, of_z}
-use Rattle.algebra.specs.Lists.{at, block}
 use Rattle.algebra.proofs.Lists.{block-length}
 use Rattle.product.proofs.Laid.{half_is}
 use Rattle.kernel_levels.specs.Kernels.{Rowed}

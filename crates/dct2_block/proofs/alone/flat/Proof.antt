@@ -2,7 +2,7 @@
 use borrow.Author.Rules.{rules}
 use native.Mathlib.Omega.{arith}
 use mathlib.Core.Path.{◌≡◌, sym, ap, ◌∙◌, subst}
-use Prim.Native.Nat.{ℕ, ◌^◌, ◌-◌, ◌≤◌}
+use Prim.Native.Nat.{◌≤◌}
 use lib.IntN.{ℤ, pos, nat_abs, ◌*ℤ◌}
 use lib.ListN.{length}
 use mir.Syntax.{w32}
@@ -12,9 +12,8 @@ use Rattle.algebra.specs.Lists.{tabulate}
 use Rattle.algebra.proofs.Word.{small}
 use Rattle.algebra.proofs.Lists.{tab-length}
 use Rattle.meaning.specs.Inverse.{rounded}
-use Rattle.product.specs.Product.{shifted, Rounding}
+use Rattle.product.specs.Product.{shifted}
 use Rattle.product.proofs.Laid.{half_is, half-rounds}
-use Rattle.dct2_block.specs.Alone.{flat_of}
 use Rattle.dct2_block.proofs.Flat.{weighed-in, middle-in}
 use Rattle.dct2_block.proofs.alone.flat.Statement.{statement}
 use Rattle.dct2_block.proofs.alone.flat.Tie as tie

@@ -1,10 +1,8 @@
 -- `along` meets its contract: the one group of 4 rows, or groups of 8. Assumes nothing.
-use borrow.Author.Rules.{rules}
 use native.Mathlib.Omega.{arith}
 use mathlib.Core.Path.{◌≡◌, refl, sym, ap, ◌∙◌, subst}
 use mathlib.Core.Bool.{true}
-use mathlib.Core.List.{List}
-use Prim.Native.Nat.{ℕ, ◌+◌, ◌*◌, ◌/◌, ◌%◌, ◌≤◌, ◌<◌, min}
+use Prim.Native.Nat.{ℕ, ◌*◌, ◌%◌, ◌≤◌, ◌<◌, min}
 use native.Mathlib.Nat.{mul-le-mul}
 use lib.IntN.{ℤ, nat_abs}
 use lib.ListN.{length}
@@ -20,7 +18,7 @@ use Rattle.kernel_levels.specs.Kernels.{rows_sum}
 use Rattle.kernel_picks.specs.Picks.{is_kernel}
 use Rattle.dct2_block.specs.Stages.{place_of}
 use Rattle.dct2_block.proofs.Kernel.{below-8, wide_is}
-use Rattle.dct2_block.proofs.Groups.{group_place, four-place, eight-place}
+use Rattle.dct2_block.proofs.Groups.{four-place, eight-place}
 use Rattle.dct2_block.proofs.along.along.Statement.{statement}
 use Rattle.dct2_block.proofs.along.along.Tie as tie
 

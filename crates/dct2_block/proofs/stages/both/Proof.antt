@@ -1,22 +1,20 @@
 -- `both` meets its contract: the first stage into the front of the room, the second from it. Assumes nothing.
 use borrow.Author.Rules.{rules}
 use native.Mathlib.Omega.{arith}
-use mathlib.Core.Path.{◌≡◌, refl, sym, ap, ◌∙◌, subst}
+use mathlib.Core.Path.{◌≡◌, sym, ap, ◌∙◌, subst}
 use mathlib.Core.List.{List, ◌++◌}
-use Prim.Native.Nat.{ℕ, ◌+◌, ◌*◌, ◌-◌, ◌^◌, ◌≤◌, ◌<◌, min}
-use native.Mathlib.Nat.{mul_comm}
+use Prim.Native.Nat.{ℕ, ◌*◌, ◌-◌, ◌^◌, ◌≤◌, ◌<◌, min}
 use lib.Pow.{pow_mono}
-use lib.IntN.{ℤ, pos, nat_abs}
+use lib.IntN.{ℤ, nat_abs}
 use lib.ListN.{length, take, drop, length-append, length-drop}
 use lib.Seq.{take-length}
 use mir.Syntax.{w32}
 use mir.Val.{to_z, of_z}
-use Rattle.algebra.specs.Lists.{at, block}
+use Rattle.algebra.specs.Lists.{at}
 use Rattle.algebra.proofs.Lists.{block_cong, block-length, part-long, part_same}
-use Rattle.meaning.specs.Line.{inverse_sum}
 use Rattle.product.specs.Product.{shifted}
 use Rattle.product.proofs.Laid.{half_is}
-use Rattle.dct2_block.specs.Stages.{middle_of, residual_by, place_of, Tiles, Read, Inner, Rounded}
+use Rattle.dct2_block.specs.Stages.{middle_of, place_of, Tiles, Read, Inner, Rounded}
 use Rattle.dct2_block.proofs.Rooms.{front, across-sum}
 use Rattle.dct2_block.proofs.stages.both.Statement.{statement}
 use Rattle.dct2_block.proofs.stages.both.Tie as tie

@@ -1,6 +1,6 @@
 -- `whole_of` meets its contract. Assumes nothing.
 use native.Mathlib.Omega.{arith}
-use mathlib.Core.Path.{refl, sym}
+use mathlib.Core.Path.{refl}
 use borrow.Author.Tests.{lt-ltb, le-ltb}
 use Rattle.dct2_block.proofs.stages.whole_of.Statement.{statement}
 use Rattle.dct2_block.proofs.stages.whole_of.Tie as tie

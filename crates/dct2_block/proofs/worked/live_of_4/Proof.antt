@@ -1,7 +1,7 @@
 -- `live_of_4` meets its contract. Assumes nothing.
 use native.Mathlib.Omega.{arith}
-use mathlib.Core.Path.{◌≡◌, ap}
-use Prim.Native.Nat.{ℕ, ◌≤◌}
+use mathlib.Core.Path.{ap}
+use Prim.Native.Nat.{ℕ}
 use Rattle.kernel_picks.specs.Picks.{is_kernel}
 use Rattle.dct2_block.proofs.worked.live_of_4.Statement.{statement}
 use Rattle.dct2_block.proofs.worked.live_of_4.Tie as tie

@@ -1,8 +1,8 @@
 -- `worked` meets its contract. Assumes nothing.
 use borrow.Author.Rules.{rules}
 use native.Mathlib.Omega.{arith}
-use mathlib.Core.Path.{◌≡◌, refl, sym, ap, ◌∙◌, subst}
-use mathlib.Core.Bool.{true, false, true≢false}
+use mathlib.Core.Path.{◌≡◌, sym, ◌∙◌, subst}
+use mathlib.Core.Bool.{true, true≢false}
 use Prim.Native.Nat.{ℕ, ◌+◌, ◌*◌, ◌/◌, ◌≤◌, ◌<◌}
 use native.Mathlib.Nat.{mul_comm, mul-le-mul, mul-le-mul_right, one-mul}
 use lib.IntN.{ℤ, nat_abs}
@@ -12,7 +12,6 @@ use mir.Val.{SFits, to_z, of_z}
 use Rattle.algebra.specs.Lists.{at, tabulate, block}
 use Rattle.algebra.proofs.Order.{in-fits}
 use Rattle.algebra.proofs.Machine.{arg, cast, cast_fits, val}
-use Rattle.meaning.specs.Plan.{plan_of}
 use Rattle.layout.proofs.Zipping.{size-even}
 use Rattle.inverse_stage.specs.Given.{GivenStages}
 use Rattle.meaning.proofs.Cases.{size_in}

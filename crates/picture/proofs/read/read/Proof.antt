@@ -54,13 +54,13 @@ header-of-requires c κs = search rules
 is-picture-requires : tie.Need-is_picture-requires
 is-picture-requires c κs = search rules
 
-answer-requires : tie.Need-answer-requires
-answer-requires c κs = search rules
+refused-requires : tie.Need-refused-requires
+refused-requires c κs = search rules
 
 returns : tie.Need-returns-then-not-is_picture
 returns c =
     let b = c.before.before.before.before in
-    rw (c.answer.ensures, ← b.header_of-found.ensures, sym c.before.before.is_picture.ensures ∙ c.before.if-not-is_picture.true)
+    rw (c.refused.ensures, ← b.header_of-found.ensures, sym c.before.before.is_picture.ensures ∙ c.before.if-not-is_picture.true)
 
 cast-count : tie.Need-overflow_cast-count
 cast-count c = search rules
@@ -77,21 +77,21 @@ sub-if2 c = omega (arith, in-file (found c))
 mul-if2 : tie.Need-overflow_mul-count-2
 mul-if2 c = record { fits = omega (arith, few c) }
 
-answer-requires-2 : tie.Need-answer-requires-then-file-start
-answer-requires-2 c κs = search rules
+refused-requires-2 : tie.Need-refused-requires-then-file-start
+refused-requires-2 c κs = search rules
 
 returns-2 : tie.Need-returns-then-file-start
 returns-2 c =
     let e = c.before.before in
-    rw (c.answer-then-file-start.ensures, ← (found e).header_of-found.ensures, pictured e, ne_eqb _ _ (not-enough c.before))
+    rw (c.refused-then-file-start.ensures, ← (found e).header_of-found.ensures, pictured e, ne_eqb _ _ (not-enough c.before))
 
-answer-requires-3 : tie.Need-answer-requires-then-residuals-count
-answer-requires-3 c κs = search rules
+refused-requires-3 : tie.Need-refused-requires-then-residuals-count
+refused-requires-3 c κs = search rules
 
 returns-3 : tie.Need-returns-then-residuals-count
 returns-3 c =
     let e = c.before.before in
-    rw (c.answer-then-residuals-count.ensures, ← (found e.before).header_of-found.ensures, pictured e.before, eq-eqb _ _ (enough e), ne_eqb _ _ c.before.if-residuals-count.true)
+    rw (c.refused-then-residuals-count.ensures, ← (found e.before).header_of-found.ensures, pictured e.before, eq-eqb _ _ (enough e), ne_eqb _ _ c.before.if-residuals-count.true)
 
 sub-read-samples : tie.Need-slice_bounds-read_samples-count
 sub-read-samples c = omega (arith, in-file (found c.before.before))
@@ -105,19 +105,16 @@ part-read-samples-end c = search rules
 read-samples-requires : tie.Need-read_samples-requires
 read-samples-requires c κs = search rules
 
-answer-requires-4 : tie.Need-answer-requires-2
-answer-requires-4 c κs = search rules
-
 same_length : tie.Need-shape_of-residuals
 same_length c = search rules
 
 returns-4 : tie.Need-returns
 returns-4 c =
-    let e3 = c.before.before.before.before.before in
+    let e3 = c.before.before.before.before in
     let b = found e3.before.before in
     let start = b.header_of-found.result.start in
     let part = ap (λ (k : ℕ). take k (behind b)) (sym (length-drop start (file b))) ∙ take-length (behind b) in
-    rw (c.answer-2.ensures, ← b.header_of-found.ensures, pictured e3.before.before, eq-eqb _ _ (enough e3.before), eq-eqb _ _ e3.if-residuals-count.false, c.before.before.read_samples.ensures, part)
+    rw (← b.header_of-found.ensures, pictured e3.before.before, eq-eqb _ _ (enough e3.before), eq-eqb _ _ e3.if-residuals-count.false, c.before.read_samples.ensures, part)
 
 pub read_spec : {M : Type 1} → statement M
 read_spec =
@@ -125,21 +122,20 @@ read_spec =
     (tie.spec
     header-of-requires
     is-picture-requires
-    answer-requires
+    refused-requires
     returns
     cast-count
     cast-count-2
     mul-count
     sub-if2
     mul-if2
-    answer-requires-2
+    refused-requires-2
     returns-2
-    answer-requires-3
+    refused-requires-3
     returns-3
     sub-read-samples
     part-read-samples-start
     part-read-samples-end
     read-samples-requires
-    answer-requires-4
     same_length
     returns-4)

@@ -7,7 +7,7 @@ use Prim.Native.Nat.{◌*◌, ◌≤◌}
 use native.Mathlib.Nat.{lt_of_le_of_lt, mul-le-mul}
 use borrow.Author.Tests.{eq-eqb, ne_eqb, not-false, not-true}
 use lib.Dec.{lit<}
-use Rattle.algebra.specs.Refusals.{Refusal, number_of}
+use Rattle.algebra.specs.Refusals.{Test, number_of}
 use Rattle.meaning.specs.Shape.{is_kind, is_depth_to}
 use Rattle.meaning.specs.Answer.{test, input_test}
 use Rattle.transform_block.specs.TransformBlock.{is_block_side, is_pair, no_line, has_low, is_readable, is_corner, is_low, handed_tests}
@@ -15,22 +15,22 @@ use Rattle.transform_block.proofs.check.field_refusal.Statement.{statement}
 use Rattle.transform_block.proofs.check.field_refusal.Tie as tie
 
 -- the tests from 3 on, from 30 on, from 5 on, from 20 on, by what it asks for, and from 31 on
-abbrev low : tie.Start → List Refusal
+abbrev low : tie.Start → List Test
 low s = test (not (is_low s.args.block)) 31 ∷ input_test (s.args.block.width * s.args.block.height) s.args.numbers ∷ []
 
-abbrev read : tie.Start → Bool → Bool → List Refusal
+abbrev read : tie.Start → Bool → Bool → List Test
 read s kept corner = test (not (kept && corner)) 20 ∷ low s
 
-abbrev fifth : tie.Start → List Refusal
+abbrev fifth : tie.Start → List Test
 fifth s = test (not (is_depth_to 16 s.args.block.depth)) 5 ∷ read s (is_readable s.args.block) (is_corner s.args.block)
 
-abbrev lines : tie.Start → List Refusal
+abbrev lines : tie.Start → List Test
 lines s = test (no_line s.args.block.horizontal s.args.block.width || no_line s.args.block.vertical s.args.block.height) 30 ∷ fifth s
 
-abbrev third : tie.Start → List Refusal
+abbrev third : tie.Start → List Test
 third s = test (not (is_kind s.args.block.horizontal)) 3 ∷ test (not (is_kind s.args.block.vertical)) 4 ∷ lines s
 
-abbrev all : tie.Start → List Refusal
+abbrev all : tie.Start → List Test
 all s = handed_tests s.args.block s.args.numbers
 
 -- what the tests said

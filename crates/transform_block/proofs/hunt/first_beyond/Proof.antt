@@ -4,6 +4,8 @@ use mathlib.Core.Path.{◌≡◌, ap, ◌∙◌}
 use Prim.Native.Nat.{ℕ, ◌≤◌}
 use native.Mathlib.Nat.{mul_comm}
 use native.Mathlib.Omega.{arith}
+use lib.ListN.{length}
+use Rattle.algebra.specs.First.{found}
 use Rattle.transform_hunt.specs.Hunt.{first_read}
 use Rattle.transform_block.proofs.Taken.{columns-read, rows-read, far}
 use Rattle.transform_block.proofs.hunt.first_beyond.Statement.{statement}
@@ -39,7 +41,7 @@ returns c =
     let R = c.before in
     let s = R.before.before.before.before in
     let b = s.args.block in
-    c.first_read.ensures ∙ ap (λ (r : ℕ). first_read b.width b.columns b.rows r s.args.c.now) R.reach.ensures
+    c.first_read.ensures ∙ ap (λ (r : ℕ). found (length s.args.c.now) (first_read b.width b.columns b.rows r s.args.c.now)) R.reach.ensures
 
 pub first_beyond_spec : {M : Type 1} → statement M
 first_beyond_spec = tie.close (tie.spec cast-first-read cast-first-read-2 cast-first-read-3 reach-requires first-read-requires returns)

@@ -1,8 +1,0 @@
-use Rattle.std.proofs.Common.{length, ◌-◌, ◌≡◌}
-use Rattle.block_cases.proofs.numbers.widened.Given as goal
-
-abbrev pub invariant-loop-k : goal.invariant-loop-k
-invariant-loop-k l = 1024 ≡ length l.to
-
-abbrev pub decreases-loop-k : goal.decreases-loop-k
-decreases-loop-k l = 1024 - l.k

@@ -1,0 +1,7 @@
+use Rattle.std.proofs.Common.{◌*◌}
+use Rattle.algebra.specs.Lists.{at}
+use Rattle.kernel_steps.specs.Written.{WroteFrom}
+use Rattle.kernel_steps.proofs.take.Given as goal
+
+abbrev pub invariant-loop-i : goal.invariant-loop-i
+invariant-loop-i l = WroteFrom l.to l.i l.a l.initial.a (λ i. at l.x (i * l.step))

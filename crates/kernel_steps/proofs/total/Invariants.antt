@@ -1,0 +1,7 @@
+use Rattle.std.proofs.Common.{◌≡◌}
+use Rattle.algebra.specs.Sum.{sum}
+use Rattle.algebra.specs.Lists.{at}
+use Rattle.kernel_steps.proofs.total.Given as goal
+
+abbrev pub invariant-loop-k : goal.invariant-loop-k
+invariant-loop-k l = l.sum ≡ sum l.k (at l.s)
