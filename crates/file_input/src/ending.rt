@@ -1,5 +1,8 @@
 // How a program ended: a line on a descriptor of its own, of which `blocks` makes the status. What a program says on standard error has
 // names in it: here no name and no byte of a file can stand. Where the descriptor is closed, nothing is told.
+ghost use Rattle.std.specs.Prelude.{◌≡◌, Ok, Err, MatchResult};
+ghost use Rattle.file_input.specs.declared.ending.Failure.TheVariants.{Refused, Unwritten, Unsaid};
+
 use crate::descriptor;
 use std::rt::Files;
 use std::{fmt, io};
@@ -23,7 +26,9 @@ pub enum Failure {
 
 impl Failure {
     /// Of a refusal, by whether it could be said.
-    pub fn refused(said: io::Result<()>) -> Failure {
+    pub fn refused(said: io::Result<()>) -> Failure
+        ensures { MatchResult said (λ done. result ≡ Refused) (λ error. result ≡ Unsaid) }
+    {
         match said {
             Ok(()) => Failure::Refused,
             Err(_) => Failure::Unsaid,
@@ -44,7 +49,9 @@ impl fmt::Display for Failure {
 }
 
 /// Of an answer, by whether it could be written.
-pub fn written(answer: io::Result<()>) -> Result<(), Failure> {
+pub fn written(answer: io::Result<()>) -> Result<(), Failure>
+    ensures { MatchResult answer (λ done. result ≡ Ok done) (λ error. result ≡ Err Unwritten) }
+{
     answer.map_err(|_| Failure::Unwritten)
 }
 
