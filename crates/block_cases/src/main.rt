@@ -14,6 +14,7 @@ mod print;
 mod worst;
 
 use call::Direction;
+use file_input::left_out::LeftOut;
 use std::io;
 
 fn all(out: &impl Print) -> io::Result<()> {
@@ -27,7 +28,7 @@ fn all(out: &impl Print) -> io::Result<()> {
     by_value::all(out)
 }
 
-// What cannot be written is left out.
+// What cannot be written is left out, and what comes behind it is tried.
 fn main(rt: HostRuntime) {
-    let _ = all(&rt);
+    let _ = all(&LeftOut(&rt));
 }

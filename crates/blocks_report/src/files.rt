@@ -151,7 +151,7 @@ impl<R: Env + Files, E: Print> Reading<'_, R, E> {
     /// Takes away the line about progress.
     pub fn clear(&self) {
         if self.progress {
-            descriptor::write(self.rt, PROGRESS, "\r\x1b[K");
+            descriptor::write(self.rt, PROGRESS, b"\r\x1b[K");
         }
     }
 
@@ -159,8 +159,12 @@ impl<R: Env + Files, E: Print> Reading<'_, R, E> {
     fn tell(&self, done: usize, last: usize) {
         self.clear();
         let all = last.saturating_sub(1);
-        if self.progress && done < all {
-            descriptor::write(self.rt, PROGRESS, format_args!("{done} of {all} files"));
+        if !self.progress || done >= all {
+            return;
+        }
+        let (mut first, mut second) = (itoa::Buffer::new(), itoa::Buffer::new());
+        for words in [first.format(done), " of ", second.format(all), " files"] {
+            descriptor::write(self.rt, PROGRESS, words.as_bytes());
         }
     }
 }

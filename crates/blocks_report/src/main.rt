@@ -26,7 +26,16 @@ fn lent(rt: &impl Env, i: usize) -> bool {
     word(rt, i, &mut space).get(1) == Some(&b'd')
 }
 
-fn report(rt: &HostRuntime, last: usize) -> Result<(), Failure> {
+fn report(out: &impl Print, totals: [u64; 578], end: End) -> Result<(), Failure> {
+    written(print_whole(out, Report(totals)))?;
+    match end {
+        End::Whole => Ok(()),
+        End::Refused => Err(Failure::Refused),
+    }
+}
+
+// A file that could not be read is told before the line about progress goes, and all else after it.
+fn answer(rt: &HostRuntime, last: usize) {
     let mut run = Reading {
         rt,
         err: &rt.stderr(),
@@ -34,18 +43,20 @@ fn report(rt: &HostRuntime, last: usize) -> Result<(), Failure> {
         progress: wanted(rt, last),
         lent: lent(rt, last),
     };
-    let end = run.take_all(&mut rt.stdin(), last);
-    run.clear();
-    let end = end?;
-    written(print_whole(rt, Report(run.totals)))?;
-    match end {
-        End::Whole => Ok(()),
-        End::Refused => Err(Failure::Refused),
+    match run.take_all(&mut rt.stdin(), last) {
+        Ok(end) => {
+            run.clear();
+            tell(rt, report(rt, run.totals, end));
+        }
+        Err(failure) => {
+            tell(rt, Err(failure));
+            run.clear();
+        }
     }
 }
 
 fn main(rt: HostRuntime) {
     if let Some(last) = word_count(&rt).checked_sub(1) {
-        tell(&rt, report(&rt, last));
+        answer(&rt, last);
     }
 }

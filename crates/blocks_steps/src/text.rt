@@ -34,14 +34,23 @@ fn write_inputs<W: Write>(f: &mut Formatter<W>, inputs: usize) -> fmt::Result {
     Ok(())
 }
 
+// A number behind a text. With `{}` for its digits a list takes twice as long.
+fn write_after<W: Write>(f: &mut Formatter<W>, text: &str, number: i32) -> fmt::Result {
+    f.write_str(text)?;
+    f.write_str(itoa::Buffer::new().format(number))
+}
+
 // An addition, a subtraction, a negation or a multiplication by a number.
 fn write_step<W: Write>(f: &mut Formatter<W>, [o, t, a, d]: [i32; 4]) -> fmt::Result {
+    write_after(f, "c", t)?;
+    write_after(f, if o == 2 { " = -c" } else { " = c" }, a)?;
     match o {
-        0 => writeln!(f, "c{t} = c{a} + c{d}"),
-        1 => writeln!(f, "c{t} = c{a} - c{d}"),
-        2 => writeln!(f, "c{t} = -c{a}"),
-        _ => writeln!(f, "c{t} = c{a} * {d}"),
+        0 => write_after(f, " + c", d)?,
+        1 => write_after(f, " - c", d)?,
+        2 => (),
+        _ => write_after(f, " * ", d)?,
     }
+    f.write_str("\n")
 }
 
 fn write_steps<W: Write>(f: &mut Formatter<W>, steps: &[[i32; 4]]) -> fmt::Result {
@@ -58,16 +67,24 @@ fn write_outputs<W: Write>(f: &mut Formatter<W>, outs: &[i32]) -> fmt::Result {
     Ok(())
 }
 
-// How many steps have an operation.
-fn count(steps: &[[i32; 4]], o: i32) -> usize {
-    steps.iter().filter(|step| step[0] == o).count()
+// How many steps have each operation.
+fn counts(steps: &[[i32; 4]]) -> [usize; 4] {
+    let mut counts = [0usize; 4];
+    for [o, ..] in steps {
+        let k = match *o {
+            0 => 0,
+            1 => 1,
+            2 => 2,
+            3 => 3,
+            _ => continue,
+        };
+        counts[k] = counts[k].wrapping_add(1);
+    }
+    counts
 }
 
 fn write_counts<W: Write>(f: &mut Formatter<W>, steps: &[[i32; 4]]) -> fmt::Result {
-    let additions = count(steps, 0);
-    let subtractions = count(steps, 1);
-    let negations = count(steps, 2);
-    let multiplications = count(steps, 3);
+    let [additions, subtractions, negations, multiplications] = counts(steps);
     writeln!(
         f,
         "{additions} additions, {subtractions} subtractions, {negations} negations, {multiplications} multiplications"

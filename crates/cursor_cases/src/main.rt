@@ -6,6 +6,7 @@
 ghost use Rattle.std.specs.Prelude.{◌≡◌, length};
 
 use file_fields::cursor::Cursor;
+use file_input::left_out::LeftOut;
 use file_input::read_input;
 use meaning::Shape;
 use std::io;
@@ -57,11 +58,11 @@ fn print_advance(out: &impl Print, cursor: Cursor, file: &[u8]) -> io::Result<()
     out.write_all(cursor.body(file))
 }
 
-// What cannot be written is left out.
+// What cannot be written is left out, and what comes behind it is tried.
 fn main(rt: HostRuntime) {
     let mut input = input_buffer();
     let count = read_input(&mut rt.stdin(), &mut input).count;
     if let Some((cursor, file)) = split(&input[..count]) {
-        let _ = print_advance(&rt, cursor, file);
+        let _ = print_advance(&LeftOut(&rt), cursor, file);
     }
 }

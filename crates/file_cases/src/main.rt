@@ -2,6 +2,7 @@
 // harness/src/bin/file_cases.rs, from the independent model.
 #![tactic(auto)]
 
+use file_input::left_out::LeftOut;
 use file_input::{word, word_buffer, word_count};
 use std::env::Env;
 use std::fs::File;
@@ -48,7 +49,7 @@ fn case<R: Env + Files + Print>(rt: &R, err: &impl Print, i: usize) {
             let _ = file_program::answer(&mut file, rt);
         }
         Err(error) => {
-            let _ = say_unopened(err, path, error);
+            let _ = say_unopened(&LeftOut(err), path, error);
         }
     }
 }

@@ -1,7 +1,7 @@
 // A descriptor by its number. std reaches one by its path alone, which opens it anew: what it is open on is written at its end.
-use std::fmt::Display;
+use crate::laid;
 use std::fs::{File, OpenOptions};
-use std::io::{Cursor, ErrorKind, Write};
+use std::io::{ErrorKind, Write};
 use std::rt::Files;
 use std::{fs, io};
 
@@ -13,25 +13,22 @@ fn is_written(rt: &impl Files, path: &str) -> bool {
     }
 }
 
-fn append(rt: &impl Files, path: &str, text: impl Display + Drop) -> io::Result<()> {
+fn append(rt: &impl Files, path: &str, words: &[u8]) -> io::Result<()> {
     let mut to = OpenOptions::new().append(true).open(rt, path)?;
-    write!(to, "{text}")
+    to.write_all(words)
 }
 
 // Where it is closed, nothing is written.
-pub fn write(rt: &impl Files, path: &str, text: impl Display + Drop) {
+pub fn write(rt: &impl Files, path: &str, words: &[u8]) {
     if is_written(rt, path) {
-        let _ = append(rt, path, text);
+        let _ = append(rt, path, words);
     }
 }
 
 // For reading, from the start of what it is open on.
 pub fn open<R: Files>(rt: &R, number: usize) -> io::Result<R::File> {
     let mut room = [0u8; 40];
-    let mut text = Cursor::new(&mut room[..]);
-    write!(text, "/proc/self/fd/{number}")?;
-    let end = text.position() as usize;
-    match std::str::from_utf8(&room[..end.min(40)]) {
+    match std::str::from_utf8(laid(&mut room, format_args!("/proc/self/fd/{number}"))?) {
         Ok(path) => File::open(rt, path),
         Err(_) => Err(io::Error::from(ErrorKind::InvalidFilename)),
     }

@@ -3,7 +3,7 @@
 ghost use Rattle.std.specs.Prelude.{◌≡◌, Ok, Err, MatchResult};
 ghost use Rattle.file_input.specs.declared.ending.Failure.TheVariants.{Refused, Unwritten, Unsaid};
 
-use crate::descriptor;
+use crate::{descriptor, laid};
 use std::rt::Files;
 use std::{fmt, io};
 
@@ -55,10 +55,15 @@ pub fn written(answer: io::Result<()>) -> Result<(), Failure>
     answer.map_err(|_| Failure::Unwritten)
 }
 
-/// Status 0 where all went well.
+/// Status 0 where all went well. A line is told by one write: a reader who has a part of it has all.
 pub fn tell(rt: &impl Files, ended: Result<(), Failure>) {
+    let mut room = [0u8; 128];
     match ended {
-        Ok(()) => descriptor::write(rt, ENDING, "0\n"),
-        Err(failure) => descriptor::write(rt, ENDING, format_args!("{failure}\n")),
+        Ok(()) => descriptor::write(rt, ENDING, b"0\n"),
+        Err(failure) => {
+            if let Ok(line) = laid(&mut room, format_args!("{failure}\n")) {
+                descriptor::write(rt, ENDING, line);
+            }
+        }
     }
 }

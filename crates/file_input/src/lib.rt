@@ -5,14 +5,15 @@
 
 pub mod descriptor;
 pub mod ending;
+pub mod left_out;
 
 ghost use Rattle.std.specs.Prelude.{◌≡◌, ◌≤◌, length};
 ghost use Rattle.file_input.specs.Counts.{IsPrefixLen};
 
 use std::env::{Env, FillError};
 use std::fmt::Display;
-use std::io;
-use std::io::{Cursor, Read, Write};
+use std::io::{ErrorKind, Read};
+use std::{fmt, io};
 
 // One byte more than a file may have, so that a program can tell that there is one. A buffer's `ensures` gives its length alone.
 pub fn file_buffer() -> [u8; 65537]
@@ -80,13 +81,43 @@ pub fn read_input(input: &mut impl Read, file: &mut [u8]) -> Input
     }
 }
 
+// A room and how much of it a text takes so far. Text by text it is filled quicker than by a `Cursor`.
+#[derive(Drop)]
+struct Page<'a> {
+    room: &'a mut [u8],
+    end: usize,
+}
+
+impl fmt::Write for Page<'_> {
+    fn write_str(&mut self, text: &str) -> fmt::Result {
+        for byte in text.bytes() {
+            let Some(place) = self.room.get_mut(self.end) else {
+                return Err(fmt::Error);
+            };
+            *place = byte;
+            self.end += 1;
+        }
+        Ok(())
+    }
+}
+
+// A text at the start of `room`, so that one write takes it.
+fn laid<'a>(room: &'a mut [u8], text: impl Display + Drop) -> io::Result<&'a [u8]> {
+    let mut page = Page {
+        room: &mut room[..],
+        end: 0,
+    };
+    if fmt::Write::write(&mut page, text).is_err() {
+        return Err(io::Error::from(ErrorKind::WriteZero));
+    }
+    let end = page.end;
+    Ok(&room[..end.min(room.len())])
+}
+
 // Prints a text of at most 65,536 bytes by one write: a reader who leaves after a part of it is no failure then.
 pub fn print_whole(out: &impl Print, text: impl Display + Drop) -> io::Result<()> {
     let mut room = [0u8; 65536];
-    let mut at = Cursor::new(&mut room[..]);
-    write!(at, "{text}")?;
-    let end = at.position() as usize;
-    out.write_all(&room[..end.min(65536)])
+    out.write_all(laid(&mut room, text)?)
 }
 
 // "R number offset", for a refusal in the place of the answer; the caller ends the line.

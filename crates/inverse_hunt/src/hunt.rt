@@ -10,7 +10,12 @@ use meaning::{Shape, kept_columns, kept_rows};
 fn outside(n: i16, x: usize, y: usize, columns: usize, rows: usize) -> bool
     ensures { result ≡ outside_at columns rows x y n }
 {
-    n != 0 && (columns <= x || rows <= y)
+    // By turns: with `||` the compiler makes both other tests of each number, of which most are 0.
+    match n {
+        0 => false,
+        _ if columns <= x => true,
+        _ => rows <= y,
+    }
 }
 
 // The first column of row y that can be outside the kept part.
@@ -20,7 +25,8 @@ fn first_column(y: usize, columns: usize, rows: usize) -> usize
     if y < rows { columns } else { 0 }
 }
 
-// The place of the first coefficient outside the kept part, row by row.
+// The place of the first coefficient outside the kept part, row by row. As a part of a block's call it would take twice as long.
+#[inline(never)]
 fn searched(shape: Shape, c: &[i16]) -> Option<usize>
     requires { (length c.now ≡ shape.width * shape.height) × (shape.columns ≤ shape.width) }
     ensures { result ≡ found (length c.now) (first_outside (plan_of shape) c.now) }

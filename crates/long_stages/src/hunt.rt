@@ -23,15 +23,17 @@ pub fn first_outside(shape: Shape, c: &[i32]) -> Option<usize>
     let h = shape.height as usize;
     let columns = shape.columns as usize;
     let rows = shape.rows as usize;
-    for y in 0..h {
+    let mut place = None;
+    'hunt: for y in 0..h {
         for x in 0..w {
             let at = x + y * w;
             if outside(c[at], x, y, columns, rows) {
-                return Some(at);
+                place = Some(at);
+                break 'hunt;
             }
         }
     }
-    None
+    place
 }
 
 fn past_ends(n: i32, low: i32, high: i32) -> bool

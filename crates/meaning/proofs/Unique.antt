@@ -3,10 +3,14 @@ use mathlib.Core.Path.{◌≡◌}
 use mathlib.Core.Bool.{Bool}
 use mathlib.Core.List.{◌++◌}
 use Prim.Native.Nat.{ℕ, ◌*◌}
+use Rattle.std.specs.Prelude.{Result}
 use Rattle.algebra.specs.Refusals.{number_of}
 use Rattle.algebra.proofs.Unique.{one}
 use Rattle.meaning.specs.declared.Shape.{Shape}
 use Rattle.meaning.specs.declared.Answer.{Answer}
+use Rattle.meaning.specs.declared.refusal.Refusal.{Refusal}
+use Rattle.meaning.specs.Refusal.{number_in}
+use Rattle.meaning.proofs.RefusalNumbers.{result-one}
 use Rattle.meaning.specs.Shape.{is_size, is_kind, is_depth, is_long_depth, most_kept, is_kept, shape_of, keeping}
 use Rattle.meaning.specs.Answer.{shape_tests_by, shape_tests, length_tests, line_tests, refused, accepted}
 use Rattle.meaning.specs.Long.{long_shape_tests}
@@ -34,15 +38,27 @@ module _ (n : ℕ) {r s : Bool} where
 pub long-depth-one : (extended : Bool) (d : ℕ) {r s : Bool} → r ≡ is_long_depth extended d → s ≡ is_long_depth extended d → r ≡ s
 long-depth-one extended d = one
 
--- `Shape::refusal_by`, `Shape::refusal` and `Shape::long_refusal`
+-- `Shape::refusal_by`, `Shape::refusal` and `Shape::long_refusal`, here and below: the numbers, and then the results that have them
 pub refusal-by-one : (width height depth : Bool) (sh : Shape) {r s : ℕ} → r ≡ number_of (shape_tests_by width height depth sh) → s ≡ number_of (shape_tests_by width height depth sh) → r ≡ s
 refusal-by-one width height depth sh = one
+
+pub refusal-by-result-one : (width height depth : Bool) (sh : Shape) {r s : Result Unit Refusal} → number_in r ≡ number_of (shape_tests_by width height depth sh)
+    → number_in s ≡ number_of (shape_tests_by width height depth sh) → r ≡ s
+refusal-by-result-one width height depth sh {r} {s} p q = result-one r s (refusal-by-one width height depth sh p q)
 
 pub refusal-one : (sh : Shape) {r s : ℕ} → r ≡ number_of (shape_tests sh) → s ≡ number_of (shape_tests sh) → r ≡ s
 refusal-one sh = one
 
+pub refusal-result-one : (sh : Shape) {r s : Result Unit Refusal} → number_in r ≡ number_of (shape_tests sh)
+    → number_in s ≡ number_of (shape_tests sh) → r ≡ s
+refusal-result-one sh {r} {s} p q = result-one r s (refusal-one sh p q)
+
 pub long-refusal-one : (extended : Bool) (sh : Shape) {r s : ℕ} → r ≡ number_of (long_shape_tests extended sh) → s ≡ number_of (long_shape_tests extended sh) → r ≡ s
 long-refusal-one extended sh = one
+
+pub long-refusal-result-one : (extended : Bool) (sh : Shape) {r s : Result Unit Refusal} → number_in r ≡ number_of (long_shape_tests extended sh)
+    → number_in s ≡ number_of (long_shape_tests extended sh) → r ≡ s
+long-refusal-result-one extended sh {r} {s} p q = result-one r s (long-refusal-one extended sh p q)
 
 -- `most_kept`
 pub most-one : (kind n : ℕ) {r s : ℕ} → r ≡ most_kept kind n → s ≡ most_kept kind n → r ≡ s
@@ -59,14 +75,26 @@ rows-one sh = one
 pub length-refusal-one : (n input output : ℕ) {r s : ℕ} → r ≡ number_of (length_tests n input output) → s ≡ number_of (length_tests n input output) → r ≡ s
 length-refusal-one n input output = one
 
+pub length-refusal-result-one : (n input output : ℕ) {r s : Result Unit Refusal} → number_in r ≡ number_of (length_tests n input output)
+    → number_in s ≡ number_of (length_tests n input output) → r ≡ s
+length-refusal-result-one n input output {r} {s} p q = result-one r s (length-refusal-one n input output p q)
+
 -- `block_refusal`
 pub block-refusal-one : (extended : Bool) (sh : Shape) (input output : ℕ) {r s : ℕ} → r ≡ number_of (long_shape_tests extended sh ++ length_tests (sh.width * sh.height) input output)
     → s ≡ number_of (long_shape_tests extended sh ++ length_tests (sh.width * sh.height) input output) → r ≡ s
 block-refusal-one extended sh input output = one
 
+pub block-refusal-result-one : (extended : Bool) (sh : Shape) (input output : ℕ) {r s : Result Unit Refusal} → number_in r ≡ number_of (long_shape_tests extended sh ++ length_tests (sh.width * sh.height) input output)
+    → number_in s ≡ number_of (long_shape_tests extended sh ++ length_tests (sh.width * sh.height) input output) → r ≡ s
+block-refusal-result-one extended sh input output {r} {s} p q = result-one r s (block-refusal-one extended sh input output p q)
+
 -- `line_refusal`
 pub line-refusal-one : (n kind input output : ℕ) {r s : ℕ} → r ≡ number_of (line_tests n kind input output) → s ≡ number_of (line_tests n kind input output) → r ≡ s
 line-refusal-one n kind input output = one
+
+pub line-refusal-result-one : (n kind input output : ℕ) {r s : Result Unit Refusal} → number_in r ≡ number_of (line_tests n kind input output)
+    → number_in s ≡ number_of (line_tests n kind input output) → r ≡ s
+line-refusal-result-one n kind input output {r} {s} p q = result-one r s (line-refusal-one n kind input output p q)
 
 -- `refused`, `accepted`
 pub refused-one : (number place : ℕ) {r s : Answer} → r ≡ refused number place → s ≡ refused number place → r ≡ s

@@ -8,6 +8,7 @@ mod numbers;
 
 ghost use Rattle.std.specs.Prelude.{◌≤◌, ◌<◌, length};
 
+use file_input::left_out::LeftOut;
 use numbers::agreeing;
 use std::io;
 
@@ -226,7 +227,7 @@ fn all(out: &impl Print) -> io::Result<()> {
     norms::table_ii(out)
 }
 
-// What cannot be written is left out.
+// What cannot be written is left out, and what comes behind it is tried.
 fn main(rt: HostRuntime) {
-    let _ = all(&rt);
+    let _ = all(&LeftOut(&rt));
 }

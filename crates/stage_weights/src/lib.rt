@@ -15,7 +15,9 @@ pub fn front(t: &[i16], most: usize, u: &mut [i16])
     requires { most ≡ min (length t.now) (length u.old) }
     ensures { Front (length u.old) u.new t.now }
 {
-    u[..most].copy_from_slice(&t[..most]);
+    for k in 0..most {
+        u[k] = t[k];
+    }
 }
 
 // The weights of up to 8 points, for which every room is large enough.
