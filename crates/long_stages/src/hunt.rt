@@ -11,7 +11,12 @@ use meaning::Shape;
 fn outside(n: i32, x: usize, y: usize, columns: usize, rows: usize) -> bool
     ensures { result ≡ outside_at columns rows x y n }
 {
-    n != 0 && (columns <= x || rows <= y)
+    // By turns, as in `inverse_hunt`.
+    match n {
+        0 => false,
+        _ if columns <= x => true,
+        _ => rows <= y,
+    }
 }
 
 // The place of the first coefficient outside the kept part.
